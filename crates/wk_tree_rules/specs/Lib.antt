@@ -1,0 +1,4 @@
+pub mod Atoms
+pub mod Computing
+pub mod Selection
+pub mod Tags
