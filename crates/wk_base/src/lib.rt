@@ -6,6 +6,8 @@
 #![tactic(auto)]
 
 mod outside;
+mod writing;
 
 pub use outside::{Clock, Failed, Sink, Source};
 pub use wk_memory::Memory;
+pub use writing::write_all;
