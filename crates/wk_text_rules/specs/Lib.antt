@@ -1,4 +1,5 @@
 pub mod Blank
+pub mod Computing
 pub mod Decimal
 pub mod Lines
 pub mod Marked

@@ -2,8 +2,8 @@
 -- the profile's own choices are marked own). Texts are lists of characters in between, and bytes at both ends.
 use Rattle.std.specs.Prelude.{ℕ, ◌-◌, ℤ, pos, negsuc, Bool, true, false, ◌&&◌, ◌||◌, ◌==◌, not, nat_lt, nat_le, List, [], ◌∷◌, ◌++◌, length, take, drop, map, filter, find, chars, encode_utf8_all, bytes_eq, codes, Option, Some, None, option_map, option_and_then, if◌then◌else◌}
 use Rattle.std.specs.Cmp.Lexicographic.{slice_cmp}
-use Rattle.std.specs.Char.{is_ascii_alphanumeric, is_ascii_hexdigit, to_ascii_lowercase, to_ascii_uppercase}
-use Rattle.std.specs.List.{after_first, before_first, join_with_byte, list_any, prefix_len, slice_index, slice_split, starts_with, suffix_len}
+use Rattle.std.specs.Char.{is_ascii, is_ascii_alphanumeric, is_ascii_hexdigit, to_ascii_lowercase, to_ascii_uppercase}
+use Rattle.std.specs.List.{after_first, before_first, join_with_byte, list_all, list_any, prefix_len, slice_index, slice_split, starts_with, suffix_len}
 use Rattle.std.specs.Ordering.{int_cmp, int_eq, nat_cmp, ordering_then}
 use Rattle.std.specs.declared.cmp.Ordering.{Ordering}
 use Rattle.unicode_normalization.specs.Forms.{nfc}
@@ -63,9 +63,14 @@ is_underscore c = c == 95
 abbrev pub is_direction_mark : ℕ → Bool
 is_direction_mark c = (nat_le 0x200E c && nat_le c 0x200F) || (nat_le 0x202A c && nat_le c 0x202E)
 
+-- Normalization Form C, by which texts of ASCII stay as they are (The Unicode Standard, D120). The test computes
+-- in a moment what the form takes long for.
+unfoldable pub to_nfc : List ℕ → List ℕ
+to_nfc cs = if list_all is_ascii cs then cs else nfc cs
+
 -- First: the fragment, from the first `#` on, is dropped, and direction marks are; the rest comes to NFC.
 abbrev pub without_fragment : List ℕ → List ℕ
-without_fragment cs = nfc (filter (λ c. not (is_direction_mark c)) (before_first (λ c. c == 35) cs))
+without_fragment cs = to_nfc (filter (λ c. not (is_direction_mark c)) (before_first (λ c. c == 35) cs))
 
 -- Second: each run of spaces and underscores is one underscore, and none at the ends (own: no other character
 -- counts as a space).
@@ -145,7 +150,7 @@ is_legal_key cs =
 unfoldable pub normal : List ℕ → ℤ → Option PageTitle
 normal text default_ns =
     let placed = after_namespace (after_leading_colon (default_ns, squeezed (without_fragment (chars text)))) in
-    let key = nfc (capitalized placed.1) in
+    let key = to_nfc (capitalized placed.1) in
     if is_legal_key key then Some (record { ns = placed.0; key = encode_utf8_all key }) else None
 
 -- ---- titles

@@ -1,0 +1,13 @@
+//! The outside as the rest of the project sees it: where bytes come from, where they go, and what time it is.
+//!
+//! Each trait tells by its ghost members what it can: `Some` of the bytes or moments, or `None` where it doesn't tell.
+//! Each trait whose calls can fail has a count of faults, which never falls and stops at the end of `u64`. A call
+//! answers [`Failed`] only where that count rose in this very call, or stands at its end.
+#![tactic(auto)]
+
+mod outside;
+mod writing;
+
+pub use outside::{Clock, Failed, Sink, Source};
+pub use wk_memory::Memory;
+pub use writing::write_all;

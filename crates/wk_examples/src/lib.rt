@@ -1,0 +1,5 @@
+//! Worked examples of the rules, as theorems: each is computed from its definition.
+//! Nothing stands on this crate, and nothing here runs.
+#![tactic(auto)]
+
+pub mod titles;
