@@ -40,6 +40,10 @@ abbrev pub ◌and_then◌ : {X : Type 0} → Shape X → Shape X → Shape X
 abbrev pub ◌or_else◌ : {X : Type 0} → Shape X → Shape X → Shape X
 ◌or_else◌ first second text = let otherwise = second text in option_or (first text) otherwise
 
+-- the shape where it fits, and else nothing
+abbrev pub perhaps : {X : Type 0} → Shape X → Shape X
+perhaps shape text = option_or (shape text) (Some text)
+
 -- all that is left
 abbrev pub to_the_end : {X : Type 0} → Shape X
 to_the_end text = Some []
