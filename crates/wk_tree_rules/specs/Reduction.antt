@@ -71,18 +71,17 @@ first_marks n run = record run { count = n }
 abbrev pub last_marks : ℕ → Run → Run
 last_marks n run = record run { start = run.start + (run.count - n); count = n }
 
--- What is left of a run stays a run where it has two or more marks. A single mark is a plain byte.
+-- What is left of a run, by how many marks it has: nothing; a single mark, which is a plain byte; or the run.
+abbrev pub left_over : ℕ → Item → Piece → List Piece
+left_over zero byte run = []
+left_over (suc zero) byte run = entry (item byte) ∷ []
+left_over (suc (suc n)) byte run = run ∷ []
+
 abbrev pub left_opening : Run → List Piece
-left_opening run =
-    if run.count == 0 then []
-    else if run.count == 1 then entry (item (plain_opening run)) ∷ []
-    else opening run ∷ []
+left_opening run = left_over run.count (plain_opening run) (opening run)
 
 abbrev pub left_closing : Run → List Piece
-left_closing run =
-    if run.count == 0 then []
-    else if run.count == 1 then entry (item (plain_closing run)) ∷ []
-    else closing run ∷ []
+left_closing run = left_over run.count (plain_closing run) (closing run)
 
 -- ---- the leftmost closing run, and the nearest opening run to its left
 

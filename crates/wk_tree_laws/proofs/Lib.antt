@@ -1,0 +1,5 @@
+pub mod AtomLemmas
+pub mod PieceLemmas
+pub mod ShapeLemmas
+pub mod SpanLemmas
+pub mod StepLemmas
