@@ -1,12 +1,12 @@
 -- What the source of an atom is, by its kind.
-use Rattle.std.proofs.Common.{◌≡◌, ℕ, zero, suc, ◌+◌, ◌-◌, ◌<◌, ◌≤◌, ◌==◌, ◌⊎◌, Bool, true, false, List, [], ◌∷◌, ◌++◌, length, take, drop, replicate, codes, Option, Some, None, refl, ap, sym, subst, ◌∙◌, ⊎_elim, arith, take-append-drop, zero-lt-suc}
+use Rattle.std.proofs.Common.{◌≡◌, ℕ, suc, ◌-◌, ◌≤◌, ◌==◌, List, [], ◌∷◌, ◌++◌, length, take, drop, replicate, codes, Option, Some, None, refl, ap, sym, subst, ◌∙◌, ⊎_elim, arith, take-append-drop}
 use Rattle.std.proofs.lemmas.List.{length-replicate}
 use Rattle.std.specs.List.{prefix_len, AllByRecursion}
-use Rattle.wk_text_rules.specs.Shapes.{Shape, Span, exactly, run_of, ◌and_then◌, ◌or_else◌, first_that_fits, spans}
+use Rattle.wk_text_rules.specs.Shapes.{Shape, exactly, run_of, ◌or_else◌, first_that_fits}
 use Rattle.wk_tree_laws.proofs.ShapeLemmas.{exactly-fits, and_then-fits, or_else-fits, take-prefix_len, part-is}
 use Rattle.wk_tree_laws.proofs.SpanLemmas.{spans-all}
 use Rattle.wk_tree_rules.specs.Atoms.{Atom, atoms, atom_at, atom_shapes, run_of_marks}
-use Rattle.wk_tree_rules.specs.Reduction.{Marks, braces, brackets, marks_of, opening_mark, closing_mark}
+use Rattle.wk_tree_rules.specs.Reduction.{Marks, marks_of, opening_mark, closing_mark}
 use Rattle.wk_tree_rules.specs.declared.AtomKind.{AtomKind}
 use Rattle.wk_tree_rules.specs.declared.AtomKind.TheVariants.{LineComment, Comment, Sealed, Ignored, Tag, Open, Close, Bar, Equals, Byte}
 use Rattle.wk_tree_rules.specs.declared.Mode.{Mode}
@@ -55,7 +55,7 @@ mark-covered mark b bs rest e =
     let front : b ∷ bs ≡ mark ∷ mark ∷ mid = exactly-fits (mark ∷ mark ∷ []) (b ∷ bs) mid fits.1 in
     let last : drop k mid ≡ rest = cc (fits.2) in
     let parted : mid ≡ replicate k mark ++ rest =
-        sym (take-append-drop k mid) ∙ ap (λ t. t ++ drop k mid) (take-prefix_len mark mid) ∙ ap (λ t. replicate k mark ++ t) last in
+    sym (take-append-drop k mid) ∙ ap (λ t. t ++ drop k mid) (take-prefix_len mark mid) ∙ ap (λ t. replicate k mark ++ t) last in
     (k, part-is b bs (mark ∷ mark ∷ replicate k mark) rest (front ∙ ap (λ t. mark ∷ mark ∷ t) parted) (omega arith))
 
 run-long : (mark k : ℕ) → 2 ≤ length (mark ∷ mark ∷ replicate k mark)

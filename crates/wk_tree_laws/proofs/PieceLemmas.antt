@@ -1,10 +1,8 @@
 -- Pieces: what text they stand for, what is always so of them, and their leftmost closing and last opening run.
-use Rattle.std.proofs.Common.{◌≡◌, ℕ, zero, suc, ◌+◌, ◌-◌, ◌<◌, ◌≤◌, ◌==◌, min, max, Bool, true, false, if◌then◌else◌, List, [], ◌∷◌, ◌++◌, length, map, replicate, flat_map, filter_map, sum_by, codes, Option, Some, None, option_map, refl, ap, ap₂, sym, subst, ◌∙◌, arith, append_assoc, append-nil, zero-lt-suc}
-use Rattle.std.proofs.lemmas.Grind.{flat_map-append}
-use Rattle.std.proofs.lemmas.List.Sums.{sum_by-append}
+use Rattle.std.proofs.Common.{◌≡◌, ℕ, ◌≤◌, List, [], ◌∷◌, ◌++◌, map, replicate, flat_map, codes, Option, Some, None, option_map, refl, ap, sym, subst, arith}
 use Rattle.std.specs.List.{AllByRecursion}
-use Rattle.wk_tree_rules.specs.Reduction.{Marks, braces, brackets, Run, Piece, entry, opening, closing, opening_mark, closing_mark, AtClosing, behind_piece, leftmost_closing, entry_of, entries_of, AtOpening, last_opening_or, last_opening, most_height, closing_marks_of, closing_marks}
-use Rattle.wk_tree_rules.specs.Trees.{Item, plain, Entry, item, bar, equals, Row, row, entries, source_of, row_source, height, row_height, plain_entry}
+use Rattle.wk_tree_rules.specs.Reduction.{Run, Piece, entry, opening, closing, opening_mark, closing_mark, behind_piece, leftmost_closing, entries_of, AtOpening, last_opening_or, last_opening, most_height, closing_marks}
+use Rattle.wk_tree_rules.specs.Trees.{Entry, item, bar, equals, row, source_of, row_source, height, row_height, plain_entry}
 
 -- ---- lists of which each element is so
 

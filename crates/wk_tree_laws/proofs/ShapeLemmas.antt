@@ -1,11 +1,10 @@
 -- What a shape that fits says of the text.
-use Rattle.std.proofs.Common.{◌≡◌, ℕ, zero, suc, ◌+◌, ◌-◌, ◌<◌, ◌≤◌, ◌==◌, ◌⊎◌, Bool, true, false, if◌then◌else◌, List, [], ◌∷◌, ◌++◌, length, take, drop, replicate, Option, Some, None, option_and_then, refl, ap, sym, subst, ◌∙◌, inl, inr, arith, take-append-drop, eqb-true, one-add, ap₂, length-append}
-use Rattle.std.proofs.lemmas.List.{length-replicate}
+use Rattle.std.proofs.Common.{◌≡◌, ℕ, suc, ◌+◌, ◌-◌, ◌<◌, ◌==◌, ◌⊎◌, Bool, true, false, if◌then◌else◌, List, [], ◌∷◌, ◌++◌, length, take, drop, replicate, Some, None, option_and_then, refl, ap, sym, ◌∙◌, inl, inr, arith, take-append-drop, eqb-true, one-add, ap₂, length-append}
 use Rattle.std.proofs.Math.Seq.{take-append_seam}
 use Rattle.std.specs.Cmp.Lexicographic.{same_text}
 use Rattle.std.specs.List.{prefix_len, starts_with}
 use Rattle.std.specs.Option.{option_or}
-use Rattle.wk_text_rules.specs.Shapes.{Shape, exactly, run_of, ◌and_then◌, ◌or_else◌, first_that_fits}
+use Rattle.wk_text_rules.specs.Shapes.{Shape, exactly, ◌and_then◌, ◌or_else◌}
 
 -- a choice of a value or nothing that gave a value
 pub chosen : {X : Type 0} (b : Bool) (x rest : X) → (if b then Some x else None) ≡ Some rest → (b ≡ true) × (x ≡ rest)

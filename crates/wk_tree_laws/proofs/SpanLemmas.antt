@@ -1,5 +1,5 @@
 -- What holds of the spans that a text is cut into, whatever begins them.
-use Rattle.std.proofs.Common.{◌≡◌, ℕ, zero, suc, ◌+◌, ◌-◌, ◌<◌, ◌≤◌, List, [], ◌∷◌, ◌++◌, length, take, drop, flat_map, Option, Some, None, refl, ap, sym, ◌∙◌, arith, take-append-drop, length-take}
+use Rattle.std.proofs.Common.{◌≡◌, ℕ, zero, suc, ◌-◌, List, [], ◌∷◌, ◌++◌, length, take, drop, flat_map, Option, Some, None, refl, ap, ◌∙◌, take-append-drop}
 use Rattle.std.specs.List.{AllByRecursion}
 use Rattle.wk_text_rules.specs.Shapes.{Span, spans_from, spans}
 

@@ -6,5 +6,4 @@ ghost use Rattle.wk_tree_rules.specs.declared.Mode.{Mode};
 /// The atoms of a text cover it: their sources joined are the text.
 pub fn atoms_cover_the_text()
     ensures { (mode : Mode) (text : List ℕ) → flat_map (λ (a : Atom). a.source) (atoms mode text) ≡ text }
-{
-}
+{}

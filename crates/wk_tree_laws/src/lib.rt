@@ -2,3 +2,5 @@
 #![tactic(auto)]
 
 pub mod atoms;
+pub mod marks;
+pub mod trees;

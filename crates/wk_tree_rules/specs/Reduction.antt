@@ -1,10 +1,11 @@
 -- How marks are matched into nodes, as a rewriting of the whole list of atoms (MediaWiki's Preprocessor ABNF; all
 -- of how braces and brackets that cross are matched is own).
 use Rattle.std.specs.Prelude.{ℕ, zero, suc, ◌+◌, ◌-◌, ◌==◌, min, replicate, List, [], ◌∷◌, ◌++◌, length, map, filter_map, sum_by, Option, Some, None, option_map, if◌then◌else◌}
-use Rattle.wk_tree_rules.specs.Atoms.{Atom}
+use Rattle.wk_tree_rules.specs.Atoms.{Atom, atoms}
 use Rattle.wk_tree_rules.specs.Trees.{Item, plain, sealed, nothing, node, NodeKind, template, argument, Entry, item, bar, equals, row, row_height, plain_entry}
 use Rattle.wk_tree_rules.specs.declared.AtomKind.{AtomKind}
 use Rattle.wk_tree_rules.specs.declared.AtomKind.TheVariants.{LineComment, Comment, Sealed, Ignored, Tag, Open, Close, Bar, Equals, Byte}
+use Rattle.wk_tree_rules.specs.declared.Mode.{Mode}
 
 -- ---- what is rewritten
 
@@ -46,6 +47,10 @@ piece_by Byte atom = entry (item (plain atom.start atom.source))
 
 abbrev pub piece_of : Atom → Piece
 piece_of atom = piece_by atom.kind atom
+
+-- the pieces of a text before any rewriting
+abbrev pub pieces_of : Mode → List ℕ → List Piece
+pieces_of mode text = map piece_of (atoms mode text)
 
 -- ---- runs
 
