@@ -1,3 +1,5 @@
+pub mod Calls
 pub mod Clock
 pub mod Faults
+pub mod Forms
 pub mod Writing
