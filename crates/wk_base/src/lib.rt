@@ -5,6 +5,7 @@
 //! answers [`Failed`] only where that count rose in this very call, or stands at its end.
 #![tactic(auto)]
 
+mod adapters;
 mod calls;
 mod list_clock;
 mod mem_sink;
@@ -12,6 +13,7 @@ mod mem_source;
 mod outside;
 mod writing;
 
+pub use adapters::{ReadSource, SystemClock, WriteSink};
 pub use calls::Calls;
 pub use list_clock::ListClock;
 pub use mem_sink::MemSink;

@@ -96,20 +96,9 @@ impl Sink for MemSink {
             return Err(Failed);
         }
         let n = piece.len().min(room);
-        append_within(&mut self.taken, &piece[..n]);
+        // There is room for them.
+        self.taken.extend_from_slice(&piece[..n]).unwrap();
         self.calls.succeed();
         Ok(n)
-    }
-}
-
-// Appends bytes for which the vector has room.
-fn append_within(taken: &mut Vec<u8>, bytes: &[u8])
-    requires { vec_len taken.old + length bytes.now ≤ vec_capacity taken.old }
-    ensures items { taken.new.items ≡ taken.old.items ++ bytes.now }
-    ensures room { vec_capacity taken.old ≤ vec_capacity taken.new }
-{
-    match taken.extend_from_slice(bytes) {
-        Ok(()) => {}
-        Err(_) => unreachable!(),
     }
 }
