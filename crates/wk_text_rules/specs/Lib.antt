@@ -1,0 +1,4 @@
+pub mod Blank
+pub mod Decimal
+pub mod Lines
+pub mod Titles
