@@ -21,3 +21,6 @@ pub use mem_source::MemSource;
 pub use outside::{Clock, Failed, Sink, Source};
 pub use wk_memory::Memory;
 pub use writing::write_all;
+
+#[cfg(test)]
+mod tests;
