@@ -1,6 +1,8 @@
 pub mod AtomLemmas
+pub mod ListLemmas
 pub mod OnePassLemmas
 pub mod PieceLemmas
+pub mod PlaceLemmas
 pub mod ReductionLemmas
 pub mod ShapeLemmas
 pub mod SpanLemmas

@@ -167,7 +167,7 @@ module _ (left : List Piece) (run : Run) (parts : List Entry) (closer : Run) (no
 
 -- ---- nodes
 
-width-by : (c : ℕ) → 2 ≤ c → c ≤ 3 → width (kind_by_width c) ≡ c
+pub width-by : (c : ℕ) → 2 ≤ c → c ≤ 3 → width (kind_by_width c) ≡ c
 width-by zero low high = omega arith
 width-by (suc zero) low high = omega arith
 width-by (suc (suc zero)) low high = refl

@@ -36,7 +36,7 @@ pieces_by-sound (atom ∷ found) all = (piece_by-sound atom.kind atom all.0, pie
 pub pieces_of-sound : (mode : Mode) (text : List ℕ) → AreSound (pieces_of mode text)
 pieces_of-sound mode text = pieces_by-sound (atoms mode text) (atoms-sources mode text)
 
-piece_by-source : (kind : AtomKind) (atom : Atom) → IsSourceOf kind atom.source → piece_source (piece_by kind atom) ≡ atom.source
+pub piece_by-source : (kind : AtomKind) (atom : Atom) → IsSourceOf kind atom.source → piece_source (piece_by kind atom) ≡ atom.source
 unfolding source_of
 piece_by-source LineComment atom h = refl
 piece_by-source Comment atom h = refl
