@@ -30,11 +30,11 @@ IsSourceOf Equals source = source ≡ codes "="
 IsSourceOf Byte source = Unit {0}
 
 -- each shape that fits gives P with its value
-abbrev EachFit : {K X : Type 0} → (K × List X → Type 0) → List (K × Shape X) → List X → Type 0
+abbrev pub EachFit : {K X : Type 0} → (K × List X → Type 0) → List (K × Shape X) → List X → Type 0
 EachFit P [] text = Unit {0}
 EachFit {K} {X} P (alternative ∷ alternatives) text = ((rest : List X) → alternative.1 text ≡ Some rest → P (alternative.0, rest)) × EachFit P alternatives text
 
-first_that_fits-each : {K X : Type 0} (P : K × List X → Type 0) (alternatives : List (K × Shape X)) (otherwise : K × List X) (text : List X) → P otherwise → EachFit P alternatives text → P (first_that_fits alternatives otherwise text)
+pub first_that_fits-each : {K X : Type 0} (P : K × List X → Type 0) (alternatives : List (K × Shape X)) (otherwise : K × List X) (text : List X) → P otherwise → EachFit P alternatives text → P (first_that_fits alternatives otherwise text)
 first_that_fits-each P [] otherwise text p each = p
 first_that_fits-each P (alternative ∷ alternatives) otherwise text p each =
     let later = first_that_fits alternatives otherwise text in
@@ -44,7 +44,7 @@ first_that_fits-each P (alternative ∷ alternatives) otherwise text p each =
     ]) refl
 
 -- what an atom covers at a place where a shape fits with `part`
-abbrev covered : ℕ → List ℕ → List ℕ → List ℕ
+abbrev pub covered : ℕ → List ℕ → List ℕ → List ℕ
 covered b bs rest = take (suc (length bs - length rest)) (b ∷ bs)
 
 mark-covered : (mark : ℕ) (b : ℕ) (bs rest : List ℕ) → run_of_marks mark (b ∷ bs) ≡ Some rest → (k : ℕ) × (covered b bs rest ≡ mark ∷ mark ∷ replicate k mark)

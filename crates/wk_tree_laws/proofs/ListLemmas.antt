@@ -135,7 +135,7 @@ entries-at at (item_then i rest) h = (h.0, entries-at (at + length (source_of i)
 entries-at at (bar_then start rest) h = (h.0, entries-at (at + 1) rest h.1)
 entries-at at (equals_then start rest) h = (h.0, entries-at (at + 1) rest h.1)
 
-entries-text : (content : Row) → row_source content ≡ entries_source (entries content)
+pub entries-text : (content : Row) → row_source content ≡ entries_source (entries content)
 unfolding row_source source_of
 entries-text empty_row = refl
 entries-text (item_then i rest) = ap (λ t. source_of i ++ t) (entries-text rest)
@@ -152,7 +152,7 @@ plain_entries-at at [] h = tt
 plain_entries-at at (e ∷ parts) h =
     (plain_entry-at at e h.0, subst (λ t. AreItemsAt (at + length t) (map plain_entry parts)) (sym (plain_entry-source e)) (plain_entries-at (at + length (entry_source e)) parts h.1))
 
-plain_entries-source : (parts : List Entry) → items_source (map plain_entry parts) ≡ entries_source parts
+pub plain_entries-source : (parts : List Entry) → items_source (map plain_entry parts) ≡ entries_source parts
 plain_entries-source [] = refl
 plain_entries-source (e ∷ parts) = ap₂ (λ x y. x ++ y) (plain_entry-source e) (plain_entries-source parts)
 

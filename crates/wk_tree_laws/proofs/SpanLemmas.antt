@@ -60,3 +60,17 @@ module _ {K X : Type 0} (begins : Option X → List X → K × List X) where
 
     pub spans-all : (text : List X) → AllByRecursion (λ (s : Span K X). P s.kind s.source) (spans begins text)
     spans-all text = spans_from-all 0 None 0 text
+
+  -- what holds of each span that begins at a place of which S holds, S being kept by each element that is passed,
+  -- holds of all spans of a text of which S holds
+  module _ (S : List X → Type 0) (passed : (x : X) (xs : List X) → S (x ∷ xs) → S xs) (P : K → List X → Type 0) (holds : (before : Option X) (x : X) (xs : List X) → S (x ∷ xs) → P (begins before (x ∷ xs)).0 (take (suc (length xs - length (begins before (x ∷ xs)).1)) (x ∷ xs))) where
+    spans_from-all-of : (start : ℕ) (before : Option X) (skip : ℕ) (xs : List X) → S xs → AllByRecursion (λ (s : Span K X). P s.kind s.source) (spans_from begins start before skip xs)
+    unfolding spans_from
+    spans_from-all-of start before zero [] s = tt
+    spans_from-all-of start before (suc skip) [] s = tt
+    spans_from-all-of start before zero (x ∷ xs) s =
+        (holds before x xs s, spans_from-all-of (suc start) (Some x) (length xs - length (begins before (x ∷ xs)).1) xs (passed x xs s))
+    spans_from-all-of start before (suc skip) (x ∷ xs) s = spans_from-all-of (suc start) (Some x) skip xs (passed x xs s)
+
+    pub spans-all-of : (text : List X) → S text → AllByRecursion (λ (s : Span K X). P s.kind s.source) (spans begins text)
+    spans-all-of text s = spans_from-all-of 0 None 0 text s

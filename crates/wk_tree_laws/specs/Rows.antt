@@ -61,3 +61,15 @@ IsValueIn text part = IsPartAt text part.start (items_source part.value)
 pub record IsNodeIn (text : List ℕ) (n : Node) : Type 0 where
   pub whole : IsPartAt text n.start (opening_braces n.kind ++ (row_source n.content ++ closing_braces n.kind))
   pub values : AllByRecursion (IsValueIn text) (further_parts n.content)
+
+-- ---- plain text as long as it can be
+
+-- an item and the first of those behind it aren't both plain text
+abbrev pub AreNotBothPlain : Item → List Item → Type 0
+AreNotBothPlain (Item.plain start source) (Item.plain next more ∷ items) = ⊥
+AreNotBothPlain i items = Unit {0}
+
+-- no two items one behind the other are both plain text
+abbrev pub IsMerged : List Item → Type 0
+IsMerged [] = Unit {0}
+IsMerged (i ∷ items) = AreNotBothPlain i items × IsMerged items

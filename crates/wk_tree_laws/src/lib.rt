@@ -3,4 +3,5 @@
 
 pub mod atoms;
 pub mod marks;
+pub mod selection;
 pub mod trees;
