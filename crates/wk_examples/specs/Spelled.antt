@@ -1,5 +1,5 @@
 -- How the examples write atoms and trees: in short texts, which only examples use.
-use Rattle.std.specs.Prelude.{ℕ, zero, suc, List, [], ◌++◌, map, flat_map, codes, Some, None}
+use Rattle.std.specs.Prelude.{ℕ, zero, suc, List, [], ◌++◌, replicate, map, flat_map, codes, Some, None}
 use Rattle.wk_tree_rules.specs.Atoms.{Atom, atoms}
 use Rattle.wk_tree_rules.specs.Tree.{Part, Node, title_part, further_parts, nodes, node_length, tree}
 use Rattle.wk_tree_rules.specs.Trees.{Item, NodeKind, template, argument}
@@ -59,3 +59,9 @@ spelled_tree mode text = spelled_items 9 (tree mode text)
 -- the start and the length of each node of a text
 abbrev pub node_spans : Mode → List ℕ → List (ℕ × ℕ)
 node_spans mode text = map (λ (n : Node). (n.start, node_length n)) (nodes (tree mode text))
+
+-- ---- long texts
+
+-- arguments within one another, so many of them
+abbrev pub deep : ℕ → List ℕ
+deep n = flat_map (λ (k : ℕ). codes "{{{x|") (replicate n 0) ++ codes "y" ++ flat_map (λ (k : ℕ). codes "}}}") (replicate n 0)

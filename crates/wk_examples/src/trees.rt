@@ -1,7 +1,8 @@
 //! What tree a text has. Trees are written as `specs/Spelled.antt` says.
-ghost use Rattle.std.specs.Prelude.{◌≡◌, codes, ℕ, List, ◌∷◌, []};
+ghost use Rattle.std.specs.Prelude.{◌≡◌, codes, length, ℕ, List, ◌∷◌, []};
 ghost use Rattle.wk_tree_rules.specs.declared.Mode.TheVariants.{View, Include};
-ghost use Rattle.wk_examples.specs.Spelled.{spelled_tree, node_spans};
+ghost use Rattle.wk_tree_rules.specs.Tree.{nodes, tree};
+ghost use Rattle.wk_examples.specs.Spelled.{deep, node_spans, spelled_items, spelled_tree};
 
 /// Runs of two to nine braces.
 pub fn runs_of_braces()
@@ -54,6 +55,12 @@ pub fn comments_and_modes()
     ensures viewed { spelled_tree View (codes "x<onlyinclude>y</onlyinclude>z<noinclude>n</noinclude>") ≡ codes "xN(<onlyinclude>)yN(</onlyinclude>)zN(<noinclude>)nN(</noinclude>)" }
     ensures included { spelled_tree Include (codes "x<onlyinclude>y</onlyinclude>z<noinclude>n</noinclude>") ≡ codes "y" }
     ensures marks_in_a_comment { spelled_tree View (codes "{{A<!--}}-->") ≡ codes "{{AN(<!--}}-->)" }
+{}
+
+/// Nodes go into one another to a height of 100. The marks of the next one are plain, and so is its bar.
+pub fn heights()
+    ensures hundred { length (nodes (tree View (deep 100))) ≡ 100 }
+    ensures hundred_and_two { spelled_items 1 (tree View (deep 102)) ≡ codes "{{{x|{{{x|A(TOO DEEP|TOO DEEP)}}}}}}" }
 {}
 
 /// Where nodes start and how long they are, each before those that stand in it.
