@@ -95,9 +95,13 @@ script_replies s (line ∷ lines) moments =
       | Some edit ↦ answer_to_edit s edit ∷ script_replies (after_edit s edit (first_moment moments)) lines (drop 1 moments)
     ]
 
--- what is written for replies: each is a line of compact JSON
+-- what is written for a reply: a line of compact JSON
+abbrev pub reply_line : Reply → List ℕ
+reply_line reply = compact_text reply.value ++ 10 ∷ []
+
+-- what is written for replies, one after the other
 abbrev pub reply_lines : List Reply → List ℕ
-reply_lines replies = flat_map (λ reply. compact_text reply.value ++ 10 ∷ []) replies
+reply_lines replies = flat_map reply_line replies
 
 -- it isn't the answer for want of memory
 abbrev pub HasMemory : Reply → Type 0
