@@ -1,0 +1,3 @@
+pub use Rattle.wk_text_rules.specs.Blank
+pub use Rattle.wk_text_rules.specs.Decimal
+pub use Rattle.wk_text_rules.specs.Lines

@@ -1,0 +1,10 @@
+//! Shared text, blank bytes, decimal numbers, and a stream of bytes cut into lines.
+#![tactic(auto)]
+
+mod blank;
+mod number;
+mod text;
+
+pub use blank::trim;
+pub use number::decimal;
+pub use text::Text;
