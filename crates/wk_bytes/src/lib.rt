@@ -5,6 +5,6 @@ mod blank;
 mod number;
 mod text;
 
-pub use blank::trim;
+pub use blank::{trim, trim_end};
 pub use number::decimal;
 pub use text::Text;
