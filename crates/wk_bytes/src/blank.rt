@@ -18,7 +18,8 @@ fn trim_start(bytes: &[u8]) -> &[u8]
     &bytes[start..]
 }
 
-fn trim_end(bytes: &[u8]) -> &[u8]
+/// The bytes without the blank bytes at the end. Takes no memory.
+pub fn trim_end(bytes: &[u8]) -> &[u8]
     ensures { result.now ≡ trimmed_end bytes.now }
 {
     let mut end = bytes.len();
