@@ -8,21 +8,18 @@ ghost use Rattle.wk_revs.specs.Edit.{edit_asked, most_held};
 ghost use Rattle.wk_revs.specs.Revs.{max_pages};
 ghost use Rattle.wk_revs.specs.Verdict.{CanAdd, IfAccept, verdict_of};
 
+use crate::edit::{Edit, Limits};
+use crate::kept_text::kept;
+use crate::pages::Page;
+use crate::revisions::Revision;
+use crate::verdict::{SaveRefusal, Verdict, body_len, is_conflict, is_same_text, real_title};
+use crate::{pages, revisions};
 use std::alloc::Global;
 use std::marker::Model;
-
 use wk_bytes::Text;
 use wk_memory::Memory;
 use wk_page_rules::Limit;
 use wk_title::Title;
-
-use crate::edit::{Edit, Limits};
-use crate::kept_text::kept;
-use crate::pages;
-use crate::pages::Page;
-use crate::revisions;
-use crate::revisions::Revision;
-use crate::verdict::{SaveRefusal, Verdict, body_len, is_conflict, is_same_text, real_title};
 
 /// The bytes that a page's text has at most.
 const MAX_TEXT: usize = 2_097_152;

@@ -1,4 +1,4 @@
-use Rattle.std.proofs.Common.{rules, arith}
+use Rattle.std.proofs.Common.{rules}
 use Rattle.wk_page_rules.specs.History.{saved}
 use Rattle.wk_revs.proofs.revs.Revs.add.Goals as goal
 
