@@ -16,9 +16,13 @@ pub record Script : Type 0 where
 abbrev pub new_script : Script
 new_script = record { history = no_history; point = 0 }
 
+-- the events that a script's journal has at most (own)
+abbrev pub most_events : ℕ
+most_events = 1000
+
 -- how much the script's wiki holds; no other limit than the journal's can be met by so many events
 abbrev pub script_limits : MostHeld
-script_limits = record { pages = 1000000; revisions = 16777216; text = 1073741824; journal = 1000 }
+script_limits = record { pages = 1000000; revisions = 16777216; text = 1073741824; journal = most_events }
 
 -- the bytes that a line has at most
 abbrev pub most_line : ℕ
