@@ -8,6 +8,10 @@ pub record CallsMade : Type 0 where
   pub made : ℕ
   pub failed : ℕ
 
+-- no call was made, and those with these numbers are to fail
+abbrev pub none_made : List ℕ → CallsMade
+none_made numbers = record { to_fail = numbers; made = 0; failed = 0 }
+
 -- the next call is to fail
 abbrev pub IsNextToFail : CallsMade → Type 0
 IsNextToFail calls = Contains calls.to_fail (one_more calls.made)

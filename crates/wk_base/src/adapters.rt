@@ -1,7 +1,7 @@
 // The edge of the project: readers, writers and the clock of std. What they really do is trusted and not proved.
 ghost use Rattle.std.specs.Prelude.{◌≡◌, ◌≤◌, ◌<◌, length, IfOk, OnErr, OnOk, None};
 ghost use Rattle.std.specs.Io.KnownBytes.{ReadConsumes, WriteAppends};
-ghost use Rattle.wk_base.specs.Adapters.{source_reader, source_faults, sink_writer, sink_faults};
+ghost use Rattle.wk_base.specs.Adapters.{source_reader, source_faults, sink_writer, sink_faults, clock_system};
 ghost use Rattle.wk_base.specs.Faults.{Rose, one_more};
 
 use crate::{Clock, Failed, Sink, Source};
@@ -52,10 +52,7 @@ impl<R: Read + Drop> Source for ReadSource<R> {
     {
         match self.reader.read(room) {
             Ok(n) => Ok(n),
-            Err(_) => {
-                self.faults = self.faults.saturating_add(1);
-                Err(Failed)
-            }
+            Err(_) => Err(count_fault(&mut self.faults)),
         }
     }
 }
@@ -102,13 +99,19 @@ impl<W: Write + Drop> Sink for WriteSink<W> {
         ensures not_counted { OnOk result (sink_faults self.new ≡ sink_faults self.old) }
     {
         match self.writer.write(piece) {
-            Ok(0) | Err(_) => {
-                self.faults = self.faults.saturating_add(1);
-                Err(Failed)
-            }
+            Ok(0) | Err(_) => Err(count_fault(&mut self.faults)),
             Ok(n) => Ok(n),
         }
     }
+}
+
+// Counts a fault, and answers it.
+fn count_fault(faults: &mut u64) -> Failed
+    ensures counted { faults.new ≡ one_more faults.old }
+    ensures never_falls { faults.old ≤ faults.new }
+{
+    *faults = faults.saturating_add(1);
+    Failed
 }
 
 /// The system's clock. It tells nothing.
@@ -119,7 +122,9 @@ pub struct SystemClock<C> {
 
 impl<C> SystemClock<C> {
     /// A clock over the runtime's.
-    pub fn new(system: C) -> SystemClock<C> {
+    pub fn new(system: C) -> SystemClock<C>
+        ensures { clock_system result ≡ system }
+    {
         SystemClock { system }
     }
 }

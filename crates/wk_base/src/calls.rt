@@ -1,6 +1,6 @@
 // Which calls of a form in memory are to fail.
 ghost use Rattle.std.specs.Prelude.{◌≡◌, ◌↔◌, ◌≤◌, IsTrue};
-ghost use Rattle.wk_base.specs.Calls.{IsNextToFail, after_failure, after_success};
+ghost use Rattle.wk_base.specs.Calls.{IsNextToFail, after_failure, after_success, none_made};
 
 use std::marker::Model;
 
@@ -23,7 +23,7 @@ impl Model for Calls {
 impl Calls {
     /// No call was made yet. Those with these numbers, from 1 on, are to fail. No memory is taken.
     pub fn new(to_fail: Vec<u64>) -> Calls
-        ensures { result ≡ record { to_fail = to_fail.items; made = 0; failed = 0 } }
+        ensures { result ≡ none_made to_fail.items }
     {
         Calls {
             to_fail,

@@ -1,7 +1,7 @@
 // A sink that keeps what it takes.
-ghost use Rattle.std.specs.Prelude.{◌≡◌, ◌↔◌, ◌⊎◌, ◌≤◌, ◌<◌, ◌+◌, vec_capacity, vec_len, ◌-◌, ◌++◌, [], length, min, take, IfOk, IsErr, OnErr, Some};
+ghost use Rattle.std.specs.Prelude.{◌≡◌, ◌↔◌, ◌⊎◌, ◌≤◌, ◌<◌, ◌-◌, ◌++◌, [], length, min, take, IfOk, IsErr, OnErr, Some};
 ghost use Rattle.std.specs.Io.KnownBytes.{WriteAppends};
-ghost use Rattle.wk_base.specs.Calls.{IsNextToFail, after_failure, after_success};
+ghost use Rattle.wk_base.specs.Calls.{IsNextToFail, after_failure, after_success, none_made};
 ghost use Rattle.wk_base.specs.Faults.{Rose};
 
 use crate::{Calls, Failed, Memory, Sink};
@@ -33,10 +33,7 @@ impl MemSink {
     ///
     /// `Memory` comes where there is no room for so many bytes.
     pub fn new(alloc: Global, most: usize, fail: Vec<u64>) -> Result<MemSink, Memory>
-        ensures { IfOk result (λ s. s ≡ record {
-            taken = [];
-            most = most;
-            calls = record { to_fail = fail.items; made = 0; failed = 0 } }) }
+        ensures { IfOk result (λ s. s ≡ record { taken = []; most = most; calls = none_made fail.items }) }
     {
         Ok(MemSink {
             taken: Vec::with_capacity(alloc, most)?,
@@ -87,8 +84,9 @@ impl Sink for MemSink {
         ensures failed { OnErr result (self.new ≡ record self.old { calls = after_failure self.old.calls }) }
         ensures all_that_fit { IfOk result (λ n. n ≡ min (length piece.now) (self.old.most - length self.old.taken)) }
         ensures written { IfOk result (λ n. self.new ≡ record self.old {
-            taken = self.old.taken ++ take n piece.now;
-            calls = after_success self.old.calls }) }
+          taken = self.old.taken ++ take n piece.now;
+          calls = after_success self.old.calls;
+        }) }
     {
         let room = self.room();
         if room == 0 || self.calls.is_next_to_fail() {

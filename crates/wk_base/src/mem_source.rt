@@ -1,7 +1,7 @@
 // A source over bytes in memory.
 ghost use Rattle.std.specs.Prelude.{◌≡◌, ◌↔◌, ◌≤◌, ◌<◌, ◌++◌, drop, length, min, take, IfOk, IsErr, OnErr, Some};
 ghost use Rattle.std.specs.Io.KnownBytes.{ReadConsumes};
-ghost use Rattle.wk_base.specs.Calls.{IsNextToFail, after_failure, after_success};
+ghost use Rattle.wk_base.specs.Calls.{IsNextToFail, after_failure, after_success, none_made};
 ghost use Rattle.wk_base.specs.Faults.{Rose};
 
 use crate::{Calls, Failed, Source};
@@ -29,7 +29,7 @@ impl Model for MemSource {
 impl MemSource {
     /// A source of these bytes. The reads with the numbers of `fail`, counted from 1, fail. No memory is taken.
     pub fn new(rest: Vec<u8>, fail: Vec<u64>) -> MemSource
-        ensures { result ≡ record { rest = rest.items; calls = record { to_fail = fail.items; made = 0; failed = 0 } } }
+        ensures { result ≡ record { rest = rest.items; calls = none_made fail.items } }
     {
         MemSource {
             bytes: rest,

@@ -1,11 +1,10 @@
 // What no clause says: that calls succeed, that sinks take pieces until all is written, and what the adapters do over
 // readers, writers and clocks whose bytes no clause tells.
 use crate::*;
-use std::io;
 use std::io::{Cursor, ErrorKind, Read, Write};
-use std::rt;
 use std::test::Fail;
 use std::time::Duration;
+use std::{io, rt};
 
 /// Gives one byte at each call, and an error at the second.
 #[derive(Drop)]

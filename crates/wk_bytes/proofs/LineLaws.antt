@@ -119,7 +119,7 @@ lines-push most begin end after more line hb he e =
     regroup : (begin end after more : List ℕ) → (begin ++ end) ++ 10 ∷ (after ++ more) ≡ begin ++ ((end ++ 10 ∷ after) ++ more)
     regroup begin end after more = simp append_assoc
 
-lines_of-push : {A : Type 0} (old : List (Option (Vec ℕ A))) (line : Option (Vec ℕ A)) (others : List (Option (List ℕ))) →
+pub lines_of-push : {A : Type 0} (old : List (Option (Vec ℕ A))) (line : Option (Vec ℕ A)) (others : List (Option (List ℕ))) →
     lines_of (old ++ line ∷ []) ++ others ≡ lines_of old ++ (option_map (λ v. v.items) line ∷ others)
 lines_of-push old line others = simp (map-append, append_assoc)
 

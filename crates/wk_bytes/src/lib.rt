@@ -6,7 +6,7 @@ mod lines;
 mod number;
 mod text;
 
-pub use blank::trim;
+pub use blank::{trim, trim_end};
 pub use lines::{Line, LineCutter};
 pub use number::decimal;
 pub use text::Text;

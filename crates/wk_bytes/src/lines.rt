@@ -1,5 +1,5 @@
 //! A stream of bytes, cut into lines however the bytes come.
-ghost use Rattle.std.specs.Prelude.{◌≡◌, ℕ, ◌+◌, ◌-◌, ◌≤◌, ◌↔◌, List, [], ◌∷◌, ◌++◌, length, take, map, option_map, IfOk, IfSome, IfNone, OnOk, OnErr};
+ghost use Rattle.std.specs.Prelude.{◌≡◌, ℕ, ◌+◌, ◌-◌, ◌<◌, ◌≤◌, ◌↔◌, List, [], ◌∷◌, ◌++◌, length, take, map, option_map, IfOk, IfSome, IfNone, OnOk, OnErr};
 ghost use Rattle.std.specs.Str.Lines.{strip_carriage_return};
 ghost use Rattle.wk_text_rules.specs.Lines.{within, lines};
 ghost use Rattle.wk_bytes.specs.LineCutter.{HasNoNewline, IsBegun, lines_of, lines_to_come};
@@ -12,7 +12,7 @@ use std::mem;
 use wk_memory::Memory;
 
 /// An answer of a [`LineCutter`].
-#[derive(Debug, Drop)]
+#[derive(Debug, PartialEq, Eq, Drop)]
 pub enum Line {
     /// A line, without its newline and without the one carriage return that may stand directly before that newline.
     Whole(Vec<u8>),
@@ -150,7 +150,7 @@ fn cut(
 ///
 /// Each line ends with a newline, the last also with the end of the stream. The lines don't depend on how the stream
 /// is cut into pieces. Of a line of more than `most` bytes at most `most + 1` are kept.
-#[derive(Drop)]
+#[derive(Debug, Drop)]
 pub struct LineCutter {
     most: usize,
     whole: VecDeque<Option<Vec<u8>>>,
@@ -205,6 +205,7 @@ impl LineCutter {
     /// The next line that ends with a newline, or `More` exactly where no newline is left in the bytes pushed.
     /// Takes no memory.
     pub fn next(&mut self) -> Line
+        ensures lines { (more : List ℕ) → lines_to_come self.old more ≡ line_in result ++ lines_to_come self.new more }
         ensures line { self.old ≡ record self.new { whole = line_in result ++ self.new.whole } }
         ensures more { (result ≡ Line.More) ↔ (self.old.whole ≡ []) }
     {
@@ -226,5 +227,108 @@ impl LineCutter {
         let alloc = *self.rest.allocator();
         let rest = mem::replace(&mut self.rest, Vec::new(alloc));
         last_line(self.most, rest)
+    }
+}
+
+#[cfg(test)]
+mod tests {
+    use super::*;
+    use std::test::Fail;
+
+    /// Appends the lines that are there.
+    fn take_lines(cutter: &mut LineCutter, lines: &mut Vec<Option<Vec<u8>>>) -> Result<(), Memory>
+        ensures lines { OnOk result ((more : List ℕ) →
+            lines_of lines.new.items ++ lines_to_come cutter.new more ≡ lines_of lines.old.items ++ lines_to_come cutter.old more) }
+        ensures all { OnOk result (cutter.new.whole ≡ []) }
+        ensures most { cutter.new.most ≡ cutter.old.most }
+    {
+        loop {
+            match cutter.next() {
+                Line::Whole(line) => lines.push(Some(line))?,
+                Line::TooLong => lines.push(None)?,
+                Line::More => return Ok(()),
+            }
+        }
+    }
+
+    /// Appends the last line, if there is one.
+    fn take_last(cutter: &mut LineCutter, lines: &mut Vec<Option<Vec<u8>>>) -> Result<(), Memory>
+        requires { cutter.old.whole ≡ [] }
+        ensures { OnOk result (lines_of lines.new.items ≡ lines_of lines.old.items ++ lines_to_come cutter.old []) }
+    {
+        match cutter.end() {
+            Line::Whole(line) => lines.push(Some(line))?,
+            Line::TooLong => lines.push(None)?,
+            Line::More => {}
+        }
+        Ok(())
+    }
+
+    /// The lines of the bytes, which are pushed in pieces of `size` bytes.
+    fn lines_in_pieces(
+        alloc: Global,
+        most: usize,
+        bytes: &[u8],
+        size: usize,
+    ) -> Result<Vec<Option<Vec<u8>>>, Memory>
+        requires { 0 < size }
+        ensures { IfOk result (λ found. lines_of found.items ≡ lines most bytes.now) }
+    {
+        let mut cutter = LineCutter::new(alloc, most);
+        let mut found = Vec::new(alloc);
+        let mut left = bytes;
+        while !left.is_empty() {
+            let (piece, after) = left.split_at(size.min(left.len()));
+            cutter.push(piece)?;
+            take_lines(&mut cutter, &mut found)?;
+            left = after;
+        }
+        take_last(&mut cutter, &mut found)?;
+        Ok(found)
+    }
+
+    #[test]
+    fn cuts_lines_whatever_the_pieces(rt: HostRuntime) -> Result<(), Fail> {
+        let alloc = rt.alloc();
+        let bytes = b"a\r\n\nabc\r\nabcd\nabc\r\r\n\r\nend\r";
+        let lines = [
+            Some("a"),
+            Some(""),
+            Some("abc"),
+            Some("abcd"),
+            None,
+            Some(""),
+            Some("end\r"),
+        ];
+        for size in 1..bytes.len() + 1 {
+            let found = lines_in_pieces(alloc, 4, bytes, size)?;
+            assert_eq!(rt; found.len(), lines.len(), "in pieces of {size}");
+            for (line, expected) in found.iter().zip(&lines) {
+                assert_eq!(rt;
+                    line.as_ref().map(|l| l.as_slice()),
+                    expected.map(|l| l.as_bytes())
+                );
+            }
+        }
+        Ok(())
+    }
+
+    #[test]
+    fn cuts_an_endless_line_and_many_short_ones(rt: HostRuntime) -> Result<(), Fail> {
+        let alloc = rt.alloc();
+        let piece = vec![in alloc; b'x'; 65536]?;
+        let mut cutter = LineCutter::new(alloc, 8_388_608);
+        for _ in 0..1024 {
+            cutter.push(&piece)?;
+        }
+        cutter.push(b"\n")?;
+        let newlines = vec![in alloc; b'\n'; 100_000]?;
+        cutter.push(&newlines)?;
+        assert_eq!(rt; cutter.next(), Line::TooLong);
+        for _ in 0..100_000 {
+            assert_eq!(rt; cutter.next(), Line::Whole(Vec::new(alloc)));
+        }
+        assert_eq!(rt; cutter.next(), Line::More);
+        Ok(())
     }
 }
