@@ -5,7 +5,7 @@ use Rattle.std.proofs.lemmas.List.Sums.{sum_by-append, sum_by-cons}
 use Rattle.wk_tree_laws.proofs.PieceLemmas.{all-append, all-front, all-back, AreSound, IsSound, HaveNoClosing, IsNoClosing, entries-no_closing, closing_marks-none, by_closing, ByClosing, without, parted, entries_of-entries}
 use Rattle.wk_tree_laws.proofs.ReductionLemmas.{step-parted, step-keeps, steps-none, parted-fewer}
 use Rattle.wk_tree_laws.proofs.StepLemmas.{answered-keeps}
-use Rattle.wk_tree_laws.specs.OnePass.{Level, Seen, nothing_seen, pieces_by, pieces_seen, added_by, added, opened, reopened, Met, met_as_plain, met_as_node, met_as_brackets, met_by_marks, met_by_levels, met, resumed, closed, passed}
+use Rattle.wk_tree_laws.specs.OnePass.{Level, PassState, nothing_seen, pieces_by, pieces_seen, added_by, added, opened, reopened, Met, met_as_plain, met_as_node, met_as_brackets, met_by_marks, met_by_levels, met, resumed, closed, passed}
 use Rattle.wk_tree_rules.specs.Reduction.{Marks, braces, brackets, Run, Piece, entry, opening, closing, plain_opening, plain_closing, first_marks, last_marks, left_over, left_opening, left_closing, AtOpening, last_opening_or, last_opening, most_height, node_width, kind_by_width, as_node, as_brackets, as_plain, matched, answered, step, steps, closing_marks_of, closing_marks, reduced}
 use Rattle.wk_tree_rules.specs.Trees.{node, Entry, item, row, row_height, plain_entry}
 
@@ -65,10 +65,10 @@ added_by-pieces parts first (level ∷ levels) =
     ap (λ t. pieces_by first levels ++ opening level.run ∷ t) (map-append entry level.stretch parts)
     ∙ sym (append_assoc (pieces_by first levels) (opening level.run ∷ map entry level.stretch) (map entry parts))
 
-pub added-pieces : (parts : List Entry) (seen : Seen) → pieces_seen (added parts seen) ≡ pieces_seen seen ++ map entry parts
+pub added-pieces : (parts : List Entry) (seen : PassState) → pieces_seen (added parts seen) ≡ pieces_seen seen ++ map entry parts
 added-pieces parts seen = added_by-pieces parts seen.first seen.levels
 
-reopened-pieces : (marks : Marks) (start count : ℕ) (seen : Seen) → pieces_seen (reopened count (record { marks = marks; start = start; count = count }) seen) ≡ pieces_seen seen ++ left_opening (record { marks = marks; start = start; count = count })
+reopened-pieces : (marks : Marks) (start count : ℕ) (seen : PassState) → pieces_seen (reopened count (record { marks = marks; start = start; count = count }) seen) ≡ pieces_seen seen ++ left_opening (record { marks = marks; start = start; count = count })
 reopened-pieces marks start zero seen = sym (append-nil (pieces_seen seen))
 reopened-pieces marks start (suc zero) seen = added-pieces (item (plain_opening (record { marks = marks; start = start; count = 1 })) ∷ []) seen
 reopened-pieces marks start (suc (suc n)) seen = refl
@@ -91,14 +91,14 @@ last_opening-is (closing r ∷ left) run parts = ap (λ found. last_opening_or (
 abbrev outcome : Met → List Piece
 outcome m = pieces_seen m.seen ++ left_closing m.rest
 
-plain-met : (closer : Run) (seen : Seen) → as_plain (pieces_seen seen) closer ≡ outcome (met_as_plain closer seen)
+plain-met : (closer : Run) (seen : PassState) → as_plain (pieces_seen seen) closer ≡ outcome (met_as_plain closer seen)
 plain-met closer seen = sym (append-nil (pieces_seen (added (item (plain_closing closer) ∷ []) seen)) ∙ added-pieces (item (plain_closing closer) ∷ []) seen)
 
 module _ (first : List Entry) (level : Level) (levels : List Level) (closer : Run) where
-  abbrev outer : Seen
+  abbrev outer : PassState
   outer = record { first = first; levels = levels }
 
-  abbrev all_seen : Seen
+  abbrev all_seen : PassState
   all_seen = record { first = first; levels = level ∷ levels }
 
   abbrev last : AtOpening
@@ -158,7 +158,7 @@ met_by-pieces closer first (level ∷ levels) =
     ap (answer_to (pieces_by first (level ∷ levels)) closer) (last_opening-is (pieces_by first levels) level.run level.stretch)
     ∙ matched-met first level levels closer level.run.marks closer.marks
 
-pub met-pieces : (closer : Run) (seen : Seen) → answered (pieces_seen seen) closer ≡ outcome (met closer seen)
+pub met-pieces : (closer : Run) (seen : PassState) → answered (pieces_seen seen) closer ≡ outcome (met closer seen)
 met-pieces closer seen = met_by-pieces closer seen.first seen.levels
 
 -- ---- a closing run, met until none of it is left
@@ -168,8 +168,8 @@ pub record SameEnd (pieces others : List Piece) : Type 0 where
   pub same : reduced pieces ≡ reduced others
   pub sound : AreSound others
 
-module _ (n : ℕ) (again : (closer : Run) (seen : Seen) (ahead : List Piece) → 2 ≤ closer.count → closer.count ≤ n → AreSound (pieces_seen seen ++ closing closer ∷ ahead) → SameEnd (pieces_seen seen ++ closing closer ∷ ahead) (pieces_seen (closed n closer seen) ++ ahead)) where
-  resumed-end : (seen : Seen) (marks : Marks) (start count : ℕ) (ahead : List Piece) → count ≤ n
+module _ (n : ℕ) (again : (closer : Run) (seen : PassState) (ahead : List Piece) → 2 ≤ closer.count → closer.count ≤ n → AreSound (pieces_seen seen ++ closing closer ∷ ahead) → SameEnd (pieces_seen seen ++ closing closer ∷ ahead) (pieces_seen (closed n closer seen) ++ ahead)) where
+  resumed-end : (seen : PassState) (marks : Marks) (start count : ℕ) (ahead : List Piece) → count ≤ n
       → AreSound ((pieces_seen seen ++ left_closing (record { marks = marks; start = start; count = count })) ++ ahead)
       → SameEnd ((pieces_seen seen ++ left_closing (record { marks = marks; start = start; count = count })) ++ ahead) (pieces_seen (resumed count (record { seen = seen; rest = record { marks = marks; start = start; count = count } }) (closed n (record { marks = marks; start = start; count = count }) seen)) ++ ahead)
   resumed-end seen marks start zero ahead few sound =
@@ -199,7 +199,7 @@ rest-fewer m most two h =
         let marks : closing_marks (left_closing m.rest) ≡ 0 + m.rest.count = ap closing_marks same in
         omega arith
 
-pub closed-end : (n : ℕ) (closer : Run) (seen : Seen) (ahead : List Piece) → 2 ≤ closer.count → closer.count ≤ n → AreSound (pieces_seen seen ++ closing closer ∷ ahead) → SameEnd (pieces_seen seen ++ closing closer ∷ ahead) (pieces_seen (closed n closer seen) ++ ahead)
+pub closed-end : (n : ℕ) (closer : Run) (seen : PassState) (ahead : List Piece) → 2 ≤ closer.count → closer.count ≤ n → AreSound (pieces_seen seen ++ closing closer ∷ ahead) → SameEnd (pieces_seen seen ++ closing closer ∷ ahead) (pieces_seen (closed n closer seen) ++ ahead)
 unfolding closed
 closed-end zero closer seen ahead two few sound = absurd (omega arith)
 closed-end (suc n) closer seen ahead two few sound =
@@ -216,7 +216,7 @@ closed-end (suc n) closer seen ahead two few sound =
 
 -- ---- the pass
 
-pub passed-reduced : (seen : Seen) (ahead : List Piece) → AreSound (pieces_seen seen ++ ahead) → reduced (pieces_seen seen ++ ahead) ≡ pieces_seen (passed seen ahead)
+pub passed-reduced : (seen : PassState) (ahead : List Piece) → AreSound (pieces_seen seen ++ ahead) → reduced (pieces_seen seen ++ ahead) ≡ pieces_seen (passed seen ahead)
 unfolding passed
 passed-reduced seen [] sound =
     ap reduced (append-nil (pieces_seen seen)) ∙ reduced-none (pieces_seen seen) (pieces_by-no_closing seen.first seen.levels)
