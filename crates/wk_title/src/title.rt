@@ -51,10 +51,11 @@ impl Title {
         self.ns
     }
 
-    /// The key, with an underscore for each space. Takes no memory.
+    /// The key, with an underscore for each space, of at most 255 bytes. Some text names the title. Takes no memory.
     pub fn key(&self) -> &str
         ensures value { result.now ≡ self.now.key }
         ensures short { length self.now.key ≤ 255 }
+        ensures normal { IsNormal self.now }
     {
         self.key.as_str()
     }
