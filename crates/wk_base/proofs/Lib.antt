@@ -1,1 +1,2 @@
+mod ReadFront
 mod TakenBytes

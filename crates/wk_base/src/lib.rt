@@ -5,9 +5,22 @@
 //! answers [`Failed`] only where that count rose in this very call, or stands at its end.
 #![tactic(auto)]
 
+mod adapters;
+mod calls;
+mod list_clock;
+mod mem_sink;
+mod mem_source;
 mod outside;
 mod writing;
 
+pub use adapters::{ReadSource, SystemClock, WriteSink};
+pub use calls::Calls;
+pub use list_clock::ListClock;
+pub use mem_sink::MemSink;
+pub use mem_source::MemSource;
 pub use outside::{Clock, Failed, Sink, Source};
 pub use wk_memory::Memory;
 pub use writing::write_all;
+
+#[cfg(test)]
+mod tests;

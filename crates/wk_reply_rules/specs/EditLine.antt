@@ -52,12 +52,19 @@ base_of bytes = if bytes_eq bytes token_part then Some None else do
   base ← decimal_number (before_ampersand based)
   if bytes_eq (from_ampersand based) token_part then Some (Some base) else None
 
--- `api action=edit&title=TITLE&text=TEXT&token=%2B%5C`, perhaps with `&baserevid=N` before the token
-unfoldable pub edit_line : List ℕ → Option EditLine
-edit_line line = do
+-- the parts between the words of the line, whatever bytes they have
+unfoldable pub cut_line : List ℕ → Option EditLine
+cut_line line = do
   titled ← after (codes "api action=edit&title=") line
   texted ← after (codes "&text=") (from_ampersand titled)
   base ← base_of (from_ampersand texted)
-  if list_all is_title_byte (before_ampersand titled) && list_all is_text_byte (before_ampersand texted)
-      && nat_le (length (before_ampersand texted)) most_line_text
-      then Some (record { title = before_ampersand titled; text = before_ampersand texted; base = base }) else None
+  Some (record { title = before_ampersand titled; text = before_ampersand texted; base = base })
+
+-- the parts have only the bytes that they may have
+abbrev pub is_edit : EditLine → Bool
+is_edit parts =
+    list_all is_title_byte parts.title && list_all is_text_byte parts.text && nat_le (length parts.text) most_line_text
+
+-- `api action=edit&title=TITLE&text=TEXT&token=%2B%5C`, perhaps with `&baserevid=N` before the token
+unfoldable pub edit_line : List ℕ → Option EditLine
+edit_line line = option_and_then (λ parts. if is_edit parts then Some parts else None) (cut_line line)

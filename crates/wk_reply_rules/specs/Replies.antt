@@ -64,36 +64,48 @@ refusal_reply journal_full point = error_reply (codes "journalfull") (codes "The
 abbrev pub edit_of : Members → ℕ → Reply
 edit_of members point = reply_of (codes "edit") (object members) point
 
--- the page, that all went well, and the title as it is shown
-abbrev pub page_members : ℕ → PageTitle → Members
+-- the page, that all went well, and the title, each as the reply shows it
+abbrev pub page_members : ℕ → List ℕ → Members
 page_members page title =
     member (codes "pageid") (natural page)
-    (member (codes "result") (string (codes "Success")) (member (codes "title") (string (shown title)) no_members))
+    (member (codes "result") (string (codes "Success")) (member (codes "title") (string title) no_members))
 
-abbrev pub revision_members : ℕ → ℕ → ℕ → PageTitle → Members
-revision_members old new page title =
-    member (codes "newrevid") (natural new) (member (codes "oldrevid") (natural old) (page_members page title))
+-- what a save made: the revision before, 0 where the page was missing, the new one, the page, and its title as shown
+pub record SaveShown : Type 0 where
+  pub old : ℕ
+  pub new : ℕ
+  pub page : ℕ
+  pub title : List ℕ
 
-abbrev pub new_page_reply : ℕ → ℕ → ℕ → PageTitle → ℕ → Reply
-new_page_reply old new page title point =
-    edit_of (member (codes "new") (boolean true) (revision_members old new page title)) point
+abbrev pub save_members : SaveShown → Members
+save_members save =
+    member (codes "newrevid") (natural save.new)
+    (member (codes "oldrevid") (natural save.old) (page_members save.page save.title))
 
-abbrev pub changed_reply : ℕ → ℕ → ℕ → PageTitle → ℕ → Reply
-changed_reply old new page title point = edit_of (revision_members old new page title) point
+abbrev pub new_page_reply : SaveShown → ℕ → Reply
+new_page_reply save point = edit_of (member (codes "new") (boolean true) (save_members save)) point
 
-abbrev pub no_change_reply : ℕ → PageTitle → ℕ → Reply
+abbrev pub changed_reply : SaveShown → ℕ → Reply
+changed_reply save point = edit_of (save_members save) point
+
+abbrev pub no_change_reply : ℕ → List ℕ → ℕ → Reply
 no_change_reply page title point = edit_of (member (codes "nochange") (boolean true) (page_members page title)) point
+
+abbrev pub save_shown : History → PageTitle → SaveShown
+save_shown h title = record {
+  old = current_revision h title;
+  new = next_revision h;
+  page = unwrap_or (page_number h title) (length h.pages + 1);
+  title = shown title;
+}
 
 -- The reply to a save that is accepted, at the point behind its event: it is a new page where the page was missing.
 abbrev pub saved_reply : History → PageTitle → ℕ → Reply
 saved_reply h title point =
-    let old = current_revision h title in
-    let page = unwrap_or (page_number h title) (length h.pages + 1) in
-    if page_exists h title then changed_reply old (next_revision h) page title point
-    else new_page_reply old (next_revision h) page title point
+    if page_exists h title then changed_reply (save_shown h title) point else new_page_reply (save_shown h title) point
 
 -- the reply to an edit with this verdict, in this history, where the journal has this length before it
 abbrev pub edit_reply : History → Verdict → ℕ → Reply
 edit_reply h (refuse refusal) point = refusal_reply refusal point
-edit_reply h (no_change title) point = no_change_reply (unwrap_or (page_number h title) 0) title point
+edit_reply h (no_change title) point = no_change_reply (unwrap_or (page_number h title) 0) (shown title) point
 edit_reply h (accept title body) point = saved_reply h title (point + 1)

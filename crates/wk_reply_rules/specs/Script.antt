@@ -16,9 +16,13 @@ pub record Script : Type 0 where
 abbrev pub new_script : Script
 new_script = record { history = no_history; point = 0 }
 
+-- the events that a script's journal has at most (own)
+abbrev pub most_events : ℕ
+most_events = 1000
+
 -- how much the script's wiki holds; no other limit than the journal's can be met by so many events
 abbrev pub script_limits : MostHeld
-script_limits = record { pages = 1000000; revisions = 16777216; text = 1073741824; journal = 1000 }
+script_limits = record { pages = 1000000; revisions = 16777216; text = 1073741824; journal = most_events }
 
 -- the bytes that a line has at most
 abbrev pub most_line : ℕ
@@ -95,9 +99,13 @@ script_replies s (line ∷ lines) moments =
       | Some edit ↦ answer_to_edit s edit ∷ script_replies (after_edit s edit (first_moment moments)) lines (drop 1 moments)
     ]
 
--- what is written for replies: each is a line of compact JSON
+-- what is written for a reply: a line of compact JSON
+abbrev pub reply_line : Reply → List ℕ
+reply_line reply = compact_text reply.value ++ 10 ∷ []
+
+-- what is written for replies, one after the other
 abbrev pub reply_lines : List Reply → List ℕ
-reply_lines replies = flat_map (λ reply. compact_text reply.value ++ 10 ∷ []) replies
+reply_lines replies = flat_map reply_line replies
 
 -- it isn't the answer for want of memory
 abbrev pub HasMemory : Reply → Type 0

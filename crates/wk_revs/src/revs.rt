@@ -1,5 +1,5 @@
 //! The revisions and pages of a wiki.
-ghost use Rattle.std.specs.Prelude.{◌≡◌, ℕ, ◌+◌, ◌<◌, ◌≤◌, None, Some, false, length, IfOk, OnOk, OnErr};
+ghost use Rattle.std.specs.Prelude.{◌≡◌, ℕ, ◌+◌, ◌<◌, ◌≤◌, None, Some, false, length, unwrap_or, IfOk, OnOk, OnErr};
 ghost use Rattle.std.specs.Option.{option_copied};
 ghost use Rattle.wk_text_rules.specs.Titles.{is_virtual};
 ghost use Rattle.wk_page_rules.specs.History.{CanSave, no_history, current_revision, current_text, next_revision, page_number, saved};
@@ -103,6 +103,23 @@ impl Revs {
         ensures { result ≡ current_revision self.now.history title.now }
     {
         pages::current_revision(&self.pages, title)
+    }
+
+    /// The number that the title's page has, or would get by a save. Takes no memory.
+    pub fn page_of_save(&self, title: &Title) -> u32
+        ensures { result ≡ unwrap_or (page_number self.now.history title.now) (length self.now.history.pages + 1) }
+    {
+        match self.page(title) {
+            Some(page) => page,
+            None => self.pages.len() as u32 + 1,
+        }
+    }
+
+    /// The number that the next revision gets. Takes no memory.
+    pub fn next_revision(&self) -> u64
+        ensures { result ≡ next_revision self.now.history }
+    {
+        self.revisions.len() as u64 + 1
     }
 
     fn current_text(&self, title: &Title) -> Option<&Text>
