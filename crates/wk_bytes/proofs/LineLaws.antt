@@ -4,15 +4,16 @@ use Rattle.std.proofs.Common.{option_map, ◌≡◌, ◌≢◌, ℕ, ◌+◌, �
 use Rattle.std.proofs.Math.Seq.{take-append-add}
 use Rattle.std.proofs.lemmas.Bool.Decides.{nat_tests}
 use Rattle.std.proofs.lemmas.Bool.{cases_lt, eqb-true, eqb-false}
-use Rattle.std.proofs.lemmas.List.{map-append, take_all, length-take}
+use Rattle.std.proofs.lemmas.List.{map-append, length-map, take_all, length-take}
 use Rattle.std.proofs.lemmas.List.Elements.{All-append, All-nil, All-cons, All-take}
-use Rattle.std.proofs.lemmas.List.Splits.{slice_split_none, slice_split_at}
-use Rattle.std.specs.List.{All, slice_split, onto_first}
+use Rattle.std.proofs.lemmas.List.Splits.{slice_split_none, slice_split_at, length-slice_split}
+use Rattle.std.proofs.lemmas.List.Sums.{sum_by-append, sum_by-cons}
+use Rattle.std.specs.List.{count_by, All, slice_split, onto_first}
 use Rattle.std.specs.Str.Lines.{strip_carriage_return}
 use Rattle.wk_text_rules.specs.Lines.{within, lines, lines_of_parts}
 use Rattle.wk_bytes.specs.LineCutter.{HasNoNewline, IsBegun, lines_of}
 
-abbrev is_newline : ℕ → Bool
+abbrev pub is_newline : ℕ → Bool
 is_newline b = eqb b 10
 
 -- each byte fails the test
@@ -157,3 +158,21 @@ lines-kept most rest piece new begun h e more =
     ap (λ xs. lines most (xs ++ more)) (e ∙ sym (kept-is most rest piece begun.bounded))
     ∙ (lines-take most (rest ++ piece) more (All-append (λ b. b ≢ 10) rest piece begun.no_newline h)
     ∙ ap (lines most) (append_assoc rest piece more))
+
+-- bytes without a newline, and bytes up to the first one
+pub count-none : (part : List ℕ) → HasNoNewline part → count_by is_newline part ≡ 0
+count-none part h =
+    let parts : length (slice_split is_newline part) ≡ 1 = ap length (slice_split_none is_newline part (fails_each part h)) in
+    omega (arith, parts, length-slice_split is_newline part)
+
+pub count-first : (part after bytes : List ℕ) → HasNoNewline part → bytes ≡ part ++ 10 ∷ after → count_by is_newline bytes ≡ 1 + count_by is_newline after
+count-first part after bytes h e =
+    ap (count_by is_newline) e
+    ∙ (sum_by-append (λ b. cond (is_newline b) 1 0) part (10 ∷ after)
+    ∙ omega (arith, count-none part h, sum_by-cons (λ b. cond (is_newline b) 1 0) 10 after))
+
+pub length-lines_of : {A : Type 0} (old fresh : List (Option (Vec ℕ A))) → length (lines_of (old ++ fresh)) ≡ length (lines_of old) + length fresh
+length-lines_of old fresh =
+    let all : length (lines_of (old ++ fresh)) ≡ length (old ++ fresh) = length-map (old ++ fresh) (option_map (λ v. v.items)) in
+    let some : length (lines_of old) ≡ length old = length-map old (option_map (λ v. v.items)) in
+    omega (arith, all, some, length-append old fresh)

@@ -1,5 +1,5 @@
 //! A stream of bytes, cut into lines however the bytes come.
-ghost use Rattle.std.specs.Prelude.{◌≡◌, ℕ, ◌+◌, ◌-◌, ◌<◌, ◌≤◌, ◌↔◌, List, [], ◌∷◌, ◌++◌, length, take, map, option_map, IfOk, IfSome, IfNone, OnOk, OnErr};
+ghost use Rattle.std.specs.Prelude.{◌==◌, count_by, ◌≡◌, ℕ, ◌+◌, ◌-◌, ◌<◌, ◌≤◌, ◌↔◌, List, [], ◌∷◌, ◌++◌, length, take, map, option_map, IfOk, IfSome, IfNone, OnOk, OnErr};
 ghost use Rattle.std.specs.Str.Lines.{strip_carriage_return};
 ghost use Rattle.wk_text_rules.specs.Lines.{within, lines};
 ghost use Rattle.wk_bytes.specs.LineCutter.{HasNoNewline, IsBegun, lines_of, lines_to_come};
@@ -114,6 +114,7 @@ fn cut_whole<'a>(
     ensures lines { IfOk result (λ rest. (more : List ℕ) →
         lines_of whole.new.items ++ lines most (rest.now ++ more) ≡ lines_of whole.old.items ++ lines most (bytes.now ++ more)) }
     ensures rest { IfOk result (λ rest. HasNoNewline rest.now) }
+    ensures count { OnOk result (length whole.new.items ≡ length whole.old.items + count_by (λ b. b == 10) bytes.now) }
 {
     let mut left = bytes;
     while let Some((part, after)) = split_at_newline(left) {
@@ -137,6 +138,7 @@ fn cut(
     ensures lines { IfOk result (λ parts. (more : List ℕ) →
         lines_of parts.0.items ++ lines most (parts.1.items ++ more) ≡ lines most (rest.now ++ ((end.now ++ 10 ∷ after.now) ++ more))) }
     ensures begun { IfOk result (λ parts. IsBegun most parts.1.items) }
+    ensures count { IfOk result (λ parts. length parts.0.items ≡ 1 + count_by (λ b. b == 10) after.now) }
 {
     let mut whole = VecDeque::new(alloc);
     whole.push_back(whole_line(alloc, most, rest, end)?)?;
@@ -183,7 +185,10 @@ impl LineCutter {
     /// After an `Err` the piece isn't taken.
     pub fn push(&mut self, piece: &[u8]) -> Result<(), Memory>
         ensures lines { OnOk result ((more : List ℕ) → lines_to_come self.new more ≡ lines_to_come self.old (piece.now ++ more)) }
+        // Each newline of the piece makes a line whole, so none is left in the rest.
+        ensures count { OnOk result (length self.new.whole ≡ length self.old.whole + count_by (λ b. b == 10) piece.now) }
         ensures rest { IsBegun self.new.most self.new.rest }
+
         ensures most { self.new.most ≡ self.old.most }
         ensures err { OnErr result (self.new ≡ self.old) }
     {
