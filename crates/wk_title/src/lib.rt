@@ -8,6 +8,7 @@ mod parts;
 mod rules;
 mod title;
 
+pub use characters::to_nfc;
 pub use namespace::{is_namespace, namespace_name};
 pub use rules::normalize;
 pub use title::{Title, TitleRefusal, order_is_by_namespace_then_key};
