@@ -85,94 +85,103 @@ fn edits_conflict_exactly_where_their_base_is_not_current(rt: HostRuntime) -> Re
     Ok(())
 }
 
+/// An edit with a text of so many bytes.
+fn edit_of_size(
+    alloc: Global,
+    title: &str,
+    bytes: usize,
+    base: Option<u64>,
+) -> Result<Edit, Memory> {
+    let body = "x".repeat(alloc, bytes)?;
+    edit(alloc, title, Some(body.as_str()), base)
+}
+
 #[test]
 fn the_first_refusal_that_applies_is_given(rt: HostRuntime) -> Result<(), Fail> {
     let alloc = rt.alloc();
     let mut revs = Revs::new(alloc);
-    let largest = "x".repeat(alloc, 2_097_152)?;
-    let too_big = "x".repeat(alloc, 2_097_153)?;
-    let none = Limits {
+    let one = Limits {
         pages: 1,
         revisions: 1,
         text: 1,
         journal: 0,
     };
-    let few = Limits {
+    let two = Limits {
         revisions: 2,
-        ..none
+        ..one
     };
-    let enough = Limits { text: 3, ..few };
-    for (title, body, base, create_only, no_create, limits, want) in [
-        ("A", "1", None, true, false, none, Outcome::Saved(1)),
+    let three = Limits { text: 3, ..two };
+    for (title, bytes, base, create_only, no_create, limits, want) in [
+        ("A", 1, None, true, false, one, Outcome::Saved(1)),
         (
             "|",
-            too_big.as_str(),
+            2_097_153,
             Some(9),
             true,
             false,
-            none,
+            one,
             Outcome::Refused(SaveRefusal::InvalidTitle),
         ),
         (
             "A",
-            too_big.as_str(),
+            2_097_153,
             Some(9),
             true,
             false,
-            none,
+            one,
             Outcome::Refused(SaveRefusal::ContentTooBig),
         ),
         (
             "A",
-            "1",
+            1,
             Some(9),
             true,
             false,
-            none,
+            one,
             Outcome::Refused(SaveRefusal::ArticleExists),
         ),
         (
             "B",
-            "1",
+            1,
             Some(9),
             false,
             true,
-            none,
+            one,
             Outcome::Refused(SaveRefusal::MissingTitle),
         ),
-        ("A", "1", Some(9), false, true, none, conflict(1)),
-        ("A", "1\n", Some(1), false, true, none, Outcome::Same),
+        ("A", 1, Some(9), false, true, one, conflict(1)),
+        ("A", 1, Some(1), false, true, one, Outcome::Same),
         (
             "B",
-            "22",
+            2,
             Some(0),
             true,
             false,
-            none,
+            one,
             Outcome::Refused(SaveRefusal::WikiFull(Limit::Pages)),
         ),
         (
             "A",
-            "22",
+            2,
             Some(1),
             false,
             true,
-            none,
+            one,
             Outcome::Refused(SaveRefusal::WikiFull(Limit::Revisions)),
         ),
         (
             "A",
-            "22",
+            2,
             Some(1),
             false,
             true,
-            few,
+            two,
             Outcome::Refused(SaveRefusal::WikiFull(Limit::Text)),
         ),
-        ("A", "22", Some(1), false, true, enough, Outcome::Saved(2)),
+        ("A", 2, Some(1), false, true, three, Outcome::Saved(2)),
         (
             "B",
-            largest.as_str(),
+            2_097_152,
             None,
             false,
             false,
@@ -180,11 +189,12 @@ fn the_first_refusal_that_applies_is_given(rt: HostRuntime) -> Result<(), Fail> 
             Outcome::Saved(3),
         ),
     ] {
-        let mut edit = edit(alloc, title, Some(body), base)?;
+        let mut edit = edit_of_size(alloc, title, bytes, base)?;
         edit.create_only = create_only;
         edit.no_create = no_create;
+        assert!(rt; limits.pages <= 1_000_000);
         let got = save(alloc, &mut revs, &edit, &limits, 7)?;
-        assert_eq!(rt; got, want, "{title} {base:?}");
+        assert_eq!(rt; got, want, "{title} {bytes} {base:?}");
     }
     Ok(())
 }
