@@ -1,5 +1,5 @@
 //! A stream of bytes, cut into lines however the bytes come.
-ghost use Rattle.std.specs.Prelude.{◌==◌, count_by, ◌≡◌, ℕ, ◌+◌, ◌-◌, ◌<◌, ◌≤◌, ◌↔◌, List, [], ◌∷◌, ◌++◌, length, take, map, option_map, IfOk, IfSome, IfNone, OnOk, OnErr};
+ghost use Rattle.std.specs.Prelude.{◌≡◌, ◌==◌, ℕ, ◌+◌, ◌-◌, ◌<◌, ◌↔◌, List, [], ◌∷◌, ◌++◌, length, take, count_by, option_map, IfOk, IfSome, IfNone, OnOk, OnErr};
 ghost use Rattle.std.specs.Str.Lines.{strip_carriage_return};
 ghost use Rattle.wk_text_rules.specs.Lines.{within, lines};
 ghost use Rattle.wk_bytes.specs.LineCutter.{HasNoNewline, IsBegun, lines_of, lines_to_come};

@@ -1,6 +1,5 @@
 //! Text that is shared and doesn't change.
-ghost use Rattle.std.specs.Prelude.{◌≡◌, ℕ, ◌^◌, ◌<◌, ◌↔◌, [], length, IsTrue, IfOk};
-ghost use Rattle.std.specs.Prelude.{Some, nat_eq, refl};
+ghost use Rattle.std.specs.Prelude.{◌≡◌, ◌^◌, ◌<◌, ◌↔◌, [], length, IsTrue, IfOk, Some, nat_eq, refl};
 ghost use Rattle.std.specs.Str.{IsUtf8};
 ghost use Rattle.std.specs.Ordering.{nat_cmp};
 ghost use Rattle.std.specs.Hash as fed;
@@ -27,7 +26,6 @@ pub struct Text {
 
 impl Model for Text {
     ghost use Rattle.std.specs.Prelude.{ℕ, ◌^◌, ◌<◌, List, length};
-    ghost use Rattle.std.specs.Str.{IsUtf8};
     ghost use Rattle.std.specs.String.{string_bytes};
     ghost use Rattle.std.specs.Arc.{arc_value};
 

@@ -1,5 +1,4 @@
-use Rattle.std.proofs.Common.{◌≡◌, ◌+◌, ◌++◌, ◌∙◌, ap, arith, length, length-append}
-use Rattle.std.proofs.lemmas.List.{length-map}
+use Rattle.std.proofs.Common.{◌≡◌, ◌+◌, ◌∙◌, ap, arith, length}
 use Rattle.wk_bytes.specs.LineCutter.{lines_of}
 use Rattle.wk_bytes.proofs.LineLaws.{length-lines_of, count-first, count-none}
 use Rattle.wk_bytes.proofs.lines.LineCutter.push.Goals as goal
