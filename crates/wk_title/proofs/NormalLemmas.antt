@@ -1,5 +1,8 @@
 -- A title from the key that the first five rules leave.
-use Rattle.std.proofs.Common.{◌≡◌, ℕ, ℤ, ◌≤◌, Bool, true, false, not, ◌&&◌, ◌==◌, nat_lt, nat_le, List, [], ◌∷◌, length, chars, encode_utf8_all, Some, None, refl, sym, ap, ◌∙◌, arith}
+use Rattle.std.proofs.Common.{◌≡◌, ℕ, ℤ, ◌≤◌, Bool, true, false, not, ◌&&◌, ◌==◌, nat_lt, nat_le, List, [], ◌∷◌, length, chars, encode_utf8_all, Some, None, refl, sym, ap, ◌∙◌, inl, inr, arith}
+use Rattle.std.proofs.Math.Bridge.{le_prop}
+use Rattle.std.proofs.Math.Logic.{∥∥₁_elim}
+use Rattle.std.proofs.lemmas.Bool.{cases_Bool}
 use Rattle.std.proofs.lemmas.Bool.Decides.{nat_tests}
 use Rattle.std.specs.List.{list_any, starts_with}
 use Rattle.std.specs.Str.{IsUtf8}
@@ -78,3 +81,16 @@ legal_length cs legal = let few : nat_le (length (encode_utf8_all cs)) 255 ≡ t
 pub name_from : (text : List ℕ) (default_ns : ℤ) (title : PageTitle) → IsUtf8 text → is_namespace default_ns ≡ true → normal text default_ns ≡ Some title → IsNormal title
 name_from text default_ns title utf8 known names =
     ∣ (text, default_ns, record { text_is_utf8 = utf8; default_is_namespace = known; names = names }) ∣₁
+
+pub normal-Some : (text : List ℕ) (default_ns : ℤ) (title : PageTitle) → normal text default_ns ≡ Some title →
+    (is_legal_key (placed_key text default_ns).1 ≡ true) × (title ≡ record { ns = (placed_key text default_ns).0; key = encode_utf8_all (placed_key text default_ns).1 })
+normal-Some text default_ns title names = elim (cases_Bool (is_legal_key (placed_key text default_ns).1)) [
+  | inl legal ↦ let same = sym names ∙ normal-legal text default_ns legal in (legal, cc)
+  | inr illegal ↦ let clash = sym names ∙ normal-illegal text default_ns illegal in cc
+]
+
+pub short_key : (title : PageTitle) → IsNormal title → length title.key ≤ 255
+short_key title normal_title =
+    ∥∥₁_elim normal_title le_prop (λ named.
+    let parts = normal-Some named.0 named.1 title named.2.names in
+    rw parts.1 (legal_length _ parts.0))

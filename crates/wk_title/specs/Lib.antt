@@ -3,3 +3,4 @@ pub mod Legal
 pub mod Names
 pub mod Normal
 pub mod Placed
+pub mod Shown

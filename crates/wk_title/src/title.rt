@@ -33,7 +33,7 @@ impl Model for Title {
 }
 
 impl Title {
-    ghost use Rattle.std.specs.Prelude.{◌≡◌, IfOk};
+    ghost use Rattle.std.specs.Prelude.{◌≡◌, ◌≤◌, length, IfOk};
     ghost use Rattle.wk_text_rules.specs.Titles.{is_virtual};
     ghost use Rattle.wk_title.specs.Normal.{IsNormal};
 
@@ -53,7 +53,8 @@ impl Title {
 
     /// The key, with an underscore for each space. Takes no memory.
     pub fn key(&self) -> &str
-        ensures { result.now ≡ self.now.key }
+        ensures value { result.now ≡ self.now.key }
+        ensures short { length self.now.key ≤ 255 }
     {
         self.key.as_str()
     }
