@@ -1,15 +1,12 @@
 //! The text that a wiki keeps of a text that is saved.
 ghost use Rattle.std.specs.Prelude.{◌≡◌, ◌+◌, ◌==◌, ◌<◌, IfOk, chars, encode_utf8_all, length, slice_index, string_bytes};
-ghost use Rattle.std.specs.Char.{is_ascii};
-ghost use Rattle.std.specs.List.{list_all};
 ghost use Rattle.wk_text_rules.specs.Blank.{trimmed_end};
-ghost use Rattle.wk_text_rules.specs.Titles.{to_nfc};
 ghost use Rattle.wk_page_rules.specs.Kept.{with_newlines, kept};
 
 use std::alloc::{AllocError, Global};
-use unicode_normalization::slice::extend_nfc;
 use wk_bytes::trim_end;
 use wk_memory::Memory;
+use wk_title::to_nfc;
 
 fn is_newline_at(cs: &[char], i: usize) -> bool
     ensures { result ≡ (slice_index cs.now i == 10) }
@@ -30,24 +27,6 @@ fn with_newlines(alloc: Global, cs: &[char]) -> Result<Vec<char>, AllocError>
         }
     }
     Ok(out)
-}
-
-fn is_ascii(cs: &[char]) -> bool
-    ensures { result ≡ list_all is_ascii cs.now }
-{
-    cs.iter().all(|c| c.is_ascii())
-}
-
-/// The characters in Normalization Form C, by which those of ASCII stay as they are.
-fn to_nfc(alloc: Global, cs: Vec<char>) -> Result<Vec<char>, AllocError>
-    ensures { IfOk result (λ composed. composed.items ≡ to_nfc cs.items) }
-{
-    if is_ascii(&cs) {
-        return Ok(cs);
-    }
-    let mut composed = Vec::new(alloc);
-    extend_nfc(&mut composed, &cs)?;
-    Ok(composed)
 }
 
 fn characters(alloc: Global, text: &str) -> Result<Vec<char>, AllocError>

@@ -6,6 +6,8 @@ mod kept_text;
 mod pages;
 mod revisions;
 mod revs;
+#[cfg(test)]
+mod tests;
 mod verdict;
 
 pub use edit::{Edit, Limits};

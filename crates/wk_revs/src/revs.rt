@@ -80,7 +80,7 @@ impl Revs {
         ensures number { result ≡ next_revision self.old.history }
         ensures spare { self.new.spare + 1 ≡ self.old.spare }
     {
-        let number = self.revisions.len() as u64 + 1;
+        let number = self.next_revision();
         let parent = pages::current_revision(&self.pages, &title);
         // A deletion leaves the page missing.
         let current = if text.is_some() { number } else { 0 };
