@@ -2,4 +2,5 @@
 //! Nothing stands on this crate, and nothing here runs.
 #![tactic(auto)]
 
+pub mod tables;
 pub mod titles;

@@ -1,0 +1,71 @@
+-- The stores of the worked examples on tables: a good one, and others that break a rule in one place.
+use Rattle.std.specs.Prelude.{ℕ, ◌-◌, ◌^◌, ℤ, pos, negsuc, Bool, true, false, List, [], ◌∷◌, ◌++◌, codes, length, replicate, Option, Some}
+use Rattle.wk_text_rules.specs.Titles.{PageTitle}
+use Rattle.wk_table_rules.specs.declared.BadStore.{BadStore}
+use Rattle.wk_table_rules.specs.declared.Reach.TheVariants.{Text, Both}
+use Rattle.wk_table_rules.specs.Rows.{PageColumns, RevisionColumns, LinkColumns, CategoryColumns, RedirectColumns, JobColumns, StoreTables}
+use Rattle.wk_table_rules.specs.JobTable.{fan_row, refresh_row}
+use Rattle.wk_table_rules.specs.GoodStore.{first_broken}
+
+-- ---- short forms of rows
+
+abbrev pub main : List ℕ → PageTitle
+main key = record { ns = pos 0; key = key }
+
+abbrev pub template : List ℕ → PageTitle
+template key = record { ns = pos 10; key = key }
+
+abbrev pub special : List ℕ → PageTitle
+special key = record { ns = negsuc 0; key = key }
+
+-- the number, the title, the current revision and the length
+abbrev pub page : ℕ → PageTitle → ℕ → ℕ → PageColumns
+page id title latest len = record { page_id = id; page_title = title; page_latest = latest; page_len = len }
+
+-- the number, the page, the parent and the text
+abbrev pub revision : ℕ → ℕ → ℕ → List ℕ → RevisionColumns
+revision id page parent text = record {
+  rev_id = id; rev_page = page; rev_parent_id = parent; rev_timestamp = 7; rev_len = length text; rev_gone = false; rev_text = text;
+}
+
+abbrev pub deletion : ℕ → ℕ → ℕ → RevisionColumns
+deletion id page parent = record {
+  rev_id = id; rev_page = page; rev_parent_id = parent; rev_timestamp = 8; rev_len = 0; rev_gone = true; rev_text = [];
+}
+
+-- a link row of a page in main
+abbrev pub link : ℕ → PageTitle → LinkColumns
+link from title = record { from = from; from_namespace = pos 0; target = title }
+
+abbrev pub category : ℕ → List ℕ → CategoryColumns
+category from key = record { cl_from = from; cl_to = key; cl_sortkey = codes "A"; cl_sortkey_prefix = [] }
+
+abbrev pub redirect : ℕ → PageTitle → RedirectColumns
+redirect from title = record { rd_from = from; rd_title = title }
+
+abbrev pub fan_job : ℕ → PageTitle → List ℕ → JobColumns
+fan_job id title params = record { job_id = id; job_cmd = codes "fan"; job_title = title; job_params = params }
+
+-- ---- stores
+
+-- A is there; B was saved and deleted, and is a page without text. A includes Template:T.
+abbrev pub good : ℕ → StoreTables
+good version = record {
+  pages = page 1 (main (codes "A")) 1 5 ∷ page 2 (main (codes "B")) 0 0 ∷ [];
+  revisions = revision 1 1 0 (codes "{{T}}") ∷ revision 2 2 0 (codes "y") ∷ deletion 3 2 2 ∷ [];
+  pagelinks = link 1 (main (codes "B")) ∷ link 1 (template (codes "T")) ∷ [];
+  templatelinks = link 1 (template (codes "T")) ∷ [];
+  existlinks = link 1 (main (codes "B")) ∷ link 2 (main (codes "A")) ∷ [];
+  categorylinks = category 1 (codes "X") ∷ category 1 (codes "Y") ∷ [];
+  redirects = [];
+  jobs = refresh_row 1 (main (codes "A")) ∷ fan_row 4 (template (codes "T")) (record { reach = Text; cursor = 1 }) ∷ [];
+  version = version;
+}
+
+-- what is told of a store with version 1 and with version 2
+abbrev pub told : (ℕ → StoreTables) → List (Option BadStore)
+told store = first_broken (store 1) ∷ first_broken (store 2) ∷ []
+
+-- with both versions this rule is broken, and this is its least row
+abbrev pub both : ℕ → ℕ → List (Option BadStore)
+both rule row = Some (record { rule = rule; row = row }) ∷ Some (record { rule = rule; row = row }) ∷ []
