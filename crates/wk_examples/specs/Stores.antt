@@ -1,9 +1,10 @@
 -- The stores of the worked examples on tables: a good one, and others that break a rule in one place.
-use Rattle.std.specs.Prelude.{ℕ, ◌-◌, ◌^◌, ℤ, pos, negsuc, Bool, true, false, List, [], ◌∷◌, ◌++◌, codes, length, replicate, Option, Some}
+use Rattle.std.specs.Prelude.{ℕ, pos, negsuc, true, false, List, [], ◌∷◌, codes, length, Option, Some}
 use Rattle.wk_text_rules.specs.Titles.{PageTitle}
 use Rattle.wk_table_rules.specs.declared.BadStore.{BadStore}
-use Rattle.wk_table_rules.specs.declared.Reach.TheVariants.{Text, Both}
-use Rattle.wk_table_rules.specs.Rows.{PageColumns, RevisionColumns, LinkColumns, CategoryColumns, RedirectColumns, JobColumns, StoreTables}
+use Rattle.wk_table_rules.specs.declared.Reach.TheVariants.{Text}
+use Rattle.wk_table_rules.specs.Rows.{category_title, PageColumns, RevisionColumns, LinkColumns, CategoryColumns, RedirectColumns, JobColumns, StoreTables}
+use Rattle.wk_table_rules.specs.Changes.{Member}
 use Rattle.wk_table_rules.specs.JobTable.{fan_row, refresh_row}
 use Rattle.wk_table_rules.specs.GoodStore.{first_broken}
 
@@ -25,12 +26,24 @@ page id title latest len = record { page_id = id; page_title = title; page_lates
 -- the number, the page, the parent and the text
 abbrev pub revision : ℕ → ℕ → ℕ → List ℕ → RevisionColumns
 revision id page parent text = record {
-  rev_id = id; rev_page = page; rev_parent_id = parent; rev_timestamp = 7; rev_len = length text; rev_gone = false; rev_text = text;
+  rev_id = id;
+  rev_page = page;
+  rev_parent_id = parent;
+  rev_timestamp = 7;
+  rev_len = length text;
+  rev_gone = false;
+  rev_text = text;
 }
 
 abbrev pub deletion : ℕ → ℕ → ℕ → RevisionColumns
 deletion id page parent = record {
-  rev_id = id; rev_page = page; rev_parent_id = parent; rev_timestamp = 8; rev_len = 0; rev_gone = true; rev_text = [];
+  rev_id = id;
+  rev_page = page;
+  rev_parent_id = parent;
+  rev_timestamp = 8;
+  rev_len = 0;
+  rev_gone = true;
+  rev_text = [];
 }
 
 -- a link row of a page in main
@@ -39,6 +52,10 @@ link from title = record { from = from; from_namespace = pos 0; target = title }
 
 abbrev pub category : ℕ → List ℕ → CategoryColumns
 category from key = record { cl_from = from; cl_to = key; cl_sortkey = codes "A"; cl_sortkey_prefix = [] }
+
+-- what the row of that form says of its page
+abbrev pub member : List ℕ → Member
+member key = record { category = category_title key; sortkey = codes "A"; prefix = [] }
 
 abbrev pub redirect : ℕ → PageTitle → RedirectColumns
 redirect from title = record { rd_from = from; rd_title = title }
@@ -62,10 +79,14 @@ good version = record {
   version = version;
 }
 
+-- this rule is the first that is broken, and this is its least row
+abbrev pub broken : ℕ → ℕ → Option BadStore
+broken rule row = Some (record { rule = rule; row = row })
+
 -- what is told of a store with version 1 and with version 2
 abbrev pub told : (ℕ → StoreTables) → List (Option BadStore)
 told store = first_broken (store 1) ∷ first_broken (store 2) ∷ []
 
--- with both versions this rule is broken, and this is its least row
+-- the same is told with both versions
 abbrev pub both : ℕ → ℕ → List (Option BadStore)
-both rule row = Some (record { rule = rule; row = row }) ∷ Some (record { rule = rule; row = row }) ∷ []
+both rule row = broken rule row ∷ broken rule row ∷ []
