@@ -65,19 +65,73 @@ fan_job id title params = record { job_id = id; job_cmd = codes "fan"; job_title
 
 -- ---- stores
 
--- A is there; B was saved and deleted, and is a page without text. A includes Template:T.
+abbrev pub title_a : PageTitle
+title_a = main (codes "A")
+
+abbrev pub title_b : PageTitle
+title_b = main (codes "B")
+
+abbrev pub title_t : PageTitle
+title_t = template (codes "T")
+
+-- A is there, and B is a page without text
+abbrev pub page_a : PageColumns
+page_a = page 1 title_a 1 5
+
+abbrev pub page_b : PageColumns
+page_b = page 2 title_b 0 0
+
+abbrev pub revision_1 : RevisionColumns
+revision_1 = revision 1 1 0 (codes "{{T}}")
+
+abbrev pub revision_2 : RevisionColumns
+revision_2 = revision 2 2 0 (codes "y")
+
+abbrev pub deletion_3 : RevisionColumns
+deletion_3 = deletion 3 2 2
+
+-- a store that breaks no rule with version 1 or 2
 abbrev pub good : ℕ → StoreTables
 good version = record {
-  pages = page 1 (main (codes "A")) 1 5 ∷ page 2 (main (codes "B")) 0 0 ∷ [];
-  revisions = revision 1 1 0 (codes "{{T}}") ∷ revision 2 2 0 (codes "y") ∷ deletion 3 2 2 ∷ [];
-  pagelinks = link 1 (main (codes "B")) ∷ link 1 (template (codes "T")) ∷ [];
-  templatelinks = link 1 (template (codes "T")) ∷ [];
-  existlinks = link 1 (main (codes "B")) ∷ link 2 (main (codes "A")) ∷ [];
+  pages = page_a ∷ page_b ∷ [];
+  revisions = revision_1 ∷ revision_2 ∷ deletion_3 ∷ [];
+  pagelinks = link 1 title_b ∷ link 1 title_t ∷ [];
+  templatelinks = link 1 title_t ∷ [];
+  existlinks = link 1 title_b ∷ link 2 title_a ∷ [];
   categorylinks = category 1 (codes "X") ∷ category 1 (codes "Y") ∷ [];
   redirects = [];
-  jobs = refresh_row 1 (main (codes "A")) ∷ fan_row 4 (template (codes "T")) (record { reach = Text; cursor = 1 }) ∷ [];
+  jobs = refresh_row 1 title_a ∷ fan_row 4 title_t (record { reach = Text; cursor = 1 }) ∷ [];
   version = version;
 }
+
+-- the good store with other rows in one table
+
+abbrev pub with_pages : List PageColumns → ℕ → StoreTables
+with_pages rows version = record (good version) { pages = rows }
+
+abbrev pub with_revisions : List RevisionColumns → ℕ → StoreTables
+with_revisions rows version = record (good version) { revisions = rows }
+
+abbrev pub with_history : List PageColumns → List RevisionColumns → ℕ → StoreTables
+with_history pages revisions version = record (good version) { pages = pages; revisions = revisions }
+
+abbrev pub with_pagelinks : List LinkColumns → ℕ → StoreTables
+with_pagelinks rows version = record (good version) { pagelinks = rows }
+
+abbrev pub with_templatelinks : List LinkColumns → ℕ → StoreTables
+with_templatelinks rows version = record (good version) { templatelinks = rows }
+
+abbrev pub with_existlinks : List LinkColumns → ℕ → StoreTables
+with_existlinks rows version = record (good version) { existlinks = rows }
+
+abbrev pub with_categorylinks : List CategoryColumns → ℕ → StoreTables
+with_categorylinks rows version = record (good version) { categorylinks = rows }
+
+abbrev pub with_redirects : List RedirectColumns → ℕ → StoreTables
+with_redirects rows version = record (good version) { redirects = rows }
+
+abbrev pub with_jobs : List JobColumns → ℕ → StoreTables
+with_jobs rows version = record (good version) { jobs = rows }
 
 -- this rule is the first that is broken, and this is its least row
 abbrev pub broken : ℕ → ℕ → Option BadStore

@@ -2,5 +2,6 @@
 //! Nothing stands on this crate, and nothing here runs.
 #![tactic(auto)]
 
+pub mod jobs;
 pub mod tables;
 pub mod titles;
