@@ -1,7 +1,7 @@
 -- The refresh jobs and the fan jobs of a wiki, and what each call does to them (MediaWiki's Manual:Job queue; tickets,
 -- fan jobs and the order are own).
-use Rattle.std.specs.Prelude.{ℕ, ◌+◌, Bool, false, ◌&&◌, ◌==◌, not, List, [], ◌∷◌, ◌++◌, length, map, filter, find, drop, count_by, slice_get, Option, Some, None, is_none, is_some, option_map, if◌then◌else◌}
-use Rattle.std.specs.List.{list_any}
+use Rattle.std.specs.Prelude.{ℕ, ◌+◌, ◌<◌, ◌≤◌, nat_eq, All, Bool, false, ◌&&◌, ◌==◌, not, List, [], ◌∷◌, ◌++◌, length, map, filter, find, drop, count_by, slice_get, Option, Some, None, is_none, is_some, option_map, if◌then◌else◌}
+use Rattle.std.specs.List.{IsDistinct, list_any}
 use Rattle.wk_text_rules.specs.Titles.{PageTitle, title_eq}
 use Rattle.wk_table_rules.specs.declared.Reach.{Reach}
 use Rattle.wk_table_rules.specs.declared.Reach.TheVariants.{Text, Both}
@@ -151,3 +151,31 @@ fan_moved lists cursor = record lists { fans = with_first_cursor lists.fans curs
 -- the first fan job goes
 abbrev pub fan_dropped : JobLists → JobLists
 fan_dropped lists = record lists { fans = drop 1 lists.fans }
+
+-- ---- what is true of the lists at all times
+
+-- the pages of the refresh jobs, in the order of the jobs
+abbrev pub pages_of : JobLists → List ℕ
+pages_of lists = map (λ job. job.page) lists.refreshes
+
+-- the titles of the fan jobs, in the order of the jobs
+abbrev pub titles_of : JobLists → List PageTitle
+titles_of lists = map (λ job. job.title) lists.fans
+
+-- the numbers of all jobs
+abbrev pub numbers_of : JobLists → List ℕ
+numbers_of lists = map (λ job. job.number) lists.refreshes ++ map (λ job. job.number) lists.fans
+
+-- a page has at most one refresh job
+abbrev pub IsOneAPage : JobLists → Type 0
+IsOneAPage lists = IsDistinct nat_eq (pages_of lists)
+
+-- a title has at most one fan job
+abbrev pub IsOneATitle : JobLists → Type 0
+IsOneATitle lists = IsDistinct title_eq (titles_of lists)
+
+-- every job has a number of its own, from 1 on, and the next number is above them all
+pub record IsNumbered (lists : JobLists) : Type 0 where
+  pub own : IsDistinct nat_eq (numbers_of lists)
+  pub bounded : All (λ number. (1 ≤ number) × (number < lists.next)) (numbers_of lists)
+  pub positive : 1 ≤ lists.next
