@@ -151,15 +151,15 @@ is_good_refresh tables before job =
 
 abbrev pub is_good_fan : List JobColumns → JobColumns → Bool
 is_good_fan before job =
-    is_normal job.job_title
+    bytes_eq job.job_cmd fan_cmd
+    && is_normal job.job_title
     && not (stands_already before fan_cmd job.job_title)
     && elim (fan_params job.job_params) [ None ↦ false | Some params ↦ nat_le params.cursor max_pages ]
 
 abbrev pub is_good_job : StoreTables → List JobColumns → JobColumns → Bool
 is_good_job tables before job =
     is_good_number tables.version before job
-    && (if bytes_eq job.job_cmd refresh_cmd then is_good_refresh tables before job
-    else bytes_eq job.job_cmd fan_cmd && is_good_fan before job)
+    && (if bytes_eq job.job_cmd refresh_cmd then is_good_refresh tables before job else is_good_fan before job)
 
 -- ---- seventh: the version is 1 or 2, and with version 1 there is no redirect row; the version's row is counted on
 -- ---- behind the redirect rows
@@ -176,15 +176,27 @@ bad_version tables =
 abbrev pub bad_history : StoreTables → Option ℕ
 bad_history tables = lesser (first_bad has_good_parent tables.revisions) (first_bad (has_good_latest tables) tables.pages)
 
-abbrev pub bad_link : StoreTables → Option ℕ
-bad_link tables =
-    first_in_tables (
+-- the link tables and the redirect table, in this order
+abbrev pub judged_links : StoreTables → List (ℕ × Option ℕ)
+judged_links tables =
     judged_table (is_good_link tables) tables.pagelinks
     ∷ judged_table (is_good_link tables) tables.templatelinks
     ∷ judged_table (is_good_link tables) tables.existlinks
     ∷ judged_table (is_good_category tables) tables.categorylinks
     ∷ judged_table (is_good_redirect tables) tables.redirects
-    ∷ [])
+    ∷ []
+
+-- the least bad row of each rule, from the first rule to the seventh
+abbrev pub judged_rules : StoreTables → List (Option ℕ)
+judged_rules tables =
+    first_bad has_good_id tables.pages
+    ∷ first_bad has_good_title tables.pages
+    ∷ first_bad (is_good_revision tables) tables.revisions
+    ∷ bad_history tables
+    ∷ first_in_tables (judged_links tables)
+    ∷ first_bad (is_good_job tables) tables.jobs
+    ∷ bad_version tables
+    ∷ []
 
 -- the first rule with a bad row, where the first of these rules has this number
 abbrev pub first_rule : ℕ → List (Option ℕ) → Option BadStore
@@ -193,16 +205,7 @@ first_rule rule (Some row ∷ rules) = Some (record { rule = rule; row = row })
 first_rule rule (None ∷ rules) = first_rule (rule + 1) rules
 
 unfoldable pub first_broken : StoreTables → Option BadStore
-first_broken tables =
-    first_rule 1 (
-    first_bad has_good_id tables.pages
-    ∷ first_bad has_good_title tables.pages
-    ∷ first_bad (is_good_revision tables) tables.revisions
-    ∷ bad_history tables
-    ∷ bad_link tables
-    ∷ first_bad (is_good_job tables) tables.jobs
-    ∷ bad_version tables
-    ∷ [])
+first_broken tables = first_rule 1 (judged_rules tables)
 
 -- no rule is broken
 abbrev pub IsGood : StoreTables → Type 0

@@ -37,9 +37,9 @@ params_text params = reach_word params.reach ++ 58 ∷ decimal params.cursor
 -- what stands in a row's params, where they have that form and N is a decimal number
 abbrev pub fan_params : List ℕ → Option FanParams
 fan_params text =
-    option_and_then
-    (λ reach. option_map (λ cursor. record { reach = reach; cursor = cursor }) (decimal_number (after_first is_colon text)))
-    (reach_called (before_first is_colon text))
+    let asked = reach_called (before_first is_colon text) in
+    let served = decimal_number (after_first is_colon text) in
+    option_and_then (λ reach. option_map (λ cursor. record { reach = reach; cursor = cursor }) served) asked
 
 -- the row of a refresh job with this number, of the page with this title
 abbrev pub refresh_row : ℕ → PageTitle → JobColumns
