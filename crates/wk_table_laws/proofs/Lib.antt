@@ -1,2 +1,3 @@
 pub mod FirstBad
 pub mod Pairs
+pub mod Links

@@ -1,1 +1,2 @@
 pub mod EachGood
+pub mod Premises
