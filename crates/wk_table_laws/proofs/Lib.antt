@@ -1,3 +1,4 @@
 pub mod FirstBad
 pub mod Pairs
 pub mod Links
+pub mod JobRows

@@ -1,11 +1,12 @@
 -- What an edit must bring so that good tables stay good.
-use Rattle.std.specs.Prelude.{◌≡◌, ℕ, Bool, true, ◌&&◌, List, IfSome}
+use Rattle.std.specs.Prelude.{◌≡◌, ℕ, Bool, true, false, ◌&&◌, ◌==◌, nat_le, List, length, find, bytes_eq, Option, Some, None, IfSome, if◌then◌else◌}
 use Rattle.std.specs.List.{list_all}
 use Rattle.std.specs.Ordering.{is_lt}
 use Rattle.wk_text_rules.specs.Titles.{PageTitle, title_cmp}
-use Rattle.wk_table_rules.specs.Rows.{StoreTables, category_title}
+use Rattle.wk_table_rules.specs.Rows.{JobColumns, StoreTables, category_title}
 use Rattle.wk_table_rules.specs.Changes.{Member, PageLinks, has_page}
-use Rattle.wk_table_rules.specs.GoodStore.{is_normal, is_real}
+use Rattle.wk_table_rules.specs.JobTable.{fan_params, refresh_cmd}
+use Rattle.wk_table_rules.specs.GoodStore.{is_normal, is_real, max_pages}
 use Rattle.wk_table_laws.specs.EachGood.{EachGood}
 
 -- a title that a page can have, behind all titles before it
@@ -28,3 +29,15 @@ pub record FitLinks (tables : StoreTables) (page : ℕ) (new : PageLinks) : Type
   pub links : EachGood is_next_title new.links
   pub members : EachGood is_next_member new.members
   pub redirect : IfSome new.redirect (λ title. is_real title ≡ true)
+
+-- a job's params are of its kind
+abbrev pub has_good_params : JobColumns → Bool
+has_good_params job =
+    if bytes_eq job.job_cmd refresh_cmd then length job.job_params == 0
+    else elim (fan_params job.job_params) [ None ↦ false | Some params ↦ nat_le params.cursor max_pages ]
+
+-- the row of a job that is there, with other params of its kind
+pub record FitJob (tables : StoreTables) (old new : JobColumns) : Type 0 where
+  pub there : find (λ row. row.job_id == new.job_id) tables.jobs ≡ Some old
+  pub same : new ≡ record old { job_params = new.job_params }
+  pub params : has_good_params new ≡ true
