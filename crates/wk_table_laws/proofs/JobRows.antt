@@ -79,7 +79,7 @@ job-splits tables before job =
 
 -- ---- a job is changed
 
-slice_get-within : {X : Type 0} (xs : List X) (i : ℕ) (x : X) → slice_get xs i ≡ Some x → i < length xs
+pub slice_get-within : {X : Type 0} (xs : List X) (i : ℕ) (x : X) → slice_get xs i ≡ Some x → i < length xs
 slice_get-within [] i x there = absurd (let e : None ≡ Some x = there in cc)
 slice_get-within (y ∷ xs) zero x there = omega arith
 slice_get-within (y ∷ xs) (suc i) x there = let within = slice_get-within xs i x there in omega arith
@@ -115,10 +115,10 @@ alone-kept tables old new same params good =
     let kind_kept : is_good_kind tables new ≡ true = subst (λ job. is_good_kind tables job ≡ true) (sym same) kind.0 in
     and_from (leb 1 new.job_id && ltb new.job_id (job_bound tables.version)) (is_good_kind tables new && has_good_params new) number_kept (and_from (is_good_kind tables new) (has_good_params new) kind_kept params)
 
-position-found : {X : Type 0} (p : X → Bool) (xs : List X) → ltb (position_or_len p xs) (length xs) ≡ true → position p xs ≡ Some (position_or_len p xs)
+pub position-found : {X : Type 0} (p : X → Bool) (xs : List X) → ltb (position_or_len p xs) (length xs) ≡ true → position p xs ≡ Some (position_or_len p xs)
 position-found p xs within = rw within refl
 
-position-none : {X : Type 0} (p : X → Bool) (xs : List X) → ltb (position_or_len p xs) (length xs) ≡ false → position p xs ≡ None
+pub position-none : {X : Type 0} (p : X → Bool) (xs : List X) → ltb (position_or_len p xs) (length xs) ≡ false → position p xs ≡ None
 position-none p xs past = rw past refl
 
 with_job-at : (rows : List JobColumns) (new : JobColumns) (place : ℕ) → position (λ row. eqb row.job_id new.job_id) rows ≡ Some place → with_job rows new ≡ set rows place new
@@ -151,7 +151,7 @@ jobs-drop tables id good =
 
 -- ---- the version rises
 
-GoodAfter-weaker : {Row : Type 0} (g h : List Row → Row → Bool) → ((before : List Row) (row : Row) → g before row ≡ true → h before row ≡ true) → (before rows : List Row) → GoodAfter g before rows → GoodAfter h before rows
+pub GoodAfter-weaker : {Row : Type 0} (g h : List Row → Row → Bool) → ((before : List Row) (row : Row) → g before row ≡ true → h before row ≡ true) → (before rows : List Row) → GoodAfter g before rows → GoodAfter h before rows
 GoodAfter-weaker g h weaker before [] good = tt
 GoodAfter-weaker g h weaker before (row ∷ rows) good = (weaker before row good.0, GoodAfter-weaker g h weaker (before ++ row ∷ []) rows good.1)
 

@@ -2,3 +2,4 @@ pub mod FirstBad
 pub mod Pairs
 pub mod Links
 pub mod JobRows
+pub mod SavedRows

@@ -1,12 +1,13 @@
 -- What an edit must bring so that good tables stay good.
-use Rattle.std.specs.Prelude.{◌≡◌, ℕ, Bool, true, false, ◌&&◌, ◌==◌, nat_le, List, length, find, bytes_eq, Option, Some, None, IfSome, if◌then◌else◌}
+use Rattle.std.specs.Prelude.{◌≡◌, ℕ, Bool, true, false, ◌&&◌, ◌||◌, ◌==◌, not, nat_le, ◌+◌, ◌≤◌, List, [], ◌∷◌, ◌++◌, length, find, bytes_eq, Option, Some, None, IfSome, if◌then◌else◌}
 use Rattle.std.specs.List.{list_all}
 use Rattle.std.specs.Ordering.{is_lt}
 use Rattle.wk_text_rules.specs.Titles.{PageTitle, title_cmp}
-use Rattle.wk_table_rules.specs.Rows.{JobColumns, StoreTables, category_title}
+use Rattle.wk_page_rules.specs.Verdict.{max_text}
+use Rattle.wk_table_rules.specs.Rows.{JobColumns, PageColumns, RevisionColumns, StoreTables, category_title}
 use Rattle.wk_table_rules.specs.Changes.{Member, PageLinks, has_page}
 use Rattle.wk_table_rules.specs.JobTable.{fan_params, refresh_cmd}
-use Rattle.wk_table_rules.specs.GoodStore.{is_normal, is_real, max_pages}
+use Rattle.wk_table_rules.specs.GoodStore.{current_of, has_good_title, is_normal, is_real, max_pages, max_texts, texts_len}
 use Rattle.wk_table_laws.specs.EachGood.{EachGood}
 
 -- a title that a page can have, behind all titles before it
@@ -41,3 +42,26 @@ pub record FitJob (tables : StoreTables) (old new : JobColumns) : Type 0 where
   pub there : find (λ row. row.job_id == new.job_id) tables.jobs ≡ Some old
   pub same : new ≡ record old { job_params = new.job_params }
   pub params : has_good_params new ≡ true
+
+-- a revision that is the next one, and the row that its page has from then on
+pub record FitRevision (tables : StoreTables) (revision : RevisionColumns) (page : PageColumns) : Type 0 where
+  pub number : revision.rev_id ≡ length tables.revisions + 1
+  pub of_page : revision.rev_page ≡ page.page_id
+  pub parent : revision.rev_parent_id ≡ current_of tables.revisions page.page_id
+  pub gone : (not revision.rev_gone || length revision.rev_text == 0) ≡ true
+  pub len : revision.rev_len ≡ length revision.rev_text
+  pub short : revision.rev_len ≤ max_text
+  pub room : texts_len (tables.revisions ++ revision ∷ []) ≤ max_texts
+  pub latest : page.page_latest ≡ (if revision.rev_gone then 0 else revision.rev_id)
+  pub page_len : page.page_len ≡ revision.rev_len
+
+-- the row of a page that is there, with its title
+pub record IsStanding (tables : StoreTables) (old new : PageColumns) : Type 0 where
+  pub there : find (λ row. row.page_id == new.page_id) tables.pages ≡ Some old
+  pub title : new.page_title ≡ old.page_title
+
+-- the row of the next page, with a title of its own
+pub record IsNext (tables : StoreTables) (new : PageColumns) : Type 0 where
+  pub number : new.page_id ≡ length tables.pages + 1
+  pub few : new.page_id ≤ max_pages
+  pub title : has_good_title tables.pages new ≡ true
