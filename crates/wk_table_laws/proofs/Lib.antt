@@ -3,3 +3,4 @@ pub mod Pairs
 pub mod Links
 pub mod JobRows
 pub mod SavedRows
+pub mod SavedPages

@@ -41,7 +41,7 @@ row_lt-same page t u = rw (nat_cmp-same page) refl
 
 -- ---- rows made of good items
 
-GoodAfter-map : {A Row : Type 0} (f : A → Row) (g : List A → A → Bool) (h : List Row → Row → Bool) → ((before : List A) (x : A) → g before x ≡ true → h (map f before) (f x) ≡ true) → (before xs : List A) → GoodAfter g before xs → GoodAfter h (map f before) (map f xs)
+pub GoodAfter-map : {A Row : Type 0} (f : A → Row) (g : List A → A → Bool) (h : List Row → Row → Bool) → ((before : List A) (x : A) → g before x ≡ true → h (map f before) (f x) ≡ true) → (before xs : List A) → GoodAfter g before xs → GoodAfter h (map f before) (map f xs)
 GoodAfter-map f g h step before [] good = tt
 GoodAfter-map f g h step before (x ∷ xs) good =
     (step before x good.0, rw (← map-append f before (x ∷ [])) (GoodAfter-map f g h step (before ++ x ∷ []) xs good.1))

@@ -23,10 +23,10 @@ use Rattle.wk_table_laws.proofs.JobRows.{GoodAfter-weaker, position-found, posit
 -- ---- the page table grows
 
 -- what is known of the pages of the tables stays known
-record Grows (tables : StoreTables) (pages : List PageColumns) : Type 0 where
-  there : (id : ℕ) → has_page tables id ≡ true → list_any (λ row. eqb row.page_id id) pages ≡ true
-  named : (title : PageTitle) → list_any (λ row. title_eq row.page_title title) tables.pages ≡ true → list_any (λ row. title_eq row.page_title title) pages ≡ true
-  placed : (id : ℕ) → has_page tables id ≡ true → namespace_of (record tables { pages = pages }) id ≡ namespace_of tables id
+pub record Grows (tables : StoreTables) (pages : List PageColumns) : Type 0 where
+  pub there : (id : ℕ) → has_page tables id ≡ true → list_any (λ row. eqb row.page_id id) pages ≡ true
+  pub named : (title : PageTitle) → list_any (λ row. title_eq row.page_title title) tables.pages ≡ true → list_any (λ row. title_eq row.page_title title) pages ≡ true
+  pub placed : (id : ℕ) → has_page tables id ≡ true → namespace_of (record tables { pages = pages }) id ≡ namespace_of tables id
 
 module _ (tables : StoreTables) (pages : List PageColumns) (revisions : List RevisionColumns) (grows : Grows tables pages) where
   revision-grows : (before : List RevisionColumns) (row : RevisionColumns) → is_good_revision tables before row ≡ true → is_good_revision (record tables { pages = pages; revisions = revisions }) before row ≡ true
@@ -111,13 +111,13 @@ has_good_latest-is tables before page = go (last_revision tables.revisions page.
 
 -- ---- what is not about the pages' own rows
 
-each-at : {X : Type 0} (P : X → Type 0) (xs : List X) (i : ℕ) (x : X) → slice_get xs i ≡ Some x → AllByRecursion P xs → P x
+pub each-at : {X : Type 0} (P : X → Type 0) (xs : List X) (i : ℕ) (x : X) → slice_get xs i ≡ Some x → AllByRecursion P xs → P x
 each-at P [] i x there all = absurd (let e : None ≡ Some x = there in cc)
 each-at P (y ∷ xs) zero x there all = let e : y ≡ x = (let same : Some y ≡ Some x = there in cc) in subst P e all.0
 each-at P (y ∷ xs) (suc i) x there all = each-at P xs i x there all.1
 
 -- the ids of later rows are above the number of the rows before them
-ids-above : (before rows : List PageColumns) → GoodAfter has_good_id before rows → AllByRecursion (λ row. length before < row.page_id) rows
+pub ids-above : (before rows : List PageColumns) → GoodAfter has_good_id before rows → AllByRecursion (λ row. length before < row.page_id) rows
 ids-above before [] good = tt
 ids-above before (row ∷ rows) good =
     let parts = and_parts (eqb row.page_id (length before + 1)) (leb row.page_id max_pages) good.0 in
@@ -126,7 +126,7 @@ ids-above before (row ∷ rows) good =
     ( omega arith
     , each-weaker (λ later. length (before ++ row ∷ []) < later.page_id) (λ later. length before < later.page_id) (λ later above. omega arith) rows (ids-above (before ++ row ∷ []) rows good.1))
 
-ids-within : (before rows : List PageColumns) → GoodAfter has_good_id before rows → AllByRecursion (λ row. row.page_id ≤ length before + length rows) rows
+pub ids-within : (before rows : List PageColumns) → GoodAfter has_good_id before rows → AllByRecursion (λ row. row.page_id ≤ length before + length rows) rows
 ids-within before [] good = tt
 ids-within before (row ∷ rows) good =
     let parts = and_parts (eqb row.page_id (length before + 1)) (leb row.page_id max_pages) good.0 in
@@ -136,7 +136,7 @@ ids-within before (row ∷ rows) good =
     , each-weaker (λ later. later.page_id ≤ length (before ++ row ∷ []) + length rows) (λ later. later.page_id ≤ length before + length (row ∷ rows)) (λ later within. omega arith) rows (ids-within (before ++ row ∷ []) rows good.1))
 
 module _ (tables : StoreTables) (revision : RevisionColumns) (page : PageColumns) (fit : FitRevision tables revision page) (pages : List PageColumns) where
-  latest-own : has_good_latest (record tables { pages = pages; revisions = tables.revisions ++ revision ∷ [] }) [] page ≡ true
+  pub latest-own : has_good_latest (record tables { pages = pages; revisions = tables.revisions ++ revision ∷ [] }) [] page ≡ true
   unfolding latest_by
   latest-own =
       let own : eqb revision.rev_page page.page_id ≡ true = eq-eqb revision.rev_page page.page_id fit.of_page in
@@ -145,7 +145,7 @@ module _ (tables : StoreTables) (revision : RevisionColumns) (page : PageColumns
           (and_from (eqb page.page_latest (cond revision.rev_gone 0 revision.rev_id)) (eqb page.page_len revision.rev_len)
               (eq-eqb page.page_latest (cond revision.rev_gone 0 revision.rev_id) fit.latest) (eq-eqb page.page_len revision.rev_len fit.page_len))
 
-  latest-other : (row : PageColumns) → (row.page_id ≡ page.page_id → ⊥) → has_good_latest tables [] row ≡ true → has_good_latest (record tables { pages = pages; revisions = tables.revisions ++ revision ∷ [] }) [] row ≡ true
+  pub latest-other : (row : PageColumns) → (row.page_id ≡ page.page_id → ⊥) → has_good_latest tables [] row ≡ true → has_good_latest (record tables { pages = pages; revisions = tables.revisions ++ revision ∷ [] }) [] row ≡ true
   latest-other row apart good =
       let other : eqb revision.rev_page row.page_id ≡ false = ne_eqb revision.rev_page row.page_id (λ same. apart (sym same ∙ fit.of_page)) in
       let before : latest_by (last_revision tables.revisions row.page_id) row ≡ true = sym (has_good_latest-is tables [] row) ∙ good in
@@ -153,7 +153,7 @@ module _ (tables : StoreTables) (revision : RevisionColumns) (page : PageColumns
       ∙ rw (last_revision-other tables.revisions revision row.page_id other) before
 
   -- a revision is appended; the page table has these rows from then on
-  KeepsRules-saved : KeepsRules tables → Grows tables pages → list_any (λ row. eqb row.page_id revision.rev_page) pages ≡ true
+  pub KeepsRules-saved : KeepsRules tables → Grows tables pages → list_any (λ row. eqb row.page_id revision.rev_page) pages ≡ true
       → EachGood has_good_id pages → EachGood has_good_title pages
       → AllByRecursion (λ row. has_good_latest (record tables { pages = pages; revisions = tables.revisions ++ revision ∷ [] }) [] row ≡ true) pages
       → KeepsRules (record tables { pages = pages; revisions = tables.revisions ++ revision ∷ [] })
