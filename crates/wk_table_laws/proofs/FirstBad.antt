@@ -1,12 +1,11 @@
 -- The first bad row, against each row being good.
-use Rattle.std.proofs.Common.{◌≡◌, ℕ, ◌+◌, Bool, true, false, cond, ltb, List, [], ◌∷◌, ◌++◌, length, Option, Some, None, refl, sym, ap, ◌∙◌, inl, inr, subst}
+use Rattle.std.proofs.Common.{◌≡◌, ℕ, ◌+◌, Bool, true, false, cond, ltb, List, [], ◌∷◌, ◌++◌, length, Option, Some, None, refl, ap, inl, inr}
 use Rattle.std.specs.Prelude.{option_map}
 use Rattle.std.specs.List.{AllByRecursion}
 use Rattle.std.proofs.lemmas.Bool.{cases_Bool}
 use Rattle.std.proofs.lemmas.List.{append-nil, append_assoc}
-use Rattle.wk_table_rules.specs.declared.BadStore.{BadStore}
 use Rattle.wk_table_rules.specs.Rows.{StoreTables}
-use Rattle.wk_table_rules.specs.GoodStore.{first_bad, first_bad_after, lesser, judged_table, first_in_tables, first_rule, judged_rules, first_broken, bad_version, IsGood, has_good_id, has_good_title, is_good_revision, has_good_parent, has_good_latest, is_good_link, is_good_category, is_good_redirect, is_good_job, judged_links}
+use Rattle.wk_table_rules.specs.GoodStore.{first_bad, first_bad_after, lesser, first_in_tables, first_rule, judged_rules, first_broken, IsGood, has_good_id, has_good_title, is_good_revision, has_good_parent, has_good_latest, is_good_link, is_good_category, is_good_redirect, is_good_job, judged_links}
 use Rattle.wk_table_laws.specs.EachGood.{GoodAfter, EachGood, KeepsRules}
 
 module _ {Row : Type 0} (is_good : List Row → Row → Bool) where
@@ -88,16 +87,34 @@ KeepsRules-from_good tables good =
 pub IsGood-from_rules : (tables : StoreTables) → KeepsRules tables → IsGood tables
 unfolding first_broken
 IsGood-from_rules tables keeps =
-    first_rule-none 1 (judged_rules tables)
-        ( first_bad_after-none has_good_id [] tables.pages keeps.ids
-        , ( first_bad_after-none has_good_title [] tables.pages keeps.titles
-          , ( first_bad_after-none (is_good_revision tables) [] tables.revisions keeps.revisions
-            , ( rw (first_bad_after-none has_good_parent [] tables.revisions keeps.parents) (first_bad_after-none (has_good_latest tables) [] tables.pages keeps.latest)
-              , ( first_in_tables-none (judged_links tables)
-                    ( first_bad_after-none (is_good_link tables) [] tables.pagelinks keeps.pagelinks
-                    , ( first_bad_after-none (is_good_link tables) [] tables.templatelinks keeps.templatelinks
-                      , ( first_bad_after-none (is_good_link tables) [] tables.existlinks keeps.existlinks
-                        , ( first_bad_after-none (is_good_category tables) [] tables.categorylinks keeps.categorylinks
-                          , ( first_bad_after-none (is_good_redirect tables) [] tables.redirects keeps.redirects, tt)))))
-                , ( first_bad_after-none (is_good_job tables) [] tables.jobs keeps.jobs
-                  , ( keeps.version, tt)))))))
+    first_rule-none 1 (judged_rules tables) (
+      first_bad_after-none has_good_id [] tables.pages keeps.ids,
+      (
+        first_bad_after-none has_good_title [] tables.pages keeps.titles,
+        (
+          first_bad_after-none (is_good_revision tables) [] tables.revisions keeps.revisions,
+          (
+            rw (first_bad_after-none has_good_parent [] tables.revisions keeps.parents) (first_bad_after-none (has_good_latest tables) [] tables.pages keeps.latest),
+            (
+              first_in_tables-none (judged_links tables) (
+                first_bad_after-none (is_good_link tables) [] tables.pagelinks keeps.pagelinks,
+                (
+                  first_bad_after-none (is_good_link tables) [] tables.templatelinks keeps.templatelinks,
+                  (
+                    first_bad_after-none (is_good_link tables) [] tables.existlinks keeps.existlinks,
+                    (
+                      first_bad_after-none (is_good_category tables) [] tables.categorylinks keeps.categorylinks,
+                      (first_bad_after-none (is_good_redirect tables) [] tables.redirects keeps.redirects, tt),
+                    ),
+                  ),
+                ),
+              ),
+              (
+                first_bad_after-none (is_good_job tables) [] tables.jobs keeps.jobs,
+                (keeps.version, tt),
+              ),
+            ),
+          ),
+        ),
+      ),
+    )

@@ -1,18 +1,18 @@
 -- The job table stays good where a job is added, changed or dropped, and where the version rises.
-use Rattle.std.proofs.Common.{◌≡◌, ℕ, zero, suc, ◌+◌, ◌-◌, ◌^◌, ◌<◌, ◌≤◌, Bool, true, false, cond, eqb, ltb, leb, not, ◌&&◌, ◌||◌, List, [], ◌∷◌, ◌++◌, map, length, set, Option, Some, None, refl, sym, ap, ◌∙◌, inl, inr, subst, arith}
-use Rattle.std.specs.Prelude.{bytes_eq, find, slice_get, position}
+use Rattle.std.proofs.Common.{◌≡◌, ℕ, zero, suc, ◌-◌, ◌^◌, ◌<◌, Bool, true, false, cond, eqb, ltb, leb, not, ◌&&◌, ◌||◌, List, [], ◌∷◌, ◌++◌, length, set, Some, None, refl, sym, ap, ◌∙◌, inl, inr, subst, arith}
+use Rattle.std.specs.Prelude.{bytes_eq, slice_get, position}
 use Rattle.std.specs.List.{AllByRecursion, list_all, list_any, position_or_len, remove}
 use Rattle.std.proofs.lemmas.Bool.{cases_Bool, and_parts, and_from, ltb-true, lt-ltb}
 use Rattle.std.proofs.lemmas.List.Folds.{find_at}
-use Rattle.wk_text_rules.specs.Titles.{PageTitle, title_eq}
+use Rattle.wk_text_rules.specs.Titles.{title_eq}
 use Rattle.wk_table_rules.specs.Rows.{StoreTables, JobColumns}
 use Rattle.wk_table_rules.specs.Changes.{edited, add_job, set_job, drop_job, set_version, with_job, without_job}
 use Rattle.wk_table_rules.specs.JobTable.{refresh_cmd, fan_cmd, fan_params}
-use Rattle.wk_table_rules.specs.GoodStore.{is_normal, stands_already, is_good_number, is_good_refresh, is_good_fan, is_good_job, job_bound, max_pages, bad_version}
+use Rattle.wk_table_rules.specs.GoodStore.{is_normal, stands_already, is_good_number, is_good_refresh, is_good_fan, is_good_job, job_bound, max_pages}
 use Rattle.wk_table_laws.specs.EachGood.{GoodAfter, EachGood, KeepsRules}
 use Rattle.wk_table_laws.specs.Premises.{has_good_params, FitJob}
 use Rattle.wk_table_laws.proofs.FirstBad.{EachGood-push}
-use Rattle.wk_table_laws.proofs.Pairs.{Pairs, Passes, Passes-from_good, EachGood-from_passes, EachGood-remove}
+use Rattle.wk_table_laws.proofs.Pairs.{Pairs, Passes-from_good, EachGood-from_passes, EachGood-remove}
 
 -- ---- a job is judged alone, and with each job before it
 
@@ -69,8 +69,8 @@ unfolding is_good_kind
 job-splits tables before job =
     let kind = cond (bytes_eq job.job_cmd refresh_cmd) refresh_cmd fan_cmd in
     let earlier : list_all (λ row. may_follow row job) before ≡ (list_all (λ row. ltb row.job_id job.job_id) before && not (stands_already before kind job.job_title)) =
-        list_all-and (λ row. ltb row.job_id job.job_id) (λ row. not (bytes_eq row.job_cmd kind && title_eq row.job_title job.job_title)) before
-        ∙ ap (λ b. list_all (λ row. ltb row.job_id job.job_id) before && b) (list_all-not (λ row. bytes_eq row.job_cmd kind && title_eq row.job_title job.job_title) before) in
+    list_all-and (λ row. ltb row.job_id job.job_id) (λ row. not (bytes_eq row.job_cmd kind && title_eq row.job_title job.job_title)) before
+    ∙ ap (λ b. list_all (λ row. ltb row.job_id job.job_id) before && b) (list_all-not (λ row. bytes_eq row.job_cmd kind && title_eq row.job_title job.job_title) before) in
     let cursor : Bool = elim (fan_params job.job_params) [ None ↦ false | Some params ↦ leb params.cursor max_pages ] in
     rw earlier (elim (cases_Bool (bytes_eq job.job_cmd refresh_cmd)) [
       | inl refresh ↦ rw refresh (regroup (leb 1 job.job_id && ltb job.job_id (job_bound tables.version)) (list_all (λ row. ltb row.job_id job.job_id) before) (list_any (λ page. title_eq page.page_title job.job_title) tables.pages) (not (stands_already before refresh_cmd job.job_title)) (eqb (length job.job_params) 0))
@@ -100,9 +100,10 @@ pairs-set old new same (row ∷ rows) zero there pairs =
     let from_old : AllByRecursion (λ y. may_follow old y ≡ true) rows = subst (λ x. AllByRecursion (λ y. may_follow x y ≡ true) rows) first pairs.0 in
     let from_new : AllByRecursion (λ y. may_follow new y ≡ true) rows = subst (λ x. AllByRecursion (λ y. may_follow x y ≡ true) rows) (sym same) from_old in
     (from_new, pairs.1)
-pairs-set old new same (row ∷ rows) (suc place) there pairs =
-    ( each-set (λ y. may_follow row y ≡ true) old new (λ follows. subst (λ y. may_follow row y ≡ true) (sym same) follows) rows place there pairs.0
-    , pairs-set old new same rows place there pairs.1)
+pairs-set old new same (row ∷ rows) (suc place) there pairs = (
+  each-set (λ y. may_follow row y ≡ true) old new (λ follows. subst (λ y. may_follow row y ≡ true) (sym same) follows) rows place there pairs.0,
+  pairs-set old new same rows place there pairs.1,
+)
 
 -- the other params change neither the job's number nor what it is
 alone-kept : (tables : StoreTables) (old new : JobColumns) → new ≡ record old { job_params = new.job_params } → has_good_params new ≡ true → is_alone_good tables old ≡ true → is_alone_good tables new ≡ true
@@ -170,18 +171,27 @@ job-rises tables before job good =
     let number = and_parts (leb 1 job.job_id && ltb job.job_id (job_bound tables.version)) behind parts.0 in
     let bounds = and_parts (leb 1 job.job_id) (ltb job.job_id (job_bound tables.version)) number.0 in
     and_from (is_good_number 2 before job) kind
-        (and_from (leb 1 job.job_id && ltb job.job_id (2 ^ 63)) behind
-            (and_from (leb 1 job.job_id) (ltb job.job_id (2 ^ 63)) bounds.0 (bound-rises tables.version job.job_id bounds.1)) number.1)
-        parts.1
+    (and_from (leb 1 job.job_id && ltb job.job_id (2 ^ 63)) behind
+    (and_from (leb 1 job.job_id) (ltb job.job_id (2 ^ 63)) bounds.0 (bound-rises tables.version job.job_id bounds.1)) number.1)
+    parts.1
 
 -- ---- the rules of all tables
 
 module _ (tables : StoreTables) (keeps : KeepsRules tables) where
   with_good_jobs : (jobs : List JobColumns) → EachGood (is_good_job tables) jobs → KeepsRules (record tables { jobs = jobs })
   with_good_jobs jobs good = record {
-    ids = keeps.ids; titles = keeps.titles; revisions = keeps.revisions; parents = keeps.parents; latest = keeps.latest;
-    pagelinks = keeps.pagelinks; templatelinks = keeps.templatelinks; existlinks = keeps.existlinks;
-    categorylinks = keeps.categorylinks; redirects = keeps.redirects; jobs = good; version = keeps.version;
+    ids = keeps.ids;
+    titles = keeps.titles;
+    revisions = keeps.revisions;
+    parents = keeps.parents;
+    latest = keeps.latest;
+    pagelinks = keeps.pagelinks;
+    templatelinks = keeps.templatelinks;
+    existlinks = keeps.existlinks;
+    categorylinks = keeps.categorylinks;
+    redirects = keeps.redirects;
+    jobs = good;
+    version = keeps.version;
   }
 
   pub KeepsRules-add_job : (job : JobColumns) → is_good_job tables tables.jobs job ≡ true → KeepsRules (edited tables (add_job job))
@@ -195,9 +205,16 @@ module _ (tables : StoreTables) (keeps : KeepsRules tables) where
 
   pub KeepsRules-set_version : KeepsRules (edited tables (set_version 2))
   KeepsRules-set_version = record {
-    ids = keeps.ids; titles = keeps.titles; revisions = keeps.revisions; parents = keeps.parents; latest = keeps.latest;
-    pagelinks = keeps.pagelinks; templatelinks = keeps.templatelinks; existlinks = keeps.existlinks;
-    categorylinks = keeps.categorylinks; redirects = keeps.redirects;
+    ids = keeps.ids;
+    titles = keeps.titles;
+    revisions = keeps.revisions;
+    parents = keeps.parents;
+    latest = keeps.latest;
+    pagelinks = keeps.pagelinks;
+    templatelinks = keeps.templatelinks;
+    existlinks = keeps.existlinks;
+    categorylinks = keeps.categorylinks;
+    redirects = keeps.redirects;
     jobs = GoodAfter-weaker (is_good_job tables) (is_good_job (record tables { version = 2 })) (job-rises tables) [] tables.jobs keeps.jobs;
     version = refl;
   }

@@ -4,3 +4,4 @@ pub mod Links
 pub mod JobRows
 pub mod SavedRows
 pub mod SavedPages
+pub mod GoodChanges

@@ -1,17 +1,16 @@
 -- The link tables stay good where the rows of a page are replaced.
-use Rattle.std.proofs.Common.{◌≡◌, ℕ, ◌+◌, ◌<◌, ◌≤◌, ℤ, pos, negsuc, Bool, true, false, cond, eqb, ltb, not, ◌&&◌, List, [], ◌∷◌, ◌++◌, map, length, Option, Some, None, refl, sym, ap, ◌∙◌, inl, inr, subst, arith}
+use Rattle.std.proofs.Common.{◌≡◌, ℕ, ◌<◌, ◌≤◌, ℤ, pos, negsuc, Bool, true, false, eqb, ltb, ◌&&◌, List, [], ◌∷◌, ◌++◌, map, Option, Some, None, refl, ◌∙◌, inl, inr, arith}
 use Rattle.std.specs.List.{AllByRecursion, list_all}
 use Rattle.std.specs.Option.{option_to_list, IfSome}
-use Rattle.std.specs.Ordering.{int_eq, int_cmp, is_lt, nat_cmp, ordering_then}
-use Rattle.std.specs.declared.cmp.Ordering.{Ordering}
-use Rattle.std.specs.declared.cmp.Ordering.TheVariants.{Less, Equal, Greater}
-use Rattle.std.proofs.lemmas.Bool.{cases_Bool, and_parts, and_from, ltb-true, ltb-false, lt-ltb, le-ltb, eqb-true, eq-eqb, both_ways, false≢true}
+use Rattle.std.specs.Ordering.{int_eq, is_lt, nat_cmp}
+use Rattle.std.specs.declared.cmp.Ordering.TheVariants.{Less, Equal}
+use Rattle.std.proofs.lemmas.Bool.{cases_Bool, and_parts, ltb-true, lt-ltb, le-ltb, eqb-true, eq-eqb, false≢true}
 use Rattle.std.proofs.lemmas.List.{map-append}
 use Rattle.std.proofs.lemmas.List.Folds.{list_all-map}
-use Rattle.wk_text_rules.specs.Titles.{PageTitle, title_cmp, is_virtual}
+use Rattle.wk_text_rules.specs.Titles.{PageTitle, title_cmp}
 use Rattle.wk_table_rules.specs.Rows.{StoreTables, LinkColumns, CategoryColumns, RedirectColumns, category_title}
 use Rattle.wk_table_rules.specs.Changes.{Member, PageLinks, has_page, namespace_of, link_row, category_row, redirect_row, with_links, with_rows_of}
-use Rattle.wk_table_rules.specs.GoodStore.{is_normal, is_real, row_lt, is_good_link, is_good_category, is_good_redirect, bad_version}
+use Rattle.wk_table_rules.specs.GoodStore.{is_normal, is_real, row_lt, is_good_link, is_good_category, is_good_redirect}
 use Rattle.wk_table_laws.specs.EachGood.{GoodAfter, EachGood, KeepsRules}
 use Rattle.wk_table_laws.specs.Premises.{is_next_title, is_next_member, FitLinks}
 use Rattle.wk_table_laws.proofs.Pairs.{EachGood-with_rows_of}
@@ -28,9 +27,9 @@ pub row_lt-rise : (a : ℕ) (t : PageTitle) (b : ℕ) (u : PageTitle) → row_lt
 row_lt-rise a t b u before = elim (cases_Bool (ltb a b)) [
   | inl under ↦ let far : a < b = ltb-true a b under in omega arith
   | inr other ↦ elim (cases_Bool (eqb a b)) [
-      | inl same ↦ let e : a ≡ b = eqb-true a b same in omega arith
-      | inr apart ↦ let no : false ≡ true = rw (other, apart) at before in absurd (false≢true no)
-    ]
+    | inl same ↦ let e : a ≡ b = eqb-true a b same in omega arith
+    | inr apart ↦ let no : false ≡ true = rw (other, apart) at before in absurd (false≢true no)
+  ]
 ]
 
 pub row_lt-lower : (a : ℕ) (t : PageTitle) (b : ℕ) (u : PageTitle) → a < b → row_lt a t b u ≡ true
@@ -63,8 +62,8 @@ module _ (tables : StoreTables) (page : ℕ) (there : has_page tables page ≡ t
   link-good before title next =
       let parts = and_parts (is_real title) (list_all (λ earlier. is_lt (title_cmp earlier title)) before) next in
       let behind : list_all (λ row. row_lt row.from row.target page title) (map (link_row page (namespace_of tables page)) before) ≡ true =
-          list_all-map (λ row. row_lt row.from row.target page title) (link_row page (namespace_of tables page)) before
-          ∙ (list_all-same (λ earlier. row_lt page earlier page title) (λ earlier. is_lt (title_cmp earlier title)) (λ earlier. row_lt-same page earlier title) before ∙ parts.1) in
+      list_all-map (λ row. row_lt row.from row.target page title) (link_row page (namespace_of tables page)) before
+      ∙ (list_all-same (λ earlier. row_lt page earlier page title) (λ earlier. is_lt (title_cmp earlier title)) (λ earlier. row_lt-same page earlier title) before ∙ parts.1) in
       rw (there, int_eq-same (namespace_of tables page), parts.0) behind
 
   category-good : (before : List Member) (member : Member) → is_next_member before member ≡ true
@@ -73,9 +72,9 @@ module _ (tables : StoreTables) (page : ℕ) (there : has_page tables page ≡ t
       let title = category_title member.category.key in
       let parts = and_parts (is_normal title) (list_all (λ earlier. is_lt (title_cmp (category_title earlier.category.key) title)) before) next in
       let behind : list_all (λ row. row_lt row.cl_from (category_title row.cl_to) page title) (map (category_row page) before) ≡ true =
-          list_all-map (λ row. row_lt row.cl_from (category_title row.cl_to) page title) (category_row page) before
-          ∙ (list_all-same (λ earlier. row_lt page (category_title earlier.category.key) page title) (λ earlier. is_lt (title_cmp (category_title earlier.category.key) title))
-              (λ earlier. row_lt-same page (category_title earlier.category.key) title) before ∙ parts.1) in
+      list_all-map (λ row. row_lt row.cl_from (category_title row.cl_to) page title) (category_row page) before
+      ∙ (list_all-same (λ earlier. row_lt page (category_title earlier.category.key) page title) (λ earlier. is_lt (title_cmp (category_title earlier.category.key) title))
+      (λ earlier. row_lt-same page (category_title earlier.category.key) title) before ∙ parts.1) in
       rw (there, parts.0) behind
 
   redirect-good : (redirect : Option PageTitle) → IfSome redirect (λ title. is_real title ≡ true) → EachGood (is_good_redirect tables) (map (redirect_row page) (option_to_list redirect))
@@ -90,36 +89,36 @@ module _ (tables : StoreTables) (page : ℕ) (there : has_page tables page ≡ t
       → EachGood (is_good_link tables) (with_rows_of (λ row. row.from) page rows (map (link_row page (namespace_of tables page)) titles))
   links-good rows titles good next =
       EachGood-with_rows_of (λ (earlier row : LinkColumns). row_lt earlier.from earlier.target row.from row.target)
-          (λ row. (has_page tables row.from && int_eq row.from_namespace (namespace_of tables row.from)) && is_real row.target)
-          (is_good_link tables) (λ before row. refl)
-          (λ row. row.from) (λ earlier row. row_lt-rise earlier.from earlier.target row.from row.target) (λ earlier row. row_lt-lower earlier.from earlier.target row.from row.target) page
-          rows (map (link_row page (namespace_of tables page)) titles) good
-          (GoodAfter-map (link_row page (namespace_of tables page)) is_next_title (is_good_link tables) link-good [] titles next)
-          (own-page (λ row. row.from) (link_row page (namespace_of tables page)) (λ title. refl) titles)
+      (λ row. (has_page tables row.from && int_eq row.from_namespace (namespace_of tables row.from)) && is_real row.target)
+      (is_good_link tables) (λ before row. refl)
+      (λ row. row.from) (λ earlier row. row_lt-rise earlier.from earlier.target row.from row.target) (λ earlier row. row_lt-lower earlier.from earlier.target row.from row.target) page
+      rows (map (link_row page (namespace_of tables page)) titles) good
+      (GoodAfter-map (link_row page (namespace_of tables page)) is_next_title (is_good_link tables) link-good [] titles next)
+      (own-page (λ row. row.from) (link_row page (namespace_of tables page)) (λ title. refl) titles)
 
   categories-good : (rows : List CategoryColumns) (members : List Member) → EachGood (is_good_category tables) rows → EachGood is_next_member members
       → EachGood (is_good_category tables) (with_rows_of (λ row. row.cl_from) page rows (map (category_row page) members))
   categories-good rows members good next =
       EachGood-with_rows_of (λ (earlier row : CategoryColumns). row_lt earlier.cl_from (category_title earlier.cl_to) row.cl_from (category_title row.cl_to))
-          (λ row. has_page tables row.cl_from && is_normal (category_title row.cl_to))
-          (is_good_category tables) (λ before row. refl)
-          (λ row. row.cl_from) (λ earlier row. row_lt-rise earlier.cl_from (category_title earlier.cl_to) row.cl_from (category_title row.cl_to))
-          (λ earlier row. row_lt-lower earlier.cl_from (category_title earlier.cl_to) row.cl_from (category_title row.cl_to)) page
-          rows (map (category_row page) members) good
-          (GoodAfter-map (category_row page) is_next_member (is_good_category tables) category-good [] members next)
-          (own-page (λ row. row.cl_from) (category_row page) (λ member. refl) members)
+      (λ row. has_page tables row.cl_from && is_normal (category_title row.cl_to))
+      (is_good_category tables) (λ before row. refl)
+      (λ row. row.cl_from) (λ earlier row. row_lt-rise earlier.cl_from (category_title earlier.cl_to) row.cl_from (category_title row.cl_to))
+      (λ earlier row. row_lt-lower earlier.cl_from (category_title earlier.cl_to) row.cl_from (category_title row.cl_to)) page
+      rows (map (category_row page) members) good
+      (GoodAfter-map (category_row page) is_next_member (is_good_category tables) category-good [] members next)
+      (own-page (λ row. row.cl_from) (category_row page) (λ member. refl) members)
 
   redirects-good : (rows : List RedirectColumns) (redirect : Option PageTitle) → EachGood (is_good_redirect tables) rows → IfSome redirect (λ title. is_real title ≡ true)
       → EachGood (is_good_redirect tables) (with_rows_of (λ row. row.rd_from) page rows (map (redirect_row page) (option_to_list redirect)))
   redirects-good rows redirect good real =
       EachGood-with_rows_of (λ (earlier row : RedirectColumns). ltb earlier.rd_from row.rd_from)
-          (λ row. has_page tables row.rd_from && is_real row.rd_title)
-          (is_good_redirect tables) (λ before row. refl)
-          (λ row. row.rd_from) (λ earlier row before. let under : earlier.rd_from < row.rd_from = ltb-true earlier.rd_from row.rd_from before in omega arith)
-          (λ earlier row under. lt-ltb earlier.rd_from row.rd_from under) page
-          rows (map (redirect_row page) (option_to_list redirect)) good
-          (redirect-good redirect real)
-          (own-page (λ row. row.rd_from) (redirect_row page) (λ title. refl) (option_to_list redirect))
+      (λ row. has_page tables row.rd_from && is_real row.rd_title)
+      (is_good_redirect tables) (λ before row. refl)
+      (λ row. row.rd_from) (λ earlier row before. let under : earlier.rd_from < row.rd_from = ltb-true earlier.rd_from row.rd_from before in omega arith)
+      (λ earlier row under. lt-ltb earlier.rd_from row.rd_from under) page
+      rows (map (redirect_row page) (option_to_list redirect)) good
+      (redirect-good redirect real)
+      (own-page (λ row. row.rd_from) (redirect_row page) (λ title. refl) (option_to_list redirect))
 
 -- the link rows of a page that is there are replaced
 pub KeepsRules-set_rows : (tables : StoreTables) (page : ℕ) (links : PageLinks) → FitLinks tables page links → KeepsRules tables → KeepsRules (with_links tables page links)

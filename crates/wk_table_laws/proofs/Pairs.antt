@@ -1,11 +1,11 @@
 -- Tables whose rows are good each by itself and in pairs: a row is judged by a test of its own, and by a test with each
 -- row before it.
-use Rattle.std.proofs.Common.{◌≡◌, ℕ, suc, zero, ◌+◌, ◌<◌, ◌≤◌, Bool, true, false, cond, eqb, ltb, not, ◌&&◌, List, [], ◌∷◌, ◌++◌, map, length, take, drop, refl, sym, ap, ◌∙◌, inl, inr, subst, arith}
+use Rattle.std.proofs.Common.{◌≡◌, ℕ, suc, zero, ◌<◌, ◌≤◌, Bool, true, false, cond, eqb, ltb, not, ◌&&◌, List, [], ◌∷◌, ◌++◌, take, drop, refl, sym, ◌∙◌, inl, inr, arith}
 use Rattle.std.specs.Prelude.{⊤}
-use Rattle.std.specs.List.{AllByRecursion, filter, list_all, insert_slice, remove, position_or_len, prefix_len}
-use Rattle.std.proofs.lemmas.Bool.{cases_Bool, and_parts, and_from, ltb-true, ltb-false, lt-ltb, eqb-false, not-true, not-false}
+use Rattle.std.specs.List.{AllByRecursion, filter, list_all, remove, position_or_len}
+use Rattle.std.proofs.lemmas.Bool.{cases_Bool, and_parts, and_from, ltb-true, ltb-false, eqb-false}
 use Rattle.std.proofs.Math.Numerals.{one-add}
-use Rattle.std.proofs.lemmas.List.{append-nil, append_assoc, take-append-drop}
+use Rattle.std.proofs.lemmas.List.{take-append-drop}
 use Rattle.wk_table_rules.specs.Changes.{with_rows_of}
 use Rattle.wk_table_laws.specs.EachGood.{GoodAfter, EachGood}
 
@@ -111,11 +111,12 @@ module _ {Row : Type 0} (R : Row → Row → Bool) where
 
     good-after : (before rows : List Row) → AllByRecursion (λ row. P row ≡ true) rows → Cross before rows → Pairs rows → GoodAfter is_good before rows
     good-after before [] alone cross pairs = tt
-    good-after before (row ∷ rows) alone cross pairs =
-        ( splits before row ∙ and_from (P row) (list_all (λ earlier. R earlier row) before) alone.0 (cross-first before row rows cross)
-        , good-after (before ++ row ∷ []) rows alone.1
-            (each-append (λ x. AllByRecursion (λ y. R x y ≡ true) rows) before (row ∷ []) (cross-rest before row rows cross) (pairs.0, tt))
-            pairs.1)
+    good-after before (row ∷ rows) alone cross pairs = (
+      splits before row ∙ and_from (P row) (list_all (λ earlier. R earlier row) before) alone.0 (cross-first before row rows cross),
+      good-after (before ++ row ∷ []) rows alone.1
+          (each-append (λ x. AllByRecursion (λ y. R x y ≡ true) rows) before (row ∷ []) (cross-rest before row rows cross) (pairs.0, tt))
+          pairs.1,
+    )
 
     pub EachGood-from_passes : (rows : List Row) → Passes rows → EachGood is_good rows
     EachGood-from_passes rows passes = good-after [] rows passes.alone tt passes.paired
@@ -128,9 +129,9 @@ module _ {Row : Type 0} (R : Row → Row → Bool) where
         EachGood-from_passes (remove rows place) (record {
           alone = each-append P' (take place rows) (drop (suc place) rows) (each-front P' (take place rows) (drop place rows) passes.alone) (each-less P' place rows (each-back P' (take place rows) (drop place rows) passes.alone));
           paired = Pairs-append (take place rows) (drop (suc place) rows) (Pairs-front (take place rows) (drop place rows) passes.paired)
-            (pairs-less place rows (Pairs-back (take place rows) (drop place rows) passes.paired))
-            (each-weaker (λ x. AllByRecursion (λ y. R x y ≡ true) (drop place rows)) (λ x. AllByRecursion (λ y. R x y ≡ true) (drop (suc place) rows))
-                (λ x all. each-less (λ y. R x y ≡ true) place rows all) (take place rows) (Pairs-cross (take place rows) (drop place rows) passes.paired));
+              (pairs-less place rows (Pairs-back (take place rows) (drop place rows) passes.paired))
+              (each-weaker (λ x. AllByRecursion (λ y. R x y ≡ true) (drop place rows)) (λ x. AllByRecursion (λ y. R x y ≡ true) (drop (suc place) rows))
+              (λ x all. each-less (λ y. R x y ≡ true) place rows all) (take place rows) (Pairs-cross (take place rows) (drop place rows) passes.paired));
         })
       where
         each-less : (Q : Row → Type 0) (n : ℕ) (xs : List Row) → AllByRecursion Q (drop n xs) → AllByRecursion Q (drop (suc n) xs)
@@ -138,6 +139,7 @@ module _ {Row : Type 0} (R : Row → Row → Bool) where
         each-less Q zero (x ∷ xs) all = all.1
         each-less Q (suc n) [] all = tt
         each-less Q (suc n) (x ∷ xs) all = each-less Q n xs all
+
         pairs-less : (n : ℕ) (xs : List Row) → Pairs (drop n xs) → Pairs (drop (suc n) xs)
         pairs-less zero [] pairs = tt
         pairs-less zero (x ∷ xs) pairs = pairs.1
@@ -160,10 +162,11 @@ module _ {Row : Type 0} (R : Row → Row → Bool) where
       all-higher : (xs : List Row) → Pairs xs → AllByRecursion (λ row. page < from row) (drop (position_or_len (λ row. ltb page (from row)) xs) xs)
       all-higher [] pairs = tt
       all-higher (x ∷ xs) pairs = elim (cases_Bool (ltb page (from x))) [
-        | inl above ↦ rw above
-            ( ltb-true page (from x) above
-            , each-weaker (λ y. R x y ≡ true) (λ y. page < from y)
-                (λ y after. let far : from x ≤ from y = rise x y after in let near : page < from x = ltb-true page (from x) above in omega arith) xs pairs.0)
+        | inl above ↦ rw above (
+          ltb-true page (from x) above,
+          each-weaker (λ y. R x y ≡ true) (λ y. page < from y)
+              (λ y after. let far : from x ≤ from y = rise x y after in let near : page < from x = ltb-true page (from x) above in omega arith) xs pairs.0,
+        )
         | inr under ↦ rw (under, one-add) (all-higher xs pairs.1)
       ]
 
@@ -191,16 +194,18 @@ module _ {Row : Type 0} (R : Row → Row → Bool) where
       -- rows of lower pages stand before those of the page
       below : (xs new : List Row) → AllByRecursion (λ row. (from row ≤ page) × (from row ≡ page → ⊥)) xs → AllByRecursion (λ row. from row ≡ page) new → Cross xs new
       below [] new under own = tt
-      below (x ∷ xs) new under own =
-          ( each-weaker (λ row. from row ≡ page) (λ row. R x row ≡ true) (λ row same. lower x row (let le : from x ≤ page = under.0.0 in let ne : from x ≡ page → ⊥ = under.0.1 in omega arith)) new own
-          , below xs new under.1 own)
+      below (x ∷ xs) new under own = (
+        each-weaker (λ row. from row ≡ page) (λ row. R x row ≡ true) (λ row same. lower x row (let le : from x ≤ page = under.0.0 in let ne : from x ≡ page → ⊥ = under.0.1 in omega arith)) new own,
+        below xs new under.1 own,
+      )
 
       -- and rows of higher pages behind them
       above : (new ys : List Row) → AllByRecursion (λ row. from row ≡ page) new → AllByRecursion (λ row. page < from row) ys → Cross new ys
       above [] ys own over = tt
-      above (x ∷ new) ys own over =
-          ( each-weaker (λ row. page < from row) (λ row. R x row ≡ true) (λ row far. lower x row (let same : from x ≡ page = own.0 in omega arith)) ys over
-          , above new ys own.1 over)
+      above (x ∷ new) ys own over = (
+        each-weaker (λ row. page < from row) (λ row. R x row ≡ true) (λ row far. lower x row (let same : from x ≡ page = own.0 in omega arith)) ys over,
+        above new ys own.1 over,
+      )
 
       pub EachGood-with_rows_of : (rows new : List Row) → EachGood is_good rows → EachGood is_good new → AllByRecursion (λ row. from row ≡ page) new → EachGood is_good (with_rows_of from page rows new)
       EachGood-with_rows_of rows new good good_new own =

@@ -1,14 +1,14 @@
 -- The page table stays good where a page's row is set, with a revision of that page behind the others.
-use Rattle.std.proofs.Common.{◌≡◌, ℕ, ℤ, pos, zero, suc, ◌+◌, ◌<◌, ◌≤◌, Bool, true, false, cond, eqb, ltb, leb, not, ◌&&◌, ◌||◌, List, [], ◌∷◌, ◌++◌, map, length, set, Option, Some, None, refl, sym, ap, ◌∙◌, inl, inr, subst, arith}
+use Rattle.std.proofs.Common.{◌≡◌, ℕ, pos, zero, suc, ◌+◌, ◌<◌, ◌≤◌, Bool, true, false, eqb, ltb, leb, not, ◌&&◌, ◌||◌, List, [], ◌∷◌, ◌++◌, map, length, set, Some, None, refl, sym, ap, ◌∙◌, inl, inr, subst, arith}
 use Rattle.std.specs.Prelude.{find, slice_get, position, option_map, unwrap_or}
 use Rattle.std.specs.List.{AllByRecursion, list_any, position_or_len}
-use Rattle.std.proofs.Math.Numerals.{one-add, add-one}
+use Rattle.std.proofs.Math.Numerals.{one-add}
 use Rattle.std.proofs.lemmas.Bool.{cases_Bool, and_parts, and_from, or_left, or_right, lt-ltb, le-ltb, le-leb, eqb-true, eq-eqb, ne_eqb}
 use Rattle.std.proofs.lemmas.List.{length-append, length-map, map-append}
 use Rattle.std.proofs.lemmas.List.Folds.{find_at, list_any-append}
 use Rattle.wk_text_rules.specs.Titles.{PageTitle, title_eq}
 use Rattle.wk_table_rules.specs.Rows.{StoreTables, PageColumns, RevisionColumns}
-use Rattle.wk_table_rules.specs.Changes.{has_page, namespace_of, with_page, edited, applied, add_revision, set_page}
+use Rattle.wk_table_rules.specs.Changes.{with_page, applied, add_revision, set_page}
 use Rattle.wk_table_rules.specs.GoodStore.{is_real, has_good_id, has_good_title, has_good_latest, max_pages}
 use Rattle.wk_table_laws.specs.EachGood.{GoodAfter, EachGood, KeepsRules}
 use Rattle.wk_table_laws.specs.Premises.{FitRevision, IsStanding, IsNext}
@@ -45,7 +45,7 @@ absent-len p (x ∷ xs) none = rw (none.0, absent-len p xs none.1, one-add) refl
 with_page-next : (rows : List PageColumns) (new : PageColumns) → AllByRecursion (λ row. eqb row.page_id new.page_id ≡ false) rows → with_page rows new ≡ rows ++ new ∷ []
 with_page-next rows new none =
     let past : ltb (position_or_len (λ row. eqb row.page_id new.page_id) rows) (length rows) ≡ false =
-        rw (absent-len (λ row. eqb row.page_id new.page_id) rows none) (le-ltb (length rows) (length rows) (omega arith)) in
+    rw (absent-len (λ row. eqb row.page_id new.page_id) rows none) (le-ltb (length rows) (length rows) (omega arith)) in
     rw (position-none (λ row. eqb row.page_id new.page_id) rows past, with_page) refl
 
 grows-next : (tables : StoreTables) (new : PageColumns) → Grows tables (tables.pages ++ new ∷ [])
@@ -61,21 +61,21 @@ KeepsRules-next tables revision page fit next keeps =
     let pages = tables.pages ++ page ∷ [] in
     let within = ids-within [] tables.pages keeps.ids in
     let apart : AllByRecursion (λ row. row.page_id ≡ page.page_id → ⊥) tables.pages =
-        each-weaker (λ row. row.page_id ≤ 0 + length tables.pages) (λ row. row.page_id ≡ page.page_id → ⊥)
-            (λ row low same. let number : page.page_id ≡ length tables.pages + 1 = next.number in omega arith) tables.pages within in
+    each-weaker (λ row. row.page_id ≤ 0 + length tables.pages) (λ row. row.page_id ≡ page.page_id → ⊥)
+    (λ row low same. let number : page.page_id ≡ length tables.pages + 1 = next.number in omega arith) tables.pages within in
     let absent = each-weaker (λ row. row.page_id ≡ page.page_id → ⊥) (λ row. eqb row.page_id page.page_id ≡ false) (λ row other. ne_eqb row.page_id page.page_id other) tables.pages apart in
     rw (with_page-next tables.pages page absent)
-        (KeepsRules-saved tables revision page fit pages keeps (grows-next tables page)
-            (list_any-append (λ row. eqb row.page_id revision.rev_page) tables.pages (page ∷ [])
-                ∙ or_right (list_any (λ row. eqb row.page_id revision.rev_page) tables.pages) (list_any (λ row. eqb row.page_id revision.rev_page) (page ∷ []))
-                    (or_left (eqb page.page_id revision.rev_page) false (eq-eqb page.page_id revision.rev_page (sym fit.of_page))))
-            (EachGood-push has_good_id tables.pages page keeps.ids
-                (and_from (eqb page.page_id (length tables.pages + 1)) (leb page.page_id max_pages)
-                    (eq-eqb page.page_id (length tables.pages + 1) next.number) (le-leb page.page_id max_pages next.few)))
-            (EachGood-push has_good_title tables.pages page keeps.titles next.title)
-            (each-append (λ row. has_good_latest (record tables { pages = pages; revisions = tables.revisions ++ revision ∷ [] }) [] row ≡ true) tables.pages (page ∷ [])
-                (others-latest tables revision page fit pages tables.pages [] apart keeps.latest)
-                (latest-own tables revision page fit pages, tt)))
+    (KeepsRules-saved tables revision page fit pages keeps (grows-next tables page)
+    (list_any-append (λ row. eqb row.page_id revision.rev_page) tables.pages (page ∷ [])
+    ∙ or_right (list_any (λ row. eqb row.page_id revision.rev_page) tables.pages) (list_any (λ row. eqb row.page_id revision.rev_page) (page ∷ []))
+    (or_left (eqb page.page_id revision.rev_page) false (eq-eqb page.page_id revision.rev_page (sym fit.of_page))))
+    (EachGood-push has_good_id tables.pages page keeps.ids
+    (and_from (eqb page.page_id (length tables.pages + 1)) (leb page.page_id max_pages)
+    (eq-eqb page.page_id (length tables.pages + 1) next.number) (le-leb page.page_id max_pages next.few)))
+    (EachGood-push has_good_title tables.pages page keeps.titles next.title)
+    (each-append (λ row. has_good_latest (record tables { pages = pages; revisions = tables.revisions ++ revision ∷ [] }) [] row ≡ true) tables.pages (page ∷ [])
+    (others-latest tables revision page fit pages tables.pages [] apart keeps.latest)
+    (latest-own tables revision page fit pages, tt)))
 
 -- ---- a page that is there
 
@@ -106,7 +106,7 @@ id-by_key before row = rw length-map refl
 title-by_key : (before : List PageColumns) (row : PageColumns) → has_good_title before row ≡ (is_real row.page_title && not (list_any (λ earlier. title_eq earlier row.page_title) (map (λ (earlier : PageColumns). earlier.page_title) before)))
 title-by_key before row = ap (λ b. is_real row.page_title && not b) (sym (list_any-map (λ earlier. title_eq earlier row.page_title) (λ (earlier : PageColumns). earlier.page_title) before))
 
-find-passes : {X : Type 0} (p : X → Bool) (xs : List X) (x : X) → find p xs ≡ Some x → (p x ≡ true) × (list_any p xs ≡ true)
+pub find-passes : {X : Type 0} (p : X → Bool) (xs : List X) (x : X) → find p xs ≡ Some x → (p x ≡ true) × (list_any p xs ≡ true)
 find-passes p [] x found = absurd (let e : None ≡ Some x = found in cc)
 find-passes p (y ∷ xs) x found = elim (cases_Bool (p y)) [
   | inl first ↦ let e : y ≡ x = (let same : Some y ≡ Some x = (rw first at found) in cc) in (subst (λ z. p z ≡ true) e first, or_left (p y) (list_any p xs) first)
@@ -154,13 +154,13 @@ KeepsRules-standing tables revision old page fit standing keeps =
     let pages = set tables.pages place page in
     let grows = grows-standing tables old page place there id standing.title in
     rw (with_page-standing tables.pages page place (position-found (λ row. eqb row.page_id page.page_id) tables.pages within))
-        (KeepsRules-saved tables revision page fit pages keeps grows
-            (grows.there revision.rev_page (subst (λ n. list_any (λ row. eqb row.page_id n) tables.pages ≡ true) (sym fit.of_page) found.1))
-            (EachGood-alike (λ (row : PageColumns). row.page_id) has_good_id (λ ids n. eqb n (length ids + 1) && leb n max_pages) id-by_key tables.pages pages
-                (map-set-alike (λ (row : PageColumns). row.page_id) old page id tables.pages place there) keeps.ids)
-            (EachGood-alike (λ (row : PageColumns). row.page_title) has_good_title (λ titles t. is_real t && not (list_any (λ earlier. title_eq earlier t) titles)) title-by_key tables.pages pages
-                (map-set-alike (λ (row : PageColumns). row.page_title) old page standing.title tables.pages place there) keeps.titles)
-            (latest-set pages id tables.pages [] place there keeps.ids keeps.latest))
+    (KeepsRules-saved tables revision page fit pages keeps grows
+    (grows.there revision.rev_page (subst (λ n. list_any (λ row. eqb row.page_id n) tables.pages ≡ true) (sym fit.of_page) found.1))
+    (EachGood-alike (λ (row : PageColumns). row.page_id) has_good_id (λ ids n. eqb n (length ids + 1) && leb n max_pages) id-by_key tables.pages pages
+    (map-set-alike (λ (row : PageColumns). row.page_id) old page id tables.pages place there) keeps.ids)
+    (EachGood-alike (λ (row : PageColumns). row.page_title) has_good_title (λ titles t. is_real t && not (list_any (λ earlier. title_eq earlier t) titles)) title-by_key tables.pages pages
+    (map-set-alike (λ (row : PageColumns). row.page_title) old page standing.title tables.pages place there) keeps.titles)
+    (latest-set pages id tables.pages [] place there keeps.ids keeps.latest))
   where
     latest-set : (all : List PageColumns) → page.page_id ≡ old.page_id → (rows before : List PageColumns) (at : ℕ) → slice_get rows at ≡ Some old → GoodAfter has_good_id before rows → GoodAfter (has_good_latest tables) before rows
         → AllByRecursion (λ row. has_good_latest (record tables { pages = all; revisions = tables.revisions ++ revision ∷ [] }) [] row ≡ true) (set rows at page)
@@ -170,15 +170,17 @@ KeepsRules-standing tables revision old page fit standing keeps =
         let own : page.page_id ≡ row.page_id = id ∙ ap (λ (r : PageColumns). r.page_id) (sym e) in
         let parts = and_parts (eqb row.page_id (length before + 1)) (leb row.page_id max_pages) ids.0 in
         let number : row.page_id ≡ length before + 1 = eqb-true row.page_id (length before + 1) parts.0 in
-        let longer : length (before ++ row ∷ []) ≡ length before + 1 = length-append before (row ∷ []) in
-        ( latest-own tables revision page fit all
-        , others-latest tables revision page fit all rows (before ++ row ∷ [])
-            (each-weaker (λ later. length (before ++ row ∷ []) < later.page_id) (λ later. later.page_id ≡ page.page_id → ⊥) (λ later above same. omega arith) rows (ids-above (before ++ row ∷ []) rows ids.1))
-            good.1)
+        let longer : length (before ++ row ∷ []) ≡ length before + 1 = length-append before (row ∷ []) in (
+          latest-own tables revision page fit all,
+          others-latest tables revision page fit all rows (before ++ row ∷ [])
+              (each-weaker (λ later. length (before ++ row ∷ []) < later.page_id) (λ later. later.page_id ≡ page.page_id → ⊥) (λ later above same. omega arith) rows (ids-above (before ++ row ∷ []) rows ids.1))
+              good.1,
+        )
     latest-set all id (row ∷ rows) before (suc at) there ids good =
         let parts = and_parts (eqb row.page_id (length before + 1)) (leb row.page_id max_pages) ids.0 in
         let number : row.page_id ≡ length before + 1 = eqb-true row.page_id (length before + 1) parts.0 in
         let longer : length (before ++ row ∷ []) ≡ length before + 1 = length-append before (row ∷ []) in
-        let above : length (before ++ row ∷ []) < old.page_id = each-at (λ later. length (before ++ row ∷ []) < later.page_id) rows at old there (ids-above (before ++ row ∷ []) rows ids.1) in
-        ( latest-other tables revision page fit all row (λ same. omega arith) good.0
-        , latest-set all id rows (before ++ row ∷ []) at there ids.1 good.1)
+        let above : length (before ++ row ∷ []) < old.page_id = each-at (λ later. length (before ++ row ∷ []) < later.page_id) rows at old there (ids-above (before ++ row ∷ []) rows ids.1) in (
+          latest-other tables revision page fit all row (λ same. omega arith) good.0,
+          latest-set all id rows (before ++ row ∷ []) at there ids.1 good.1,
+        )

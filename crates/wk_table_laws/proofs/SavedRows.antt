@@ -1,24 +1,22 @@
 -- The tables stay good where a revision is appended and its page's row is set.
-use Rattle.std.proofs.Common.{◌≡◌, ℕ, ℤ, pos, zero, suc, ◌+◌, ◌<◌, ◌≤◌, Bool, true, false, cond, eqb, ltb, leb, not, ◌&&◌, ◌||◌, List, [], ◌∷◌, ◌++◌, map, length, set, Option, Some, None, refl, sym, ap, ◌∙◌, inl, inr, subst, arith}
-use Rattle.std.specs.Prelude.{bytes_eq, find, slice_get, position, option_map, unwrap_or}
-use Rattle.std.specs.List.{AllByRecursion, filter, last_or, list_all, list_any, position_or_len}
+use Rattle.std.proofs.Common.{◌≡◌, ℕ, zero, suc, ◌+◌, ◌<◌, ◌≤◌, Bool, true, false, cond, eqb, ltb, leb, not, ◌&&◌, ◌||◌, List, [], ◌∷◌, ◌++◌, length, Option, Some, None, refl, sym, ap, ◌∙◌, subst, arith}
+use Rattle.std.specs.Prelude.{bytes_eq, slice_get}
+use Rattle.std.specs.List.{AllByRecursion, filter, last_or, list_all, list_any}
 use Rattle.std.specs.Ordering.{int_eq}
-use Rattle.std.proofs.Math.Numerals.{one-add, add-one}
-use Rattle.std.proofs.lemmas.Bool.{cases_Bool, and_parts, and_from, or_left, ltb-true, lt-ltb, le-ltb, le-leb, leb-true, eqb-true, eq-eqb, ne_eqb, both_ways}
-use Rattle.std.proofs.lemmas.List.{append-nil, append_assoc, length-append, map-append}
+use Rattle.std.proofs.lemmas.Bool.{and_parts, and_from, le-leb, eqb-true, eq-eqb, ne_eqb}
+use Rattle.std.proofs.lemmas.List.{append-nil, length-append}
 use Rattle.std.proofs.lemmas.List.Elements.{filter-append}
-use Rattle.std.proofs.lemmas.List.Folds.{find_at, list_any-append}
 use Rattle.wk_text_rules.specs.Titles.{PageTitle, title_eq}
 use Rattle.wk_page_rules.specs.Verdict.{max_text}
 use Rattle.wk_table_rules.specs.Rows.{StoreTables, PageColumns, RevisionColumns, LinkColumns, CategoryColumns, RedirectColumns, JobColumns, category_title}
-use Rattle.wk_table_rules.specs.Changes.{has_page, namespace_of, with_page}
+use Rattle.wk_table_rules.specs.Changes.{has_page, namespace_of}
 use Rattle.wk_table_rules.specs.JobTable.{refresh_cmd}
-use Rattle.wk_table_rules.specs.GoodStore.{is_normal, is_real, row_lt, has_good_id, has_good_title, is_good_revision, has_good_parent, has_good_latest, is_good_link, is_good_category, is_good_redirect, is_good_number, is_good_refresh, is_good_fan, is_good_job, stands_already, current_of, last_revision, texts_len, max_texts, max_pages, bad_version}
+use Rattle.wk_table_rules.specs.GoodStore.{is_normal, is_real, row_lt, has_good_id, has_good_title, is_good_revision, has_good_parent, has_good_latest, is_good_link, is_good_category, is_good_redirect, is_good_number, is_good_refresh, is_good_fan, is_good_job, stands_already, current_of, last_revision, texts_len, max_texts, max_pages}
 use Rattle.wk_table_laws.specs.EachGood.{GoodAfter, EachGood, KeepsRules}
-use Rattle.wk_table_laws.specs.Premises.{FitRevision, IsStanding, IsNext}
-use Rattle.wk_table_laws.proofs.FirstBad.{EachGood-push, GoodAfter-append}
-use Rattle.wk_table_laws.proofs.Pairs.{each-append, each-weaker}
-use Rattle.wk_table_laws.proofs.JobRows.{GoodAfter-weaker, position-found, position-none, slice_get-within}
+use Rattle.wk_table_laws.specs.Premises.{FitRevision}
+use Rattle.wk_table_laws.proofs.FirstBad.{EachGood-push}
+use Rattle.wk_table_laws.proofs.Pairs.{each-weaker}
+use Rattle.wk_table_laws.proofs.JobRows.{GoodAfter-weaker}
 
 -- ---- the page table grows
 
@@ -51,8 +49,8 @@ module _ (tables : StoreTables) (pages : List PageColumns) (revisions : List Rev
       let right' = int_eq row.from_namespace (namespace_of (record tables { pages = pages }) row.from) in
       let still : right' ≡ true = ap (λ z. int_eq row.from_namespace z) (grows.placed row.from c.0) ∙ c.1 in
       and_from ((list_any (λ page. eqb page.page_id row.from) pages && right') && is_real row.target) behind
-          (and_from (list_any (λ page. eqb page.page_id row.from) pages && right') (is_real row.target)
-              (and_from (list_any (λ page. eqb page.page_id row.from) pages) right' (grows.there row.from c.0) still) b.1) a.1
+      (and_from (list_any (λ page. eqb page.page_id row.from) pages && right') (is_real row.target)
+      (and_from (list_any (λ page. eqb page.page_id row.from) pages) right' (grows.there row.from c.0) still) b.1) a.1
 
   category-grows : (before : List CategoryColumns) (row : CategoryColumns) → is_good_category tables before row ≡ true → is_good_category (record tables { pages = pages; revisions = revisions }) before row ≡ true
   category-grows before row good =
@@ -122,18 +120,20 @@ ids-above before [] good = tt
 ids-above before (row ∷ rows) good =
     let parts = and_parts (eqb row.page_id (length before + 1)) (leb row.page_id max_pages) good.0 in
     let id : row.page_id ≡ length before + 1 = eqb-true row.page_id (length before + 1) parts.0 in
-    let longer : length (before ++ row ∷ []) ≡ length before + 1 = length-append before (row ∷ []) in
-    ( omega arith
-    , each-weaker (λ later. length (before ++ row ∷ []) < later.page_id) (λ later. length before < later.page_id) (λ later above. omega arith) rows (ids-above (before ++ row ∷ []) rows good.1))
+    let longer : length (before ++ row ∷ []) ≡ length before + 1 = length-append before (row ∷ []) in (
+      omega arith,
+      each-weaker (λ later. length (before ++ row ∷ []) < later.page_id) (λ later. length before < later.page_id) (λ later above. omega arith) rows (ids-above (before ++ row ∷ []) rows good.1),
+    )
 
 pub ids-within : (before rows : List PageColumns) → GoodAfter has_good_id before rows → AllByRecursion (λ row. row.page_id ≤ length before + length rows) rows
 ids-within before [] good = tt
 ids-within before (row ∷ rows) good =
     let parts = and_parts (eqb row.page_id (length before + 1)) (leb row.page_id max_pages) good.0 in
     let id : row.page_id ≡ length before + 1 = eqb-true row.page_id (length before + 1) parts.0 in
-    let longer : length (before ++ row ∷ []) ≡ length before + 1 = length-append before (row ∷ []) in
-    ( omega arith
-    , each-weaker (λ later. later.page_id ≤ length (before ++ row ∷ []) + length rows) (λ later. later.page_id ≤ length before + length (row ∷ rows)) (λ later within. omega arith) rows (ids-within (before ++ row ∷ []) rows good.1))
+    let longer : length (before ++ row ∷ []) ≡ length before + 1 = length-append before (row ∷ []) in (
+      omega arith,
+      each-weaker (λ later. later.page_id ≤ length (before ++ row ∷ []) + length rows) (λ later. later.page_id ≤ length before + length (row ∷ rows)) (λ later within. omega arith) rows (ids-within (before ++ row ∷ []) rows good.1),
+    )
 
 module _ (tables : StoreTables) (revision : RevisionColumns) (page : PageColumns) (fit : FitRevision tables revision page) (pages : List PageColumns) where
   pub latest-own : has_good_latest (record tables { pages = pages; revisions = tables.revisions ++ revision ∷ [] }) [] page ≡ true
@@ -142,8 +142,8 @@ module _ (tables : StoreTables) (revision : RevisionColumns) (page : PageColumns
       let own : eqb revision.rev_page page.page_id ≡ true = eq-eqb revision.rev_page page.page_id fit.of_page in
       has_good_latest-is (record tables { pages = pages; revisions = tables.revisions ++ revision ∷ [] }) [] page
       ∙ rw (last_revision-own tables.revisions revision page.page_id own)
-          (and_from (eqb page.page_latest (cond revision.rev_gone 0 revision.rev_id)) (eqb page.page_len revision.rev_len)
-              (eq-eqb page.page_latest (cond revision.rev_gone 0 revision.rev_id) fit.latest) (eq-eqb page.page_len revision.rev_len fit.page_len))
+      (and_from (eqb page.page_latest (cond revision.rev_gone 0 revision.rev_id)) (eqb page.page_len revision.rev_len)
+      (eq-eqb page.page_latest (cond revision.rev_gone 0 revision.rev_id) fit.latest) (eq-eqb page.page_len revision.rev_len fit.page_len))
 
   pub latest-other : (row : PageColumns) → (row.page_id ≡ page.page_id → ⊥) → has_good_latest tables [] row ≡ true → has_good_latest (record tables { pages = pages; revisions = tables.revisions ++ revision ∷ [] }) [] row ≡ true
   latest-other row apart good =
@@ -166,7 +166,7 @@ module _ (tables : StoreTables) (revision : RevisionColumns) (page : PageColumns
         revisions = EachGood-push (is_good_revision saved) tables.revisions revision
             (GoodAfter-weaker (is_good_revision tables) (is_good_revision saved) (revision-grows tables pages revisions grows) [] tables.revisions keeps.revisions)
             (rw (eq-eqb revision.rev_id (length tables.revisions + 1) fit.number, own, fit.gone, eq-eqb revision.rev_len (length revision.rev_text) fit.len, le-leb revision.rev_len max_text fit.short)
-                (le-leb (texts_len revisions) max_texts fit.room));
+            (le-leb (texts_len revisions) max_texts fit.room));
         parents = EachGood-push has_good_parent tables.revisions revision keeps.parents
             (eq-eqb revision.rev_parent_id (current_of tables.revisions revision.rev_page) (fit.parent ∙ ap (current_of tables.revisions) (sym fit.of_page)));
         latest = each-good pages [] latest;

@@ -1,5 +1,5 @@
 -- What it means that no rule of a good store is broken: each row is good.
-use Rattle.std.specs.Prelude.{◌≡◌, ℕ, Bool, true, List, [], ◌∷◌, ◌++◌, ⊤, None}
+use Rattle.std.specs.Prelude.{◌≡◌, Bool, true, List, [], ◌∷◌, ◌++◌, ⊤, None}
 use Rattle.wk_table_rules.specs.Rows.{StoreTables}
 use Rattle.wk_table_rules.specs.GoodStore.{has_good_id, has_good_title, is_good_revision, has_good_parent, has_good_latest, is_good_link, is_good_category, is_good_redirect, is_good_job, bad_version}
 

@@ -1,13 +1,13 @@
 -- What an edit must bring so that good tables stay good.
-use Rattle.std.specs.Prelude.{◌≡◌, ℕ, Bool, true, false, ◌&&◌, ◌||◌, ◌==◌, not, nat_le, ◌+◌, ◌≤◌, List, [], ◌∷◌, ◌++◌, length, find, bytes_eq, Option, Some, None, IfSome, if◌then◌else◌}
+use Rattle.std.specs.Prelude.{◌≡◌, ℕ, Bool, true, false, ◌&&◌, ◌||◌, ◌==◌, not, nat_le, ◌+◌, ◌≤◌, List, [], ◌∷◌, ◌++◌, length, find, bytes_eq, Some, None, IfSome, if◌then◌else◌}
 use Rattle.std.specs.List.{list_all}
 use Rattle.std.specs.Ordering.{is_lt}
 use Rattle.wk_text_rules.specs.Titles.{PageTitle, title_cmp}
 use Rattle.wk_page_rules.specs.Verdict.{max_text}
 use Rattle.wk_table_rules.specs.Rows.{JobColumns, PageColumns, RevisionColumns, StoreTables, category_title}
-use Rattle.wk_table_rules.specs.Changes.{Member, PageLinks, has_page}
+use Rattle.wk_table_rules.specs.Changes.{Member, PageLinks, TableEdit, add_revision, set_page, set_rows, add_job, set_job, drop_job, set_version, applied, edited, has_job, has_page}
 use Rattle.wk_table_rules.specs.JobTable.{fan_params, refresh_cmd}
-use Rattle.wk_table_rules.specs.GoodStore.{current_of, has_good_title, is_normal, is_real, max_pages, max_texts, texts_len}
+use Rattle.wk_table_rules.specs.GoodStore.{current_of, has_good_title, is_good_job, is_normal, is_real, max_pages, max_texts, texts_len}
 use Rattle.wk_table_laws.specs.EachGood.{EachGood}
 
 -- a title that a page can have, behind all titles before it
@@ -65,3 +65,30 @@ pub record IsNext (tables : StoreTables) (new : PageColumns) : Type 0 where
   pub number : new.page_id ≡ length tables.pages + 1
   pub few : new.page_id ≤ max_pages
   pub title : has_good_title tables.pages new ≡ true
+
+-- A change that brings what the rules ask: each edit does so at its turn, a revision together with its page's row.
+pub data FitChange : StoreTables → List TableEdit → Type 0 where
+  nothing : {tables : StoreTables} → FitChange tables []
+  saves_page : {tables : StoreTables} {revision : RevisionColumns} {old page : PageColumns} {change : List TableEdit}
+      → FitRevision tables revision page → IsStanding tables old page
+      → FitChange (applied tables (add_revision revision ∷ set_page page ∷ [])) change
+      → FitChange tables (add_revision revision ∷ set_page page ∷ change)
+  adds_page : {tables : StoreTables} {revision : RevisionColumns} {page : PageColumns} {change : List TableEdit}
+      → FitRevision tables revision page → IsNext tables page
+      → FitChange (applied tables (add_revision revision ∷ set_page page ∷ [])) change
+      → FitChange tables (add_revision revision ∷ set_page page ∷ change)
+  sets_rows : {tables : StoreTables} {page : ℕ} {links : PageLinks} {change : List TableEdit}
+      → FitLinks tables page links → FitChange (edited tables (set_rows page links)) change
+      → FitChange tables (set_rows page links ∷ change)
+  adds_job : {tables : StoreTables} {job : JobColumns} {change : List TableEdit}
+      → is_good_job tables tables.jobs job ≡ true → FitChange (edited tables (add_job job)) change
+      → FitChange tables (add_job job ∷ change)
+  sets_job : {tables : StoreTables} {old job : JobColumns} {change : List TableEdit}
+      → FitJob tables old job → FitChange (edited tables (set_job job)) change
+      → FitChange tables (set_job job ∷ change)
+  drops_job : {tables : StoreTables} {id : ℕ} {change : List TableEdit}
+      → has_job tables id ≡ true → FitChange (edited tables (drop_job id)) change
+      → FitChange tables (drop_job id ∷ change)
+  raises_version : {tables : StoreTables} {change : List TableEdit}
+      → FitChange (edited tables (set_version 2)) change
+      → FitChange tables (set_version 2 ∷ change)
