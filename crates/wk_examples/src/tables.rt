@@ -4,8 +4,9 @@ ghost use Rattle.wk_table_rules.specs.declared.Reach.TheVariants.{Text, Both};
 ghost use Rattle.wk_table_rules.specs.Rows.{category_title, no_tables};
 ghost use Rattle.wk_table_rules.specs.Changes.{add_revision, set_page, set_rows, add_job, set_job, drop_job, set_version, applied, fits, no_links, with_rows_of};
 ghost use Rattle.wk_table_rules.specs.Stored.{stored_links};
-ghost use Rattle.wk_table_rules.specs.JobTable.{fan_params, params_text, refresh_row};
+ghost use Rattle.wk_table_rules.specs.JobTable.{fan_params, fan_row, params_text, refresh_row};
 ghost use Rattle.wk_table_rules.specs.GoodStore.{first_broken};
+ghost use Rattle.wk_table_laws.specs.Premises.{FitChange};
 ghost use Rattle.wk_examples.specs.Stores.{both, broken, good, told, page, main, template, special, title_a, title_b, title_t, page_a, page_b, revision, deletion, revision_1, revision_2, deletion_3, link, category, member, redirect, fan_job, with_pages, with_revisions, with_history, with_pagelinks, with_templatelinks, with_existlinks, with_categorylinks, with_redirects, with_jobs};
 
 /// A store that breaks no rule with either version, and a new store.
@@ -206,4 +207,17 @@ pub fn job_params()
     ensures written_both { params_text (record { reach = Both; cursor = 300 }) ≡ codes "both:300" }
     ensures read { fan_params (codes "both:300") ≡ Some (record { reach = Both; cursor = 300 }) }
     ensures not_read { fan_params (codes "both:") ≡ None }
+{}
+
+/// Changes that bring what the rules ask: a save of a new page, a deletion, and a refresh that is done.
+pub fn changes_that_keep_tables_good()
+    ensures new_page { FitChange (good 2) (
+        add_revision (revision 4 3 0 (codes "c")) ∷ set_page (page 3 (main (codes "C")) 4 1)
+        ∷ add_job (refresh_row 5 (main (codes "C")))
+        ∷ set_job (fan_row 4 title_t (record { reach = Both; cursor = 0 })) ∷ []) }
+    ensures deletion { FitChange (good 2) (add_revision (deletion 4 1 1) ∷ set_page (page 1 title_a 0 0) ∷ []) }
+    ensures refresh { FitChange (good 2) (
+        set_rows 1 (record no_links { templates = title_a ∷ title_t ∷ []; members = member (codes "Z") ∷ []; redirect = Some title_b })
+        ∷ drop_job 1 ∷ []) }
+    ensures version { FitChange (good 1) (set_version 2 ∷ add_job (refresh_row 5 title_b) ∷ []) }
 {}
