@@ -2,6 +2,12 @@
 //! Nothing stands on this crate, and nothing here runs.
 #![tactic(auto)]
 
+pub mod atoms;
 pub mod jobs;
+pub mod links;
+pub mod numerals;
+pub mod redirects;
+pub mod selection;
 pub mod tables;
 pub mod titles;
+pub mod trees;

@@ -1,0 +1,12 @@
+use Rattle.std.proofs.Common.{length, ◌≡◌, ◌+◌, ◌≤◌, take}
+use Rattle.std.specs.List.{suffix_len}
+use Rattle.wk_text_rules.specs.Blank.{is_blank_byte}
+use Rattle.wk_bytes.proofs.blank.trim_end.Given as goal
+
+abbrev pub invariant-loop-end : goal.invariant-loop-end
+invariant-loop-end l =
+    (l.end ≤ length l.bytes)
+    × (l.end + suffix_len is_blank_byte l.bytes ≡ length l.bytes + suffix_len is_blank_byte (take l.end l.bytes))
+
+abbrev pub decreases-loop-end : goal.decreases-loop-end
+decreases-loop-end l = l.end

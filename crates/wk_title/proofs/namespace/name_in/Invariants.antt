@@ -1,0 +1,9 @@
+use Rattle.std.proofs.Common.{◌≡◌, length, map}
+use Rattle.wk_title.specs.Names.{name_in}
+use Rattle.wk_title.proofs.namespace.name_in.Given as goal
+
+abbrev pub invariant-loop-table : goal.invariant-loop-table
+invariant-loop-table l = name_in (map (λ e. (e.0, e.1.now)) l.table) l.ns ≡ name_in (map (λ e. (e.0, e.1.now)) l.fn.table) l.ns
+
+abbrev pub decreases-loop-table : goal.decreases-loop-table
+decreases-loop-table l = length l.table

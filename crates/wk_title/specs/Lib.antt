@@ -1,0 +1,6 @@
+pub mod Colons
+pub mod Legal
+pub mod Names
+pub mod Normal
+pub mod Placed
+pub mod Shown

@@ -1,0 +1,133 @@
+//! Titles of texts; the expected values are MediaWiki's, or follow from the profile's own rules by hand.
+use crate::{Title, TitleRefusal, is_namespace, namespace_name, normalize, shown};
+use std::alloc::{AllocError, Global};
+use std::test::Fail;
+
+/// A text, its default namespace, and the namespace and the key that it names.
+const TITLES: [(&str, i8, i8, &str); 24] = [
+    (" talk : foo  bar#x", 0, 1, "Foo_bar"),
+    (":Category:x", 0, 14, "X"),
+    ("Image:a.png", 0, 6, "A.png"),
+    ("User_talk:x", 0, 3, "X"),
+    ("i\u{307}", 0, 0, "\u{130}"),
+    ("Talk:File:x", 0, 1, "File:x"),
+    (":a", 10, 0, "A"),
+    ("a", 10, 10, "A"),
+    ("MEDIAWIKI  TALK_:_a", 0, 9, "A"),
+    ("image talk:a", 0, 7, "A"),
+    ("sPECIAL:a", 0, -1, "A"),
+    ("mail:a", 0, 0, "Mail:a"),
+    ("\u{e9}a", 0, 0, "\u{e9}a"),
+    ("e\u{301}", 0, 0, "\u{e9}"),
+    ("\u{958}", 0, 0, "\u{915}\u{93c}"),
+    ("a\u{200e}b\u{202c}", 0, 0, "Ab"),
+    ("a\u{a0}b", 0, 0, "A\u{a0}b"),
+    ("_a__b_", 0, 0, "A_b"),
+    ("a...b/.c", 0, 0, "A...b/.c"),
+    ("a%4g", 0, 0, "A%4g"),
+    ("a&b c;&;", 0, 0, "A&b_c;&;"),
+    ("a&#x41;b", 0, 0, "A&"),
+    ("a~~b", 0, 0, "A~~b"),
+    ("tal\u{212a}:a", 0, 1, "A"),
+];
+
+const NO_TITLES: [&str; 17] = [
+    "",
+    " _ ",
+    "#a",
+    "Template:",
+    "a%41",
+    "a/../b",
+    "./a",
+    "a/..",
+    "a&amp;b",
+    "::a",
+    "Talk::a",
+    "a~~~b",
+    "a[b",
+    "a\u{7f}",
+    "a\tb",
+    "a\u{fffd}",
+    "a|",
+];
+
+fn title_of(alloc: Global, text: &str, default_ns: i8) -> Result<Title, TitleRefusal> {
+    if is_namespace(default_ns) {
+        normalize(alloc, text, default_ns)
+    } else {
+        Err(TitleRefusal::Illegal)
+    }
+}
+
+#[test]
+fn names_titles(rt: HostRuntime) -> Result<(), Fail> {
+    for (text, default_ns, ns, key) in TITLES {
+        let title = title_of(rt.alloc(), text, default_ns)?;
+        assert_eq!(rt; title.ns(), ns, "in {text:?}");
+        assert_eq!(rt; title.key(), key, "in {text:?}");
+    }
+    Ok(())
+}
+
+#[test]
+fn refuses_texts(rt: HostRuntime) {
+    for text in NO_TITLES {
+        let refused = matches!(title_of(rt.alloc(), text, 0), Err(TitleRefusal::Illegal));
+        assert!(rt; refused, "in {text:?}");
+    }
+}
+
+fn repeated(alloc: Global, text: &str, times: usize) -> Result<String, AllocError> {
+    let mut all = String::new(alloc);
+    for _ in 0..times {
+        all.push_str(text)?;
+    }
+    Ok(all)
+}
+
+#[test]
+fn takes_255_bytes(rt: HostRuntime) -> Result<(), Fail> {
+    for (text, times, is_legal) in [
+        ("a", 255, true),
+        ("a", 256, false),
+        ("e\u{301}", 127, true),
+        ("e\u{301}", 128, false),
+        ("\u{958}", 42, true),
+        ("\u{958}", 43, false),
+    ] {
+        let all = repeated(rt.alloc(), text, times)?;
+        let legal = title_of(rt.alloc(), all.as_str(), 0).is_ok();
+        assert_eq!(rt; legal, is_legal, "{times} times {text:?}");
+    }
+    Ok(())
+}
+
+#[test]
+fn finds_each_namespace(rt: HostRuntime) -> Result<(), Fail> {
+    for ns in -2..=15 {
+        let mut text = namespace_name(ns).to_ascii_uppercase(rt.alloc())?;
+        text.push_str(":x y")?;
+        let title = title_of(rt.alloc(), text.as_str(), 0)?;
+        assert_eq!(rt; title.ns(), ns);
+        assert_eq!(rt; title.is_virtual(), ns < 0);
+        let mut form = String::new(rt.alloc());
+        shown(&title, &mut form)?;
+        assert_eq!(rt; form.as_str().ends_with("X y"), true);
+        assert!(rt; title_of(rt.alloc(), form.as_str(), 0)? == title);
+    }
+    Ok(())
+}
+
+#[test]
+fn shares_a_title(rt: HostRuntime) -> Result<(), Fail> {
+    let title = title_of(rt.alloc(), "user talk:a b", 0)?;
+    let shared = title.share()?;
+    assert!(rt; shared == title);
+    let mut form = String::new(rt.alloc());
+    shown(&shared, &mut form)?;
+    assert_eq!(rt; form.as_str(), "User talk:A b");
+    let (ns, key) = title.into_parts();
+    assert_eq!(rt; ns, 3);
+    assert_eq!(rt; key.as_str(), "A_b");
+    Ok(())
+}
