@@ -5,3 +5,4 @@ pub mod JobRows
 pub mod SavedRows
 pub mod SavedPages
 pub mod GoodChanges
+pub mod JobParams

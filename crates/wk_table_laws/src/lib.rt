@@ -2,9 +2,10 @@
 //! Nothing here runs.
 #![tactic(auto)]
 
-ghost use Rattle.std.specs.Prelude.{◌≡◌, ◌+◌, true, List, ℕ, Some, slice_get};
+ghost use Rattle.std.specs.Prelude.{◌≡◌, ◌+◌, ◌<◌, ◌^◌, true, List, ℕ, Some, slice_get};
 ghost use Rattle.wk_table_rules.specs.Rows.{StoreTables, PageColumns, RevisionColumns, no_tables};
 ghost use Rattle.wk_table_rules.specs.Changes.{TableEdit, applied, fits};
+ghost use Rattle.wk_table_rules.specs.JobTable.{FanParams, fan_params, params_text};
 ghost use Rattle.wk_table_rules.specs.GoodStore.{IsGood};
 ghost use Rattle.wk_table_laws.specs.EachGood.{KeepsRules};
 ghost use Rattle.wk_table_laws.specs.Premises.{FitChange};
@@ -28,4 +29,9 @@ pub fn good_tables_stay_good()
     ensures new { IsGood no_tables }
     ensures fit { (tables : StoreTables) (change : List TableEdit) → IsGood tables → FitChange tables change → fits tables change ≡ true }
     ensures good { (tables : StoreTables) (change : List TableEdit) → IsGood tables → FitChange tables change → IsGood (applied tables change) }
+{}
+
+/// The params of a fan job are read back as they were written.
+pub fn fan_params_are_read_back()
+    ensures { (params : FanParams) → params.cursor < 2 ^ 64 → fan_params (params_text params) ≡ Some params }
 {}
