@@ -1,5 +1,5 @@
 -- The jobs and the link rows of the worked examples on jobs.
-use Rattle.std.specs.Prelude.{ℕ, List, [], ◌∷◌, Some, None}
+use Rattle.std.specs.Prelude.{ℕ, ◌==◌, List, [], ◌∷◌, Some, None, if◌then◌else◌}
 use Rattle.wk_text_rules.specs.Titles.{PageTitle}
 use Rattle.wk_table_rules.specs.declared.Reach.{Reach}
 use Rattle.wk_table_rules.specs.declared.Reach.TheVariants.{Text, Both}
@@ -41,3 +41,11 @@ stored = includes title_t ∷ tests title_t ∷ includes title_t ∷ includes ti
 
 abbrev pub users_of_t : List PageLinks
 users_of_t = includes title_t ∷ includes title_t ∷ includes title_t ∷ []
+
+-- the titles of pages 1 and 2
+abbrev pub title_of_page : ℕ → PageTitle
+title_of_page page = if page == 1 then title_a else title_b
+
+-- page 1 is being refreshed, and two titles are fanned
+abbrev pub mixed : JobLists
+mixed = record { refreshes = held 2 1 9 ∷ []; fans = fan 1 title_t Text 3 ∷ fan 4 title_b Both 0 ∷ []; next = 7 }

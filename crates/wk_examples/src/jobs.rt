@@ -5,11 +5,12 @@ ghost use Rattle.wk_table_rules.specs.Rows.{no_tables};
 ghost use Rattle.wk_table_rules.specs.Changes.{no_links};
 ghost use Rattle.wk_table_rules.specs.JobTable.{refresh_row};
 ghost use Rattle.wk_job_rules.specs.Users.{users};
-ghost use Rattle.wk_job_rules.specs.Jobs.{no_jobs, first_queued, page_held_by, first_fan, left, refresh_queued, claimed_by, given_back, refresh_dropped, fan_set, fan_moved, fan_dropped};
+ghost use Rattle.wk_job_rules.specs.Jobs.{IsNumbered, no_jobs, first_queued, page_held_by, first_fan, left, refresh_queued, claimed_by, given_back, refresh_dropped, fan_set, fan_moved, fan_dropped};
 ghost use Rattle.wk_job_rules.specs.Steps.{after_save, after_fan, reach_of_save, reopened_jobs, rows_of_jobs, jobs_of_tables};
 ghost use Rattle.wk_job_rules.specs.Covers.{is_covered};
+ghost use Rattle.wk_job_laws.specs.InOrder.{CanStand, IsInOrder};
 ghost use Rattle.wk_examples.specs.Stores.{good, title_a, title_b, title_t, fan_job};
-ghost use Rattle.wk_examples.specs.Queues.{waiting, held, fan, three, two_fans, stored, users_of_t, includes, tests};
+ghost use Rattle.wk_examples.specs.Queues.{waiting, held, fan, mixed, three, title_of_page, two_fans, stored, users_of_t, includes, tests};
 
 /// A page has one refresh job; the first that is queued is claimed; one that is given back stands last.
 pub fn refreshes()
@@ -114,4 +115,11 @@ pub fn covered_pages()
         ≡ false }
     ensures served_already { is_covered (fan_moved (fan_set no_jobs title_t Text) 4) 4 (includes title_t)
         ≡ false }
+{}
+
+/// Lists whose rows stand for them: each page is found by its title, and the fan jobs stand in order.
+pub fn lists_that_can_stand()
+    ensures found { CanStand (good 2) title_of_page mixed }
+    ensures in_order { IsInOrder mixed }
+    ensures numbered { IsNumbered mixed }
 {}
