@@ -36,8 +36,8 @@ fan_pages = 300
 abbrev pub all_queued : JobLists → List ℕ → JobLists
 all_queued lists pages = fold refresh_queued lists pages
 
--- The pages that the first fan job names above its cursor are served, at most so many, in order. Its cursor is then the
--- last page that was served, and the job goes exactly where no page above that names its title.
+-- The pages above the first fan job's cursor that name its title are served, at most so many, in order. The cursor is
+-- then the last page that was served, and the job goes exactly where no page above that names its title.
 abbrev pub served_by : List PageLinks → ℕ → JobLists → FanEntry → JobLists
 served_by stored most lists fan =
     let served = users stored fan.title fan.reach fan.cursor most in
@@ -77,9 +77,9 @@ reopened_jobs lists = record {
 -- the rows of the jobs in the order of their numbers; pages have these titles
 abbrev pub rows_of_jobs : (ℕ → PageTitle) → JobLists → List JobColumns
 rows_of_jobs title_of lists =
-    by_number (λ row. row.job_id) (
-    map (λ job. refresh_row job.number (title_of job.page)) lists.refreshes
-    ++ map (λ job. fan_row job.number job.title (record { reach = job.reach; cursor = job.cursor })) lists.fans)
+    let refreshes = map (λ job. refresh_row job.number (title_of job.page)) lists.refreshes in
+    let fans = map (λ job. fan_row job.number job.title (record { reach = job.reach; cursor = job.cursor })) lists.fans in
+    by_number (λ row. row.job_id) (refreshes ++ fans)
 
 -- the number of the page with this title, as a place in the page table
 abbrev pub page_of_title : StoreTables → PageTitle → Option ℕ
