@@ -1,2 +1,4 @@
 pub mod Computing
+pub mod Queues
 pub mod Spelled
+pub mod Stores

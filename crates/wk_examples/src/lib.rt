@@ -3,9 +3,11 @@
 #![tactic(auto)]
 
 pub mod atoms;
+pub mod jobs;
 pub mod links;
 pub mod numerals;
 pub mod redirects;
 pub mod selection;
+pub mod tables;
 pub mod titles;
 pub mod trees;

@@ -1,0 +1,37 @@
+//! Laws of the job lists and the job table: the rows of the jobs stand for the jobs, as a restart has them.
+//! Nothing here runs.
+#![tactic(auto)]
+
+ghost use Rattle.std.specs.Prelude.{◌≡◌, List, ℕ};
+ghost use Rattle.wk_text_rules.specs.Titles.{PageTitle};
+ghost use Rattle.wk_table_rules.specs.declared.Reach.{Reach};
+ghost use Rattle.wk_table_rules.specs.Rows.{StoreTables};
+ghost use Rattle.wk_table_rules.specs.Changes.{PageLinks};
+ghost use Rattle.wk_job_rules.specs.Jobs.{FanEntry, JobLists, IsNumbered, no_jobs, refresh_queued, claimed_by, given_back, refresh_dropped, fan_set, fan_moved, fan_dropped};
+ghost use Rattle.wk_job_rules.specs.Steps.{after_save, served_by, jobs_of_tables, rows_of_jobs, reopened_jobs};
+ghost use Rattle.wk_job_laws.specs.InOrder.{CanStand, IsInOrder};
+
+/// The job table that is written of the lists stands for the lists as a restart has them, where the fan jobs stand in
+/// the order of their numbers.
+pub fn written_jobs_are_read_back()
+    ensures { (tables : StoreTables) (title_of : ℕ → PageTitle) (lists : JobLists) → CanStand tables title_of lists → IsInOrder lists
+        → jobs_of_tables (record tables { jobs = rows_of_jobs title_of lists }) ≡ reopened_jobs lists }
+{}
+
+/// The fan jobs stand in the order of their numbers, and each call keeps that.
+pub fn fan_jobs_stand_in_order()
+    ensures none { IsInOrder no_jobs }
+    ensures queued { (lists : JobLists) (page : ℕ) → IsInOrder lists → IsInOrder (refresh_queued lists page) }
+    ensures claimed { (lists : JobLists) (ticket : ℕ) → IsInOrder lists → IsInOrder (claimed_by lists ticket) }
+    ensures given_back { (lists : JobLists) (page : ℕ) → IsInOrder lists → IsInOrder (given_back lists page) }
+    ensures dropped { (lists : JobLists) (page : ℕ) → IsInOrder lists → IsInOrder (refresh_dropped lists page) }
+    ensures fan_set { (lists : JobLists) (title : PageTitle) (reach : Reach)
+        → IsNumbered lists → IsInOrder lists → IsInOrder (fan_set lists title reach) }
+    ensures fan_moved { (lists : JobLists) (cursor : ℕ) → IsInOrder lists → IsInOrder (fan_moved lists cursor) }
+    ensures fan_dropped { (lists : JobLists) → IsInOrder lists → IsInOrder (fan_dropped lists) }
+    ensures saved { (stored : List PageLinks) (lists : JobLists) (page : ℕ) (title : PageTitle) (reach : Reach)
+        → IsNumbered lists → IsInOrder lists → IsInOrder (after_save stored lists page title reach) }
+    ensures fanned { (stored : List PageLinks) (most : ℕ) (lists : JobLists) (fan : FanEntry)
+        → IsInOrder lists → IsInOrder (served_by stored most lists fan) }
+    ensures reopened { (lists : JobLists) → IsInOrder lists → IsInOrder (reopened_jobs lists) }
+{}

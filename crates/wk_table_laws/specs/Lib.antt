@@ -1,0 +1,2 @@
+pub mod EachGood
+pub mod Premises
