@@ -3,24 +3,22 @@
 -- in order. What is asked, and in which order, is a part of the rules.
 use Rattle.std.specs.Prelude.{ℕ, zero, suc, ◌+◌, ◌-◌, ◌/◌, pos, Bool, true, false, nat_le, nat_lt, List, [], ◌∷◌, ◌++◌, length, drop, codes, decimal, slice_get, Option, Some, None, option_and_then, if◌then◌else◌}
 use Rattle.std.specs.List.{list_any}
-use Rattle.wk_text_rules.specs.Marked.{MarkedByte, all_plain, all_sealed, plain_text_of, is_blank_output, trimmed_output, has_error}
+use Rattle.wk_text_rules.specs.Marked.{all_plain, all_sealed, plain_text_of, is_blank_output, trimmed_output, has_error}
 use Rattle.wk_text_rules.specs.Numerals.{same_output}
 use Rattle.wk_text_rules.specs.Titles.{PageTitle, normal, title_eq, is_virtual}
 use Rattle.wk_tree_rules.specs.Redirects.{redirect_target}
 use Rattle.wk_tree_rules.specs.Tree.{tree, title_part, further_parts, Part}
 use Rattle.wk_tree_rules.specs.Trees.{Item, plain, sealed, nothing, node, Row, NodeKind, template, argument}
 use Rattle.wk_tree_rules.specs.declared.Mode.TheVariants as mode
-use Rattle.wk_view_rules.specs.Expansions.{Expansion, Output, Progress, give, answer_to, ◌>>=◌, charged, argument_within_limit, inclusion_within_limit, with_test, most_tests, most_depth}
-use Rattle.wk_view_rules.specs.Frames.{Frame, Level, Binding, binding_length, bound_to, caller, is_within}
+use Rattle.wk_view_rules.specs.Expansions.{Expansion, Output, give, answer_to, ◌>>=◌, charged, argument_within_limit, inclusion_within_limit, with_test, most_tests, most_depth}
+use Rattle.wk_view_rules.specs.Frames.{Frame, Binding, binding_length, bound_to, caller, is_within}
 use Rattle.wk_view_rules.specs.Texts.{loop_error, depth_error, nesting_error, link_text, variable_text}
 use Rattle.wk_view_rules.specs.Words.{word, SwitchState, switch_on, named_item, after_named_item, bare_item, after_bare_item}
 use Rattle.wk_view_rules.specs.Worlds.{page_of, is_there}
 use Rattle.wk_view_rules.specs.declared.Func.{Func}
 use Rattle.wk_view_rules.specs.declared.Func.TheVariants.{If, IfEq, IfExist, IfError, Switch}
 use Rattle.wk_view_rules.specs.declared.Kind.TheVariants.{Include, Exists}
-use Rattle.wk_view_rules.specs.declared.Turned.{Turned}
 use Rattle.wk_view_rules.specs.declared.Turned.TheVariants.{Result, Default, Pass}
-use Rattle.wk_view_rules.specs.declared.Word.{Word}
 use Rattle.wk_view_rules.specs.declared.Word.TheVariants.{Variable, Function, Page}
 
 -- ---- lists of items
@@ -52,7 +50,6 @@ pub record Search : Type 0 where
 
 -- A node of a viewed page in a frame. `inner` expands what the node holds, in whichever frame that is.
 module _ (inner : Frame → List Item → Expansion Output) (viewed : PageTitle) (frame : Frame) where
-
   -- ---- parts
 
   -- the output without the plain blank bytes at both ends
@@ -66,9 +63,9 @@ module _ (inner : Frame → List Item → Expansion Output) (viewed : PageTitle)
   whole_part part = elim part.name [
     | None ↦ inner frame part.value
     | Some name ↦ do
-        name_out ← inner frame name
-        value_out ← inner frame part.value
-        give (name_out ++ all_plain (codes "=") ++ value_out)
+      name_out ← inner frame name
+      value_out ← inner frame part.value
+      give (name_out ++ all_plain (codes "=") ++ value_out)
   ]
 
   -- Operand n of a function, from 2 on: a further part whole and trimmed, or nothing where there is none.
@@ -76,8 +73,8 @@ module _ (inner : Frame → List Item → Expansion Output) (viewed : PageTitle)
   operand n parts = elim (slice_get parts (n - 2)) [
     | None ↦ give []
     | Some part ↦ do
-        out ← whole_part part
-        give (trimmed_output out)
+      out ← whole_part part
+      give (trimmed_output out)
   ]
 
   -- the further parts as they are written, each behind a bar
@@ -116,11 +113,11 @@ module _ (inner : Frame → List Item → Expansion Output) (viewed : PageTitle)
   with_bindings next bindings (part ∷ parts) = elim part.name [
     | None ↦ with_bindings (suc next) (record { name = decimal next; value = part.value; named = false } ∷ bindings) parts
     | Some name ↦ do
-        out ← trimmed_items name
-        elim (plain_text_of out) [
-          | None ↦ with_bindings next bindings parts
-          | Some text ↦ with_bindings next (record { name = text; value = part.value; named = true } ∷ bindings) parts
-        ]
+      out ← trimmed_items name
+      elim (plain_text_of out) [
+        | None ↦ with_bindings next bindings parts
+        | Some text ↦ with_bindings next (record { name = text; value = part.value; named = true } ∷ bindings) parts
+      ]
   ]
 
   -- the text of the page `source`, included in the place of `title`
@@ -133,13 +130,13 @@ module _ (inner : Frame → List Item → Expansion Output) (viewed : PageTitle)
   -- where a redirect leads: the target is included in the redirect's place, and isn't followed further
   unfoldable pub redirected : PageTitle → PageTitle → List Part → Expansion Output
   redirected title target parts =
-    if is_within frame target then give (loop_error target)
-    else do
-      answer ← answer_to target Include
-      elim (page_of answer) [
-        | None ↦ give (link_text title)
-        | Some p ↦ included title target p.text parts
-      ]
+      if is_within frame target then give (loop_error target)
+      else do
+        answer ← answer_to target Include
+        elim (page_of answer) [
+          | None ↦ give (link_text title)
+          | Some p ↦ included title target p.text parts
+        ]
 
   -- a page's text, by which it is included or redirects
   unfoldable pub included_text : PageTitle → List ℕ → List Part → Expansion Output
@@ -151,15 +148,15 @@ module _ (inner : Frame → List Item → Expansion Output) (viewed : PageTitle)
   -- the inclusion of a title
   unfoldable pub inclusion : PageTitle → List Part → Expansion Output
   inclusion title parts =
-    if is_virtual title then give (link_text title)
-    else if is_within frame title then give (loop_error title)
-    else if nat_le most_depth (length frame) then give (depth_error title)
-    else do
-      answer ← answer_to title Include
-      elim (page_of answer) [
-        | None ↦ give (link_text title)
-        | Some p ↦ included_text title p.text parts
-      ]
+      if is_virtual title then give (link_text title)
+      else if is_within frame title then give (loop_error title)
+      else if nat_le most_depth (length frame) then give (depth_error title)
+      else do
+        answer ← answer_to title Include
+        elim (page_of answer) [
+          | None ↦ give (link_text title)
+          | Some p ↦ included_text title p.text parts
+        ]
 
   -- a template node as it is written, with what it holds expanded; comments are gone
   unfoldable pub template_as_written : Output → List Part → Expansion Output
@@ -188,15 +185,15 @@ module _ (inner : Frame → List Item → Expansion Output) (viewed : PageTitle)
   -- A title that was tested before is asked again, and one more only where fewer than the most were tested.
   unfoldable pub existence_output : PageTitle → List Part → Expansion Output
   existence_output title parts progress =
-    if list_any (title_eq title) progress.tested then by_existence title parts progress
-    else if nat_lt progress.counters.exists most_tests then by_existence title parts (with_test title progress)
-    else operand 3 parts progress
+      if list_any (title_eq title) progress.tested then by_existence title parts progress
+      else if nat_lt progress.counters.exists most_tests then by_existence title parts (with_test title progress)
+      else operand 3 parts progress
 
   -- the title that is tested: none with a sealed byte, and none in a negative namespace
   abbrev pub tested_title : Output → Option PageTitle
   tested_title first =
-    option_and_then (λ title. if is_virtual title then None else Some title)
-    (option_and_then (λ text. normal text (pos 0)) (plain_text_of first))
+      option_and_then (λ title. if is_virtual title then None else Some title)
+      (option_and_then (λ text. normal text (pos 0)) (plain_text_of first))
 
   -- ---- `#switch`
 
@@ -227,18 +224,18 @@ module _ (inner : Frame → List Item → Expansion Output) (viewed : PageTitle)
   switch_output search [] = without_result search
   switch_output search (part ∷ parts) = elim part.name [
     | None ↦ do
-        text ← trimmed_items part.value
-        switch_output (behind_bare_item search text) parts
+      text ← trimmed_items part.value
+      switch_output (behind_bare_item search text) parts
     | Some name ↦ elim search.matched [
-        | true ↦ trimmed_items part.value
-        | false ↦ do
-            text ← trimmed_items name
-            elim (named_item search.decides text) [
-              | Result ↦ trimmed_items part.value
-              | Default ↦ switch_output (behind_named_item search (Some part.value)) parts
-              | Pass ↦ switch_output (behind_named_item search search.default) parts
-            ]
-      ]
+      | true ↦ trimmed_items part.value
+      | false ↦ do
+        text ← trimmed_items name
+        elim (named_item search.decides text) [
+          | Result ↦ trimmed_items part.value
+          | Default ↦ switch_output (behind_named_item search (Some part.value)) parts
+          | Pass ↦ switch_output (behind_named_item search search.default) parts
+        ]
+    ]
   ]
 
   abbrev pub new_search : Output → Search
@@ -257,9 +254,9 @@ module _ (inner : Frame → List Item → Expansion Output) (viewed : PageTitle)
     | Some title ↦ existence_output title parts
   ]
   function_output IfError first parts =
-    if has_error first then operand 2 parts
-    else if nat_lt (length parts) 2 then give first
-    else operand 3 parts
+      if has_error first then operand 2 parts
+      else if nat_lt (length parts) 2 then give first
+      else operand 3 parts
   function_output Switch first parts = switch_output (new_search first) parts
 
   -- ---- a template

@@ -1,6 +1,6 @@
 -- Expansions: plans that keep four counters, and the limits of these (MediaWiki's Manual:Template limits; the
 -- numbers and the node budget's charges are own).
-use Rattle.std.specs.Prelude.{ℕ, ◌+◌, Bool, nat_lt, List, [], ◌∷◌, length, if◌then◌else◌}
+use Rattle.std.specs.Prelude.{ℕ, ◌+◌, nat_lt, List, [], ◌∷◌, length, if◌then◌else◌}
 use Rattle.wk_text_rules.specs.Marked.{MarkedByte}
 use Rattle.wk_text_rules.specs.Titles.{PageTitle}
 use Rattle.wk_view_rules.specs.Plans.{Plan, gives, asks, and_then}

@@ -1,5 +1,5 @@
 -- Frames: in which page a text is expanded, and which arguments are bound there (MediaWiki's Help:Templates).
-use Rattle.std.specs.Prelude.{ℕ, ◌+◌, ◌/◌, Bool, List, [], ◌∷◌, length, find, bytes_eq, Option, Some, None, option_and_then}
+use Rattle.std.specs.Prelude.{ℕ, Bool, List, [], ◌∷◌, length, find, bytes_eq, Option, None, option_and_then}
 use Rattle.std.specs.List.{list_any}
 use Rattle.wk_text_rules.specs.Marked.{MarkedByte, plain_text_of}
 use Rattle.wk_text_rules.specs.Titles.{PageTitle, title_eq}

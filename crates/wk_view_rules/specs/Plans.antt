@@ -1,6 +1,6 @@
 -- Plans: what is done by asking. A plan gives a value, or asks for a title with a kind and goes on with the answer
 -- (own). So what is asked next can hang on the answers so far, and on nothing else.
-use Rattle.std.specs.Prelude.{List, [], ◌∷◌, ◌++◌, Bool, Some, None, if◌then◌else◌}
+use Rattle.std.specs.Prelude.{List, [], ◌∷◌, ◌++◌, Some, None, if◌then◌else◌}
 use Rattle.std.specs.List.{list_any}
 use Rattle.wk_text_rules.specs.Titles.{PageTitle}
 use Rattle.wk_view_rules.specs.Worlds.{Answer, Read, is_read_of, Source, ask}

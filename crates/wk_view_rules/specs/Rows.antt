@@ -1,11 +1,10 @@
 -- The rows that a page has in the link tables (MediaWiki's Manual:Pagelinks table, Manual:Templatelinks table,
 -- Manual:Categorylinks table and Manual:Redirect table; existence tests as rows, and the corners, are own).
-use Rattle.std.specs.Prelude.{ℕ, Bool, ◌||◌, ◌==◌, List, [], ◌∷◌, ◌++◌, length, map, filter_map, fold, Option, Some, None, if◌then◌else◌}
+use Rattle.std.specs.Prelude.{ℕ, Bool, ◌||◌, ◌==◌, List, [], ◌∷◌, ◌++◌, length, filter_map, fold, Option, Some, None, if◌then◌else◌}
 use Rattle.std.specs.List.{list_any}
-use Rattle.std.specs.declared.cmp.Ordering.{Ordering}
 use Rattle.std.specs.declared.cmp.Ordering.TheVariants.{Less, Equal, Greater}
 use Rattle.wk_text_rules.specs.Marked.{MarkedByte}
-use Rattle.wk_text_rules.specs.Occurrences.{Occurrence, Link, page, member, nothing, occurrences}
+use Rattle.wk_text_rules.specs.Occurrences.{Occurrence, page, member, nothing, occurrences}
 use Rattle.wk_text_rules.specs.Titles.{PageTitle, title_cmp, title_eq, with_spaces}
 use Rattle.wk_view_rules.specs.Plans.{Outcome, done, need}
 use Rattle.wk_view_rules.specs.Views.{Expanded, view, turned}

@@ -1,6 +1,6 @@
 -- Which word the title part of a template node is, and what an item of a `#switch` decides (MediaWiki's
 -- Help:Extension:ParserFunctions and Help:Magic words; the corners are own).
-use Rattle.std.specs.Prelude.{ℕ, ◌+◌, Bool, true, false, ◌&&◌, ◌||◌, List, [], ◌∷◌, ◌++◌, length, find, bytes_eq, codes, Option, Some, None, option_map, if◌then◌else◌}
+use Rattle.std.specs.Prelude.{ℕ, ◌+◌, Bool, false, ◌||◌, List, [], ◌∷◌, ◌++◌, length, find, bytes_eq, codes, Option, Some, None, option_map, if◌then◌else◌}
 use Rattle.std.specs.Char.{eq_ignore_ascii_case}
 use Rattle.std.specs.List.{starts_with}
 use Rattle.wk_text_rules.specs.Marked.{MarkedByte, plain, sealed, all_plain, plain_text_of}
