@@ -1,6 +1,6 @@
 -- Expansions: plans that keep four counters, and the limits of these (MediaWiki's Manual:Template limits; the
 -- numbers and the node budget's charges are own).
-use Rattle.std.specs.Prelude.{ℕ, ◌+◌, nat_lt, List, [], ◌∷◌, length, if◌then◌else◌}
+use Rattle.std.specs.Prelude.{ℕ, ◌+◌, nat_lt, List, [], ◌∷◌, ◌++◌, length, if◌then◌else◌}
 use Rattle.wk_text_rules.specs.Marked.{MarkedByte}
 use Rattle.wk_text_rules.specs.Titles.{PageTitle}
 use Rattle.wk_view_rules.specs.Plans.{Plan, gives, asks, and_then}
@@ -43,7 +43,7 @@ pub record Counters : Type 0 where
 abbrev pub no_counters : Counters
 no_counters = record { nodes = 0; include = 0; argument = 0; exists = 0 }
 
--- how far an expansion has come: the counters, and which titles were tested for existence
+-- how far an expansion has come: the counters, and the titles that were tested for existence, in order
 pub record Progress : Type 0 where
   pub counters : Counters
   pub tested : List PageTitle
@@ -65,7 +65,7 @@ with_argument n progress = record progress { counters = record progress.counters
 abbrev pub with_test : PageTitle → Progress → Progress
 with_test title progress = record {
   counters = record progress.counters { exists = progress.counters.exists + 1 };
-  tested = title ∷ progress.tested;
+  tested = progress.tested ++ title ∷ [];
 }
 
 -- ---- expansions

@@ -1,6 +1,6 @@
 -- Plans: what is done by asking. A plan gives a value, or asks for a title with a kind and goes on with the answer
 -- (own). So what is asked next can hang on the answers so far, and on nothing else.
-use Rattle.std.specs.Prelude.{List, [], ◌∷◌, ◌++◌, Some, None, if◌then◌else◌}
+use Rattle.std.specs.Prelude.{◌≡◌, ◌⊎◌, IsTrue, List, [], ◌∷◌, ◌++◌, Some, None, if◌then◌else◌}
 use Rattle.std.specs.List.{list_any}
 use Rattle.wk_text_rules.specs.Titles.{PageTitle}
 use Rattle.wk_view_rules.specs.Worlds.{Answer, Read, is_read_of, Source, ask}
@@ -37,3 +37,13 @@ run source (asks title kind more) reads = elim (ask source title kind) [
 abbrev pub reads_of : {A : Type 0} → Outcome A → List Read
 reads_of (done x reads) = reads
 reads_of (need title kind reads) = reads
+
+-- the source answered all that was asked
+abbrev pub IsDone : {A : Type 0} → Outcome A → Type 0
+IsDone (done x reads) = Unit {0}
+IsDone (need title kind reads) = ⊥
+
+-- The pair is what the source doesn't answer, with these reads before; or it is among the reads.
+abbrev pub NeedsOrReads : {A : Type 0} → PageTitle → Kind → List Read → Outcome A → Type 0
+NeedsOrReads title kind before outcome =
+    (outcome ≡ need title kind before) ⊎ IsTrue (list_any (is_read_of title kind) (reads_of outcome))

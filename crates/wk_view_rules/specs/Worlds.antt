@@ -66,9 +66,12 @@ fits_kind Include (page text) = true
 fits_kind Exists (existence there) = true
 fits_kind _ _ = false
 
--- Answers that were seen, in the order in which they were asked for: each pair of title and kind once, each answer
--- in its kind's form.
-pub record IsSeen (reads : List Read) : Type 0 where
+-- answers that were seen, in the order in which they were asked for
+abbrev pub Seen : Type 0
+Seen = List Read
+
+-- Each pair of title and kind was asked once, and each answer has its kind's form.
+pub record IsSeen (reads : Seen) : Type 0 where
   pub distinct : AllPairs (λ (a b : Read). is_read_of a.title a.kind b ≡ false) reads
   pub formed : All (λ (r : Read). IsTrue (fits_kind r.kind r.answer)) reads
 
@@ -77,7 +80,7 @@ pub record IsSeen (reads : List Read) : Type 0 where
 -- What an expansion asks: a world, or the answers that were seen so far.
 pub data Source : Type 0 where
   of_world : World → Source
-  of_seen : List Read → Source
+  of_seen : Seen → Source
 
 -- A world always answers. A list of reads answers what is in it.
 abbrev pub ask : Source → PageTitle → Kind → Option Answer
