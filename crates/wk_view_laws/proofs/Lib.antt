@@ -1,2 +1,4 @@
+pub mod CostLemmas
+pub mod ExpandCosts
 pub mod PlanLemmas
 pub mod ViewLemmas

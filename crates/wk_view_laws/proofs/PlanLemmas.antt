@@ -102,7 +102,7 @@ IsDone-run pages (asks title kind more) before = IsDone-run pages (more (answer_
 -- ---- the law
 
 -- a question, met by an answer or by none
-abbrev met : {A : Type 0} → Source → PageTitle → Kind → (Answer → Plan A) → List Read → Option Answer → Outcome A
+abbrev pub met : {A : Type 0} → Source → PageTitle → Kind → (Answer → Plan A) → List Read → Option Answer → Outcome A
 met source title kind more reads answered = elim answered [
   | None ↦ need title kind reads
   | Some answer ↦ run source (more answer) (noted reads (record { title = title; kind = kind; answer = answer }))

@@ -38,7 +38,24 @@ items_output node_output (i ∷ items) = do
   later ← items_output node_output items
   give (first ++ later)
 
--- ---- nodes
+-- ---- what a name calls and tests
+
+-- the page that a name calls, a template where no namespace is named; none where it holds a sealed byte
+abbrev pub called_title : Output → Option PageTitle
+called_title name = option_and_then (λ text. normal text (pos 10)) (plain_text_of (trimmed_output name))
+
+-- the title that is tested: none with a sealed byte, and none in a negative namespace
+abbrev pub tested_title : Output → Option PageTitle
+tested_title first =
+    option_and_then (λ title. if is_virtual title then None else Some title)
+    (option_and_then (λ text. normal text (pos 0)) (plain_text_of first))
+
+-- no further part
+abbrev pub is_alone : List Part → Bool
+is_alone [] = true
+is_alone (part ∷ parts) = false
+
+-- ---- `#switch`
 
 -- what a `#switch` has met so far: what it decides by, whether a bare item matched, the value of the last default
 -- item, and the text of the item before, where that was bare
@@ -47,6 +64,25 @@ pub record Search : Type 0 where
   pub matched : Bool
   pub default : Option (List Item)
   pub bare_before : Option Output
+
+abbrev pub new_search : Output → Search
+new_search subject = record { decides = switch_on subject; matched = false; default = None; bare_before = None }
+
+abbrev pub behind_bare_item : Search → Output → Search
+behind_bare_item so_far text = record so_far {
+  decides = after_bare_item so_far.decides text;
+  matched = (elim (bare_item so_far.decides text) [ Result ↦ true | Default ↦ so_far.matched | Pass ↦ so_far.matched ]);
+  bare_before = Some text;
+}
+
+abbrev pub behind_named_item : Search → Option (List Item) → Search
+behind_named_item so_far default = record so_far {
+  decides = after_named_item so_far.decides;
+  default = default;
+  bare_before = None;
+}
+
+-- ---- nodes
 
 -- A node of a viewed page in a frame. `inner` expands what the node holds, in whichever frame that is.
 module _ (inner : Frame → List Item → Expansion Output) (viewed : PageTitle) (frame : Frame) where
@@ -164,10 +200,6 @@ module _ (inner : Frame → List Item → Expansion Output) (viewed : PageTitle)
     written ← written_parts parts
     give (all_plain (codes "{{") ++ name ++ written ++ all_plain (codes "}}"))
 
-  -- the page that a name calls, a template where no namespace is named; none where it holds a sealed byte
-  abbrev pub called_title : Output → Option PageTitle
-  called_title name = option_and_then (λ text. normal text (pos 10)) (plain_text_of (trimmed_output name))
-
   unfoldable pub page_output : Output → List Part → Expansion Output
   page_output name parts = elim (called_title name) [
     | None ↦ template_as_written name parts
@@ -189,57 +221,34 @@ module _ (inner : Frame → List Item → Expansion Output) (viewed : PageTitle)
       else if nat_lt progress.counters.exists most_tests then by_existence title parts (with_test title progress)
       else operand 3 parts progress
 
-  -- the title that is tested: none with a sealed byte, and none in a negative namespace
-  abbrev pub tested_title : Output → Option PageTitle
-  tested_title first =
-      option_and_then (λ title. if is_virtual title then None else Some title)
-      (option_and_then (λ text. normal text (pos 0)) (plain_text_of first))
-
   -- ---- `#switch`
 
   -- With no result, the last item where that is bare, else the value of the last default item, else nothing.
   unfoldable pub without_result : Search → Expansion Output
-  without_result search = elim search.bare_before [
+  without_result so_far = elim so_far.bare_before [
     | Some text ↦ give text
-    | None ↦ elim search.default [ Some value ↦ trimmed_items value | None ↦ give [] ]
+    | None ↦ elim so_far.default [ Some value ↦ trimmed_items value | None ↦ give [] ]
   ]
-
-  abbrev pub behind_bare_item : Search → Output → Search
-  behind_bare_item search text = record search {
-    decides = after_bare_item search.decides text;
-    matched = (elim (bare_item search.decides text) [ Result ↦ true | Default ↦ search.matched | Pass ↦ search.matched ]);
-    bare_before = Some text;
-  }
-
-  abbrev pub behind_named_item : Search → Option (List Item) → Search
-  behind_named_item search default = record search {
-    decides = after_named_item search.decides;
-    default = default;
-    bare_before = None;
-  }
 
   -- The items in order. A bare item is expanded; behind one that matched the next value is the result, and its name
   -- isn't expanded. The first result ends the search.
   unfoldable pub switch_output : Search → List Part → Expansion Output
-  switch_output search [] = without_result search
-  switch_output search (part ∷ parts) = elim part.name [
+  switch_output so_far [] = without_result so_far
+  switch_output so_far (part ∷ parts) = elim part.name [
     | None ↦ do
       text ← trimmed_items part.value
-      switch_output (behind_bare_item search text) parts
-    | Some name ↦ elim search.matched [
+      switch_output (behind_bare_item so_far text) parts
+    | Some name ↦ elim so_far.matched [
       | true ↦ trimmed_items part.value
       | false ↦ do
         text ← trimmed_items name
-        elim (named_item search.decides text) [
+        elim (named_item so_far.decides text) [
           | Result ↦ trimmed_items part.value
-          | Default ↦ switch_output (behind_named_item search (Some part.value)) parts
-          | Pass ↦ switch_output (behind_named_item search search.default) parts
+          | Default ↦ switch_output (behind_named_item so_far (Some part.value)) parts
+          | Pass ↦ switch_output (behind_named_item so_far so_far.default) parts
         ]
     ]
   ]
-
-  abbrev pub new_search : Output → Search
-  new_search subject = record { decides = switch_on subject; matched = false; default = None; bare_before = None }
 
   -- ---- functions
 
@@ -260,11 +269,6 @@ module _ (inner : Frame → List Item → Expansion Output) (viewed : PageTitle)
   function_output Switch first parts = switch_output (new_search first) parts
 
   -- ---- a template
-
-  -- no further part
-  abbrev pub is_alone : List Part → Bool
-  is_alone [] = true
-  is_alone (part ∷ parts) = false
 
   -- a template node, by the word that its title part is
   unfoldable pub template_output : Output → List Part → Expansion Output
