@@ -1,13 +1,11 @@
 -- Each question but a view's own is paid for by a node, so an expansion has at most as many reads as nodes.
-use Rattle.std.proofs.Common.{◌≡◌, ℕ, zero, suc, ◌+◌, ◌-◌, ◌/◌, ◌≤◌, ◌<◌, Bool, true, false, List, [], ◌∷◌, ◌++◌, length, refl, sym, ap, subst, Option, Some, None, arith, inl, inr}
-use Rattle.std.specs.Bool.{if◌then◌else◌, nat_lt, nat_le}
-use Rattle.std.specs.List.{list_any}
+use Rattle.std.proofs.Common.{◌≡◌, ℕ, suc, ◌+◌, ◌≤◌, Bool, true, false, length, subst, Option, Some, None, arith, inl, inr}
+use Rattle.std.specs.Bool.{if◌then◌else◌, nat_lt}
 use Rattle.std.proofs.lemmas.Bool.{cases_Bool}
-use borrow.Author.Tests.{ltb-true, ltb-false}
+use borrow.Author.Tests.{ltb-false}
 use Rattle.wk_text_rules.specs.Titles.{PageTitle}
-use Rattle.wk_view_rules.specs.Expansions.{Expansion, Output, Progress, give, answer_to, ◌>>=◌, charged, argument_within_limit, inclusion_within_limit, most_nodes, most_bytes, with_nodes, with_argument, with_include}
+use Rattle.wk_view_rules.specs.Expansions.{Expansion, Output, Progress, give, answer_to, ◌>>=◌, charged, argument_within_limit, inclusion_within_limit, most_nodes, most_bytes, with_nodes}
 use Rattle.wk_view_rules.specs.Plans.{Plan, gives, asks, and_then}
-use Rattle.wk_view_rules.specs.Texts.{node_error}
 use Rattle.wk_view_rules.specs.Worlds.{Answer}
 use Rattle.wk_view_rules.specs.declared.Kind.{Kind}
 
@@ -50,8 +48,8 @@ pays-charged n credit more {rest} h enough = record {
   pays = λ base progress below most. elim (cases_Bool (nat_lt most_nodes (progress.counters.nodes + n))) [
     | inl over ↦ rw over (omega arith, omega arith)
     | inr within ↦
-      let fits : progress.counters.nodes + n ≤ most_nodes = ltb-false _ _ within in
-      rw within (h.pays base (with_nodes (progress.counters.nodes + n) progress) (omega arith) fits)
+        let fits : progress.counters.nodes + n ≤ most_nodes = ltb-false _ _ within in
+        rw within (h.pays base (with_nodes (progress.counters.nodes + n) progress) (omega arith) fits)
   ];
 }
 

@@ -1,16 +1,15 @@
 -- What the parts of an expansion cost: each template node pays for its question, and a redirect for its second one.
-use Rattle.std.proofs.Common.{◌≡◌, ℕ, zero, suc, ◌+◌, ◌-◌, ◌/◌, ◌≤◌, Bool, true, false, List, [], ◌∷◌, ◌++◌, length, refl, Option, Some, None, arith, inl, inr, zero-le}
-use Rattle.std.specs.Bool.{if◌then◌else◌, nat_lt, nat_le}
+use Rattle.std.proofs.Common.{ℕ, zero, suc, ◌+◌, ◌/◌, Bool, true, false, List, [], ◌∷◌, length, Option, Some, None, arith, inl, inr, zero-le}
+use Rattle.std.specs.Bool.{nat_lt, nat_le}
 use Rattle.std.specs.Fmt.{decimal}
 use Rattle.std.specs.List.{list_any}
 use Rattle.std.proofs.lemmas.Bool.{cases_Bool}
 use Rattle.wk_text_rules.specs.Titles.{PageTitle, title_eq, is_virtual}
-use Rattle.wk_tree_rules.specs.Tree.{Part, title_part, further_parts}
+use Rattle.wk_tree_rules.specs.Tree.{Part, title_part}
 use Rattle.wk_tree_rules.specs.Trees.{Item, plain, sealed, nothing, node, Row, NodeKind, template, argument}
-use Rattle.wk_view_rules.specs.Expand.{item_output, items_output, Search, trimmed_items, whole_part, operand, written_parts, argument_value, argument_default, argument_output, with_bindings, included, redirected, included_text, inclusion, template_as_written, called_title, page_output, by_existence, existence_output, tested_title, without_result, behind_bare_item, behind_named_item, switch_output, function_output, template_output, kind_output, node_output, expand}
-use Rattle.wk_view_rules.specs.Expansions.{Expansion, Output, Progress, give, charged, most_tests, most_depth}
-use Rattle.wk_view_rules.specs.Frames.{Frame, Binding, bound_to, binding_length, is_within}
-use Rattle.wk_view_rules.specs.Words.{word}
+use Rattle.wk_view_rules.specs.Expand.{item_output, items_output, Search, trimmed_items, whole_part, operand, written_parts, argument_value, argument_default, argument_output, with_bindings, included, redirected, included_text, inclusion, template_as_written, page_output, by_existence, existence_output, without_result, behind_bare_item, behind_named_item, switch_output, function_output, template_output, kind_output, node_output, expand}
+use Rattle.wk_view_rules.specs.Expansions.{Expansion, Output, give, most_tests, most_depth}
+use Rattle.wk_view_rules.specs.Frames.{Frame, Binding, binding_length, is_within}
 use Rattle.wk_view_rules.specs.Worlds.{page_of}
 use Rattle.wk_view_rules.specs.declared.Func.{Func}
 use Rattle.wk_view_rules.specs.declared.Func.TheVariants.{If, IfEq, IfExist, IfError, Switch}
@@ -73,7 +72,7 @@ module _ (inner : Frame → List Item → Expansion Output) (inner-pays : (frame
   pays-bindings next bindings (part ∷ parts) = pays-option part.name
       (pays-bindings (suc next) (record { name = decimal next; value = part.value; named = false } ∷ bindings) parts)
       (λ name. pays-bind (pays-trimmed name) (λ out. pays-option _ (pays-bindings next bindings parts)
-        (λ text. pays-bindings next (record { name = text; value = part.value; named = true } ∷ bindings) parts)))
+      (λ text. pays-bindings next (record { name = text; value = part.value; named = true } ∷ bindings) parts)))
 
   pays-included : (title source : PageTitle) (text : List ℕ) (parts : List Part) → Pays 0 (included inner viewed frame title source text parts)
   unfolding included
@@ -126,6 +125,7 @@ module _ (inner : Frame → List Item → Expansion Output) (inner-pays : (frame
       by_default : (o : Option (List Item)) → Pays {A = Output} 0 (elim o [ Some value ↦ trimmed_items inner viewed frame value | None ↦ give [] ])
       by_default None = pays-give _
       by_default (Some value) = pays-trimmed value
+
       go : (o : Option Output) → Pays {A = Output} 0 (elim o [ Some text ↦ give text | None ↦ elim met.default [ Some value ↦ trimmed_items inner viewed frame value | None ↦ give [] ] ])
       go None = by_default met.default
       go (Some text) = pays-give _
@@ -145,9 +145,9 @@ module _ (inner : Frame → List Item → Expansion Output) (inner-pays : (frame
   pays-switch met (part ∷ parts) = pays-option part.name
       (pays-bind (pays-trimmed part.value) (λ text. pays-switch (behind_bare_item met text) parts))
       (λ name. pays-by_match met.matched (pays-trimmed part.value) (pays-bind (pays-trimmed name) (λ text.
-        pays-by_turned _ (pays-trimmed part.value)
-        (pays-switch (behind_named_item met (Some part.value)) parts)
-        (pays-switch (behind_named_item met met.default) parts))))
+      pays-by_turned _ (pays-trimmed part.value)
+      (pays-switch (behind_named_item met (Some part.value)) parts)
+      (pays-switch (behind_named_item met met.default) parts))))
 
   pays-function : (func : Func) (first : Output) (parts : List Part) → Pays 1 (function_output inner viewed frame func first parts)
   unfolding function_output

@@ -1,5 +1,5 @@
 -- Laws of views and rows.
-use Rattle.std.proofs.Common.{◌≡◌, ℕ, suc, ◌+◌, ◌≤◌, Bool, false, List, [], ◌∷◌, length, refl, ap, Option, Some, None, arith, inl, inr, length-append}
+use Rattle.std.proofs.Common.{◌≡◌, ℕ, suc, ◌+◌, ◌≤◌, false, List, [], ◌∷◌, length, refl, ap, Option, Some, None, arith, inl, inr, length-append}
 use Rattle.std.specs.List.{list_any}
 use Rattle.std.proofs.lemmas.Bool.{cases_Bool}
 use Rattle.std.proofs.lemmas.List.Elements.{All-nil}
@@ -66,9 +66,9 @@ count-run source (asks title kind more) base over before h few =
     elim (ask source title kind) as (λ o. length (reads_of (met source title kind (λ answer. and_then (more answer) expanded_by) before o)) ≤ most_nodes + over) [
       | None ↦ omega arith
       | Some answer ↦
-        let r : Read = record { title = title; kind = kind; answer = answer } in
-        let one_more : length (noted before r) ≤ suc base + over = omega (arith, length-noted before r) in
-        count-run source (more answer) (suc base) over (noted before r) (h answer) one_more
+          let r : Read = record { title = title; kind = kind; answer = answer } in
+          let one_more : length (noted before r) ≤ suc base + over = omega (arith, length-noted before r) in
+          count-run source (more answer) (suc base) over (noted before r) (h answer) one_more
     ]
 
 -- an expansion of a text has so many reads more than before at most
@@ -76,7 +76,7 @@ pub length-text : (source : Source) (page : PageTitle) (text : List ℕ) (before
 unfolding text_plan
 length-text source page text before =
     let paid : EndsPaid 0 (expand most_open page [] (tree View text) no_progress) =
-      (pays-expand most_open page [] (tree View text)).pays 0 no_progress (omega arith) (omega arith)
+    (pays-expand most_open page [] (tree View text)).pays 0 no_progress (omega arith) (omega arith)
     in
     count-run source (expand most_open page [] (tree View text) no_progress) 0 (length before) before paid (omega arith)
 
