@@ -6,6 +6,8 @@ pub mod atoms;
 pub mod links;
 pub mod numerals;
 pub mod redirects;
+pub mod rows;
 pub mod selection;
 pub mod titles;
 pub mod trees;
+pub mod views;
