@@ -1,3 +1,5 @@
 pub mod Computing
 pub mod Pages
 pub mod Spelled
+pub mod Stores
+pub mod Queues

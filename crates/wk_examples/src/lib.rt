@@ -3,11 +3,13 @@
 #![tactic(auto)]
 
 pub mod atoms;
+pub mod jobs;
 pub mod links;
 pub mod numerals;
 pub mod redirects;
 pub mod rows;
 pub mod selection;
+pub mod tables;
 pub mod titles;
 pub mod trees;
 pub mod views;

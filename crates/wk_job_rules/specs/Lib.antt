@@ -1,0 +1,5 @@
+pub mod Users
+pub mod Jobs
+pub mod Steps
+pub mod Covers
+pub mod Computing
