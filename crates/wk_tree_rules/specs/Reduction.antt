@@ -1,10 +1,11 @@
 -- How marks are matched into nodes, as a rewriting of the whole list of atoms (MediaWiki's Preprocessor ABNF; all
 -- of how braces and brackets that cross are matched is own).
 use Rattle.std.specs.Prelude.{ℕ, zero, suc, ◌+◌, ◌-◌, ◌==◌, min, replicate, List, [], ◌∷◌, ◌++◌, length, map, filter_map, sum_by, Option, Some, None, option_map, if◌then◌else◌}
-use Rattle.wk_tree_rules.specs.Atoms.{Atom}
+use Rattle.wk_tree_rules.specs.Atoms.{Atom, atoms}
 use Rattle.wk_tree_rules.specs.Trees.{Item, plain, sealed, nothing, node, NodeKind, template, argument, Entry, item, bar, equals, row, row_height, plain_entry}
 use Rattle.wk_tree_rules.specs.declared.AtomKind.{AtomKind}
 use Rattle.wk_tree_rules.specs.declared.AtomKind.TheVariants.{LineComment, Comment, Sealed, Ignored, Tag, Open, Close, Bar, Equals, Byte}
+use Rattle.wk_tree_rules.specs.declared.Mode.{Mode}
 
 -- ---- what is rewritten
 
@@ -47,6 +48,10 @@ piece_by Byte atom = entry (item (plain atom.start atom.source))
 abbrev pub piece_of : Atom → Piece
 piece_of atom = piece_by atom.kind atom
 
+-- the pieces of a text before any rewriting
+abbrev pub pieces_of : Mode → List ℕ → List Piece
+pieces_of mode text = map piece_of (atoms mode text)
+
 -- ---- runs
 
 abbrev pub opening_mark : Marks → ℕ
@@ -71,18 +76,17 @@ first_marks n run = record run { count = n }
 abbrev pub last_marks : ℕ → Run → Run
 last_marks n run = record run { start = run.start + (run.count - n); count = n }
 
--- What is left of a run stays a run where it has two or more marks. A single mark is a plain byte.
+-- What is left of a run, by how many marks it has: nothing; a single mark, which is a plain byte; or the run.
+abbrev pub left_over : ℕ → Item → Piece → List Piece
+left_over zero byte run = []
+left_over (suc zero) byte run = entry (item byte) ∷ []
+left_over (suc (suc n)) byte run = run ∷ []
+
 abbrev pub left_opening : Run → List Piece
-left_opening run =
-    if run.count == 0 then []
-    else if run.count == 1 then entry (item (plain_opening run)) ∷ []
-    else opening run ∷ []
+left_opening run = left_over run.count (plain_opening run) (opening run)
 
 abbrev pub left_closing : Run → List Piece
-left_closing run =
-    if run.count == 0 then []
-    else if run.count == 1 then entry (item (plain_closing run)) ∷ []
-    else closing run ∷ []
+left_closing run = left_over run.count (plain_closing run) (closing run)
 
 -- ---- the leftmost closing run, and the nearest opening run to its left
 

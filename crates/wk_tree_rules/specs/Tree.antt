@@ -1,7 +1,6 @@
 -- The tree of a text, its nodes and their parts (MediaWiki's Preprocessor ABNF and Help:Templates).
 use Rattle.std.specs.Prelude.{ℕ, ◌+◌, ◌*◌, List, [], ◌∷◌, ◌++◌, length, map, flat_map, option_to_list, Option, Some, None, option_map}
-use Rattle.wk_tree_rules.specs.Atoms.{atoms}
-use Rattle.wk_tree_rules.specs.Reduction.{Piece, entry, opening, closing, piece_of, plain_opening, plain_closing, reduced}
+use Rattle.wk_tree_rules.specs.Reduction.{Piece, entry, opening, closing, pieces_of, plain_opening, plain_closing, reduced}
 use Rattle.wk_tree_rules.specs.Selection.{selected}
 use Rattle.wk_tree_rules.specs.Trees.{Item, plain, sealed, nothing, node, Row, empty_row, item_then, bar_then, equals_then, NodeKind, Entry, item, bar, equals, entries, width, row_source, items_source, plain_entry, merged, plain_items}
 use Rattle.wk_tree_rules.specs.declared.Mode.{Mode}
@@ -16,7 +15,7 @@ item_of (closing run) = plain_closing run
 
 -- The tree of a text in a mode: the items of its root, each longest stretch of plain text as one item.
 unfoldable pub tree : Mode → List ℕ → List Item
-tree mode text = merged (map item_of (reduced (map piece_of (atoms mode (selected mode text)))))
+tree mode text = merged (map item_of (reduced (pieces_of mode (selected mode text))))
 
 -- ---- parts
 

@@ -1,0 +1,10 @@
+pub mod AtomLemmas
+pub mod ListLemmas
+pub mod OnePassLemmas
+pub mod PieceLemmas
+pub mod PlaceLemmas
+pub mod ReductionLemmas
+pub mod ShapeLemmas
+pub mod SpanLemmas
+pub mod StepLemmas
+pub mod TreeLemmas
