@@ -3,3 +3,4 @@ pub mod Pages
 pub mod Spelled
 pub mod Stores
 pub mod Queues
+pub mod Wikis

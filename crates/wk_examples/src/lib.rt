@@ -9,6 +9,7 @@ pub mod numerals;
 pub mod redirects;
 pub mod rows;
 pub mod selection;
+pub mod states;
 pub mod tables;
 pub mod titles;
 pub mod trees;
