@@ -1,13 +1,14 @@
 -- The states of the worked examples on wikis, each after one event more.
-use Rattle.std.specs.Prelude.{ℕ, List, [], ◌∷◌, ◌++◌, codes, length, Option, Some, None}
+use Rattle.std.specs.Prelude.{ℕ, List, [], ◌∷◌, ◌++◌, codes, false, Option, Some, None}
 use Rattle.wk_text_rules.specs.Titles.{PageTitle}
 use Rattle.wk_page_rules.specs.History.{Revision, Page, History}
+use Rattle.wk_page_rules.specs.Verdict.{EditAsked, MostHeld}
 use Rattle.wk_table_rules.specs.declared.Reach.TheVariants.{Both}
-use Rattle.wk_table_rules.specs.Rows.{StoreTables, no_tables}
+use Rattle.wk_table_rules.specs.Rows.{StoreTables, category_title, no_tables}
 use Rattle.wk_table_rules.specs.Changes.{PageLinks, no_links}
 use Rattle.wk_job_rules.specs.Jobs.{RefreshEntry, FanEntry, JobLists}
 use Rattle.wk_state_rules.specs.States.{State}
-use Rattle.wk_state_rules.specs.Events.{Event, Save, Claim, Done, Back, Fan}
+use Rattle.wk_state_rules.specs.Events.{Event, Save, Claim, Done, Back}
 use Rattle.wk_examples.specs.Stores.{main, template, title_a, title_b, title_t, page, revision, link, member}
 use Rattle.wk_examples.specs.Queues.{waiting, held, fan}
 
@@ -58,8 +59,8 @@ race_1 = record {
 abbrev pub race_2 : State
 race_2 = record {
   history = history
-    (written 1 0 11 (codes "{{T}}{{U}}") ∷ written 2 0 12 (codes "t1") ∷ [])
-    (at title_p 1 ∷ at title_t 2 ∷ []);
+      (written 1 0 11 (codes "{{T}}{{U}}") ∷ written 2 0 12 (codes "t1") ∷ [])
+      (at title_p 1 ∷ at title_t 2 ∷ []);
   stored = no_links ∷ no_links ∷ [];
   jobs = jobs (waiting 1 1 ∷ waiting 2 2 ∷ []) [] 3;
 }
@@ -67,8 +68,8 @@ race_2 = record {
 abbrev pub race_3 : State
 race_3 = record {
   history = history
-    (written 1 0 11 (codes "{{T}}{{U}}") ∷ written 2 0 12 (codes "t1") ∷ written 3 0 13 (codes "u1") ∷ [])
-    (at title_p 1 ∷ at title_t 2 ∷ at title_u 3 ∷ []);
+      (written 1 0 11 (codes "{{T}}{{U}}") ∷ written 2 0 12 (codes "t1") ∷ written 3 0 13 (codes "u1") ∷ [])
+      (at title_p 1 ∷ at title_t 2 ∷ at title_u 3 ∷ []);
   stored = no_links ∷ no_links ∷ no_links ∷ [];
   jobs = jobs (waiting 1 1 ∷ waiting 2 2 ∷ waiting 3 3 ∷ []) [] 4;
 }
@@ -80,8 +81,8 @@ race_4 = with_refreshes race_3 (held 1 1 4 ∷ waiting 2 2 ∷ waiting 3 3 ∷ [
 abbrev pub race_5 : State
 race_5 = record race_4 {
   history = history
-    (written 1 0 11 (codes "{{T}}{{U}}") ∷ written 2 0 12 (codes "t1") ∷ written 3 0 13 (codes "u1") ∷ written 2 2 14 (codes "t2") ∷ [])
-    (at title_p 1 ∷ at title_t 4 ∷ at title_u 3 ∷ []);
+      (written 1 0 11 (codes "{{T}}{{U}}") ∷ written 2 0 12 (codes "t1") ∷ written 3 0 13 (codes "u1") ∷ written 2 2 14 (codes "t2") ∷ [])
+      (at title_p 1 ∷ at title_t 4 ∷ at title_u 3 ∷ []);
 }
 
 abbrev pub race_6 : State
@@ -148,8 +149,8 @@ tested_5 = record tested_4 { jobs = jobs (waiting 2 2 ∷ waiting 4 1 ∷ []) []
 abbrev pub tested_6 : State
 tested_6 = record tested_5 {
   history = history
-    (written 1 0 11 test ∷ written 2 0 12 (codes "q") ∷ deleted 2 2 13 ∷ [])
-    (at title_p 1 ∷ at title_q 0 ∷ []);
+      (written 1 0 11 test ∷ written 2 0 12 (codes "q") ∷ deleted 2 2 13 ∷ [])
+      (at title_p 1 ∷ at title_q 0 ∷ []);
   jobs = jobs (waiting 2 2 ∷ waiting 4 1 ∷ []) (fan 5 title_q Both 0 ∷ []) 6;
 }
 
@@ -171,8 +172,8 @@ users_1 = record {
 abbrev pub users_2 : State
 users_2 = record {
   history = history
-    (written 1 0 11 includes_t ∷ written 2 0 11 includes_t ∷ [])
-    (at (title_n (codes "1")) 1 ∷ at (title_n (codes "2")) 2 ∷ []);
+      (written 1 0 11 includes_t ∷ written 2 0 11 includes_t ∷ [])
+      (at (title_n (codes "1")) 1 ∷ at (title_n (codes "2")) 2 ∷ []);
   stored = no_links ∷ no_links ∷ [];
   jobs = jobs (waiting 1 1 ∷ waiting 2 2 ∷ []) [] 3;
 }
@@ -180,8 +181,8 @@ users_2 = record {
 abbrev pub users_3 : State
 users_3 = record {
   history = history
-    (written 1 0 11 includes_t ∷ written 2 0 11 includes_t ∷ written 3 0 11 includes_t ∷ [])
-    (at (title_n (codes "1")) 1 ∷ at (title_n (codes "2")) 2 ∷ at (title_n (codes "3")) 3 ∷ []);
+      (written 1 0 11 includes_t ∷ written 2 0 11 includes_t ∷ written 3 0 11 includes_t ∷ [])
+      (at (title_n (codes "1")) 1 ∷ at (title_n (codes "2")) 2 ∷ at (title_n (codes "3")) 3 ∷ []);
   stored = no_links ∷ no_links ∷ no_links ∷ [];
   jobs = jobs (waiting 1 1 ∷ waiting 2 2 ∷ waiting 3 3 ∷ []) [] 4;
 }
@@ -212,8 +213,8 @@ users_9 = record (with_refreshes users_8 []) { stored = misses_t ∷ misses_t �
 abbrev pub users_10 : State
 users_10 = record {
   history = history
-    (written 1 0 11 includes_t ∷ written 2 0 11 includes_t ∷ written 3 0 11 includes_t ∷ written 4 0 12 (codes "x") ∷ [])
-    (at (title_n (codes "1")) 1 ∷ at (title_n (codes "2")) 2 ∷ at (title_n (codes "3")) 3 ∷ at title_t 4 ∷ []);
+      (written 1 0 11 includes_t ∷ written 2 0 11 includes_t ∷ written 3 0 11 includes_t ∷ written 4 0 12 (codes "x") ∷ [])
+      (at (title_n (codes "1")) 1 ∷ at (title_n (codes "2")) 2 ∷ at (title_n (codes "3")) 3 ∷ at title_t 4 ∷ []);
   stored = misses_t ∷ misses_t ∷ misses_t ∷ no_links ∷ [];
   jobs = jobs (waiting 4 4 ∷ []) (fan 5 title_t Both 0 ∷ []) 6;
 }
@@ -227,8 +228,8 @@ users_11 = record users_10 {
 abbrev pub users_12 : State
 users_12 = record {
   history = history
-    (written 1 0 11 includes_t ∷ written 2 0 11 includes_t ∷ written 3 0 11 includes_t ∷ written 4 0 12 (codes "x") ∷ written 4 4 13 (codes "y") ∷ [])
-    (at (title_n (codes "1")) 1 ∷ at (title_n (codes "2")) 2 ∷ at (title_n (codes "3")) 3 ∷ at title_t 5 ∷ []);
+      (written 1 0 11 includes_t ∷ written 2 0 11 includes_t ∷ written 3 0 11 includes_t ∷ written 4 0 12 (codes "x") ∷ written 4 4 13 (codes "y") ∷ [])
+      (at (title_n (codes "1")) 1 ∷ at (title_n (codes "2")) 2 ∷ at (title_n (codes "3")) 3 ∷ at title_t 5 ∷ []);
   stored = misses_t ∷ misses_t ∷ misses_t ∷ no_links ∷ [];
   jobs = jobs (waiting 4 4 ∷ waiting 6 1 ∷ waiting 7 2 ∷ []) (fan 5 title_t Both 0 ∷ []) 8;
 }
@@ -257,6 +258,22 @@ restart_2 = with_refreshes restart_1 (held 1 1 2 ∷ [])
 abbrev pub restart_3 : State
 restart_3 = with_refreshes restart_1 (held 1 1 1 ∷ [])
 
+-- ---- edits
+
+-- an edit of A, with a base
+abbrev pub edit_of_a : Option ℕ → List ℕ → EditAsked
+edit_of_a base text = record {
+  title = codes "a";
+  body = Some text;
+  base = base;
+  create_only = false;
+  no_create = false;
+}
+
+-- the limits of a small wiki, with a journal of so many events
+abbrev pub small : ℕ → MostHeld
+small journal = record { pages = 9; revisions = 9; text = 99; journal = journal }
+
 -- ---- links and members: P links to B and is a member of X
 
 abbrev pub members_text : List ℕ
@@ -275,7 +292,7 @@ members_2 = with_refreshes members_1 (held 1 1 2 ∷ [])
 abbrev pub members_3 : State
 members_3 = record (with_refreshes members_2 []) {
   stored = record no_links {
-    links = title_b ∷ record title_b { ns = (member (codes "X")).category.ns; key = codes "X" } ∷ [];
+    links = title_b ∷ category_title (codes "X") ∷ [];
     members = record (member (codes "X")) { sortkey = codes "P" } ∷ [];
   } ∷ [];
 }

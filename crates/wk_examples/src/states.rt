@@ -1,7 +1,8 @@
 //! The states of a wiki, one after another: what each event does, and what a restart and a new version of the store give.
-ghost use Rattle.std.specs.Prelude.{◌≡◌, pos, true, codes, List, ◌∷◌, [], Some, None};
+ghost use Rattle.std.specs.Prelude.{◌≡◌, true, false, codes, List, ◌∷◌, [], Some, None};
+ghost use Rattle.wk_page_rules.specs.Verdict.{refuse, no_change, accept, edit_conflict, journal_full};
 ghost use Rattle.wk_view_rules.specs.declared.Kind.TheVariants.{View, Include, Exists};
-ghost use Rattle.wk_table_rules.specs.Rows.{no_tables};
+ghost use Rattle.wk_table_rules.specs.Rows.{category_title, no_tables};
 ghost use Rattle.wk_table_rules.specs.Changes.{no_links};
 ghost use Rattle.wk_table_rules.specs.JobTable.{refresh_row};
 ghost use Rattle.wk_table_rules.specs.GoodStore.{first_broken};
@@ -10,10 +11,11 @@ ghost use Rattle.wk_job_rules.specs.Covers.{is_covered};
 ghost use Rattle.wk_state_rules.specs.States.{no_state, stored_at, world_of, links_in};
 ghost use Rattle.wk_state_rules.specs.Events.{Save, Claim, Done, Back, Fan, step, step_by};
 ghost use Rattle.wk_state_rules.specs.Tables.{tables_of, state_of};
+ghost use Rattle.wk_state_rules.specs.Verdicts.{verdict_in, event_of};
 ghost use Rattle.wk_state_rules.specs.Lives.{replay, state_at, reopened, opened, lived, lived_from};
 ghost use Rattle.wk_examples.specs.Pages.{viewed, viewed_reads};
-ghost use Rattle.wk_examples.specs.Stores.{title_a, title_b, title_t, link, redirect};
-ghost use Rattle.wk_examples.specs.Wikis.{jobs, title_p, title_q, title_u, title_n, test, includes_t, members_text, race, race_1, race_2, race_3, race_4, race_5, race_6, race_7, race_8, race_9, race_10, race_11, race_12, tested_1, tested_2, tested_3, tested_4, tested_5, tested_6, users_1, users_2, users_3, users_4, users_5, users_6, users_7, users_8, users_9, users_10, users_11, users_12, users_13, users_14, restart_1, restart_2, restart_3, members_1, members_2, members_3, old_tables, opened_0, opened_1, opened_2};
+ghost use Rattle.wk_examples.specs.Stores.{main, special, title_a, title_b, title_t, link, redirect};
+ghost use Rattle.wk_examples.specs.Wikis.{jobs, title_p, title_q, title_u, title_n, test, includes_t, members_text, race, race_1, race_2, race_3, race_4, race_5, race_6, race_7, race_8, race_9, race_10, race_11, race_12, tested_1, tested_2, tested_3, tested_4, tested_5, tested_6, users_1, users_2, users_3, users_4, users_5, users_6, users_7, users_8, users_9, users_10, users_11, users_12, users_13, users_14, restart_1, restart_2, restart_3, members_1, members_2, members_3, edit_of_a, small, old_tables, opened_0, opened_1, opened_2};
 
 /// A page is refreshed while a template of it is saved: the refresh is given back, and done in its turn.
 pub fn a_race()
@@ -98,7 +100,7 @@ pub fn links_and_members()
     ensures page_claimed { step members_1 1 Claim ≡ Some members_2 }
     ensures page_done { step members_2 2 (Done 2) ≡ Some members_3 }
     ensures rows_before { (tables_of members_2).pagelinks ≡ [] }
-    ensures rows_after { (tables_of members_3).pagelinks ≡ link 1 title_b ∷ link 1 (record { ns = pos 14; key = codes "X" }) ∷ [] }
+    ensures rows_after { (tables_of members_3).pagelinks ≡ link 1 title_b ∷ link 1 (category_title (codes "X")) ∷ [] }
     ensures tables_stand_for_the_state { state_of (tables_of members_3) ≡ record members_3 { jobs = jobs [] [] 1 } }
 {}
 
@@ -111,9 +113,35 @@ pub fn a_new_version()
     ensures rows_from_scratch { links_in (world_of opened_0) title_a
         ≡ record no_links { links = title_b ∷ []; redirect = Some title_b } }
     ensures rows_that_are_stored { stored_at opened_0 1 ≡ record no_links { links = title_b ∷ [] } }
+    ensures covered { is_covered opened_0.jobs 1 (stored_at opened_0 1) ≡ true }
+    ensures not_covered_before { is_covered (state_of old_tables).jobs 1 (stored_at opened_0 1) ≡ false }
     ensures page_claimed { step opened_0 0 Claim ≡ Some opened_1 }
     ensures page_done { step opened_1 1 (Done 1) ≡ Some opened_2 }
     ensures redirect_row { (tables_of opened_2).redirects ≡ redirect 1 title_b ∷ [] }
     ensures version_2_adds_no_job { opened (record old_tables { version = 2 }) ≡ record opened_0 { jobs = jobs [] [] 1 } }
     ensures no_state { opened no_tables ≡ no_state }
+{}
+
+/// Events that aren't possible: a title that no text names, a virtual namespace, a deletion of nothing, and jobs and
+/// tickets that aren't there.
+pub fn impossible_events()
+    ensures not_normal { step no_state 0 (Save (main (codes "a")) (Some (codes "x")) 11) ≡ None }
+    ensures virtual_namespace { step no_state 0 (Save (special (codes "A")) (Some (codes "x")) 11) ≡ None }
+    ensures deletion_of_a_new_title { step no_state 0 (Save title_a None 11) ≡ None }
+    ensures no_job { step no_state 0 Claim ≡ None }
+    ensures no_fan_job { step no_state 0 Fan ≡ None }
+    ensures done_while_queued { step restart_1 1 (Done 1) ≡ None }
+    ensures back_of_another_ticket { step restart_2 2 (Back 1) ≡ None }
+    ensures journal_with_such_an_event { replay no_state (Save title_a (Some (codes "x")) 11 ∷ Fan ∷ Claim ∷ []) ≡ None }
+{}
+
+/// An edit in a state: an accepted one is a save of its kept text, and a ticket that is out takes room in the journal.
+pub fn edits()
+    ensures accepted { verdict_in (small 3) restart_1 1 (edit_of_a (Some 1) (codes "y\r\n")) ≡ accept title_a (Some (codes "y")) }
+    ensures event { event_of (verdict_in (small 3) restart_1 1 (edit_of_a (Some 1) (codes "y\r\n"))) 12
+        ≡ Some (Save title_a (Some (codes "y")) 12) }
+    ensures other_base { verdict_in (small 3) restart_1 1 (edit_of_a (Some 0) (codes "y")) ≡ refuse (edit_conflict 1) }
+    ensures no_change { event_of (verdict_in (small 3) restart_1 1 (edit_of_a None (codes "x"))) 12 ≡ None }
+    ensures room_for_the_ticket { verdict_in (small 3) restart_2 2 (edit_of_a None (codes "y")) ≡ refuse journal_full }
+    ensures room_for_one_more { verdict_in (small 4) restart_2 2 (edit_of_a None (codes "y")) ≡ accept title_a (Some (codes "y")) }
 {}

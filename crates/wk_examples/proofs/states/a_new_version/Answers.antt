@@ -26,6 +26,14 @@ pub returns-clause-rows_that_are_stored : goal.returns-clause-rows_that_are_stor
 unfolding computing
 returns-clause-rows_that_are_stored c = refl
 
+pub returns-clause-covered : goal.returns-clause-covered
+unfolding computing
+returns-clause-covered c = refl
+
+pub returns-clause-not_covered_before : goal.returns-clause-not_covered_before
+unfolding computing
+returns-clause-not_covered_before c = refl
+
 pub returns-clause-page_claimed : goal.returns-clause-page_claimed
 unfolding computing
 returns-clause-page_claimed c = refl
