@@ -12,7 +12,7 @@ ghost use Rattle.wk_state_rules.specs.States.{no_state, stored_at, world_of, lin
 ghost use Rattle.wk_state_rules.specs.Events.{Save, Claim, Done, Back, Fan, step, step_by};
 ghost use Rattle.wk_state_rules.specs.Tables.{tables_of, state_of};
 ghost use Rattle.wk_state_rules.specs.Verdicts.{verdict_in, event_of};
-ghost use Rattle.wk_state_rules.specs.Lives.{replay, state_at, reopened, opened, lived, lived_from};
+ghost use Rattle.wk_state_rules.specs.Lives.{replay, state_at, reopened, opened, last_state, last_state_of_store};
 ghost use Rattle.wk_examples.specs.Pages.{viewed, viewed_reads};
 ghost use Rattle.wk_examples.specs.Stores.{main, special, title_a, title_b, title_t, link, redirect};
 ghost use Rattle.wk_examples.specs.Wikis.{jobs, title_p, title_q, title_u, title_n, test, includes_t, members_text, race, race_1, race_2, race_3, race_4, race_5, race_6, race_7, race_8, race_9, race_10, race_11, race_12, tested_1, tested_2, tested_3, tested_4, tested_5, tested_6, users_1, users_2, users_3, users_4, users_5, users_6, users_7, users_8, users_9, users_10, users_11, users_12, users_13, users_14, restart_1, restart_2, restart_3, members_1, members_2, members_3, edit_of_a, small, old_tables, opened_0, opened_1, opened_2};
@@ -89,8 +89,8 @@ pub fn a_restart()
     ensures claimed_again { step (reopened restart_2) 0 Claim ≡ Some restart_3 }
     ensures claim_is_not_stored { tables_of restart_2 ≡ tables_of restart_1 }
     ensures from_the_tables { opened (tables_of restart_2) ≡ restart_1 }
-    ensures lives { lived no_state ((Save title_a (Some (codes "x")) 11 ∷ Claim ∷ []) ∷ (Claim ∷ []) ∷ []) ≡ Some restart_3 }
-    ensures lives_from_a_store { lived_from no_tables ((Save title_a (Some (codes "x")) 11 ∷ Claim ∷ []) ∷ (Claim ∷ []) ∷ [])
+    ensures lives { last_state no_state ((Save title_a (Some (codes "x")) 11 ∷ Claim ∷ []) ∷ (Claim ∷ []) ∷ []) ≡ Some restart_3 }
+    ensures lives_from_a_store { last_state_of_store no_tables ((Save title_a (Some (codes "x")) 11 ∷ Claim ∷ []) ∷ (Claim ∷ []) ∷ [])
         ≡ Some restart_3 }
 {}
 

@@ -72,7 +72,7 @@ abbrev pub step_by : ℕ → State → ℕ → Event → Option State
 step_by most state journal (Save title text moment) =
     if can_save state.history title text then Some (with_saved state title text moment) else None
 step_by most state journal Claim =
-    option_map (λ page. with_jobs state (claimed_by state.jobs (journal + 1))) (first_queued state.jobs)
+    option_map (λ _. with_jobs state (claimed_by state.jobs (journal + 1))) (first_queued state.jobs)
 step_by most state journal (Done ticket) =
     option_map (λ page. with_refreshed state page) (page_held_by state.jobs ticket)
 step_by most state journal (Back ticket) =

@@ -10,26 +10,26 @@ use Rattle.wk_state_rules.specs.Tables.{state_of}
 -- ---- a journal
 
 -- the events one after the other, behind a journal of this length; nothing where one of them isn't possible
-abbrev pub replay_from : ℕ → ℕ → State → List Event → Option State
-replay_from most journal state [] = Some state
-replay_from most journal state (event ∷ events) =
-    option_and_then (λ next. replay_from most (journal + 1) next events) (step_by most state journal event)
+abbrev pub replay_from : ℕ → State → ℕ → List Event → Option State
+replay_from most state journal [] = Some state
+replay_from most state journal (event ∷ events) =
+    option_and_then (λ next. replay_from most next (journal + 1) events) (step_by most state journal event)
 
 -- the events one after the other, from the start of a journal, where a fan serves at most so many pages
 abbrev pub replay_by : ℕ → State → List Event → Option State
-replay_by most start events = replay_from most 0 start events
+replay_by most start events = replay_from most start 0 events
 
 abbrev pub replay : State → List Event → Option State
 replay start events = replay_by fan_pages start events
 
--- the state at a point of a journal: after so many of its events
+-- the state at a point of a journal: after so many of its first events
 abbrev pub state_at : State → List Event → ℕ → Option State
 state_at start events point = replay start (take point events)
 
 -- ---- restarts
 
--- A restart keeps all but the tickets: each refresh job waits, they stand in the order of their numbers, and numbers go
--- on from the greatest job that stands.
+-- After a restart each refresh job waits, in the order of their numbers, and numbers go on from the greatest job that
+-- stands. All else stays as it was.
 abbrev pub reopened : State → State
 reopened state = record state { jobs = reopened_jobs state.jobs }
 
@@ -46,19 +46,20 @@ opened tables = let state = state_of tables in reopened (if tables.version == 1 
 
 -- The state in which lives from a state end, each with its journal: each begins with a restart of the state in which
 -- the one before it ended.
-abbrev pub lived : State → List (List Event) → Option State
-lived state [] = Some state
-lived state (journal ∷ journals) = option_and_then (λ ended. lived ended journals) (replay (reopened state) journal)
+abbrev pub last_state : State → List (List Event) → Option State
+last_state start [] = Some start
+last_state start (journal ∷ journals) = option_and_then (λ ended. last_state ended journals) (replay (reopened start) journal)
 
 -- The state in which lives from a store end: the first begins as the store is opened.
-abbrev pub lived_from : StoreTables → List (List Event) → Option State
-lived_from tables [] = Some (opened tables)
-lived_from tables (journal ∷ journals) = option_and_then (λ ended. lived ended journals) (replay (opened tables) journal)
+abbrev pub last_state_of_store : StoreTables → List (List Event) → Option State
+last_state_of_store tables [] = Some (opened tables)
+last_state_of_store tables (journal ∷ journals) =
+    option_and_then (λ ended. last_state ended journals) (replay (opened tables) journal)
 
--- these journals are lives from the state, and end in that state
+-- the journals are lives from the state, and end in the last one
 abbrev pub Lives : State → List (List Event) → State → Type 0
-Lives start journals end = lived start journals ≡ Some end
+Lives start journals last = last_state start journals ≡ Some last
 
--- these journals are lives from the store, and end in that state
-abbrev pub LivesFrom : StoreTables → List (List Event) → State → Type 0
-LivesFrom tables journals end = lived_from tables journals ≡ Some end
+-- the journals are lives from the store, and end in the last state
+abbrev pub LivesOfStore : StoreTables → List (List Event) → State → Type 0
+LivesOfStore tables journals last = last_state_of_store tables journals ≡ Some last
