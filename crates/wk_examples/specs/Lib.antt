@@ -1,4 +1,7 @@
 pub mod Computing
 pub mod Queues
+pub mod Pages
 pub mod Spelled
 pub mod Stores
+pub mod Queues
+pub mod Wikis

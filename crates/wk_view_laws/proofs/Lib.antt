@@ -1,0 +1,5 @@
+pub mod CostLemmas
+pub mod ExpandCosts
+pub mod PlanLemmas
+pub mod RedirectLemmas
+pub mod ViewLemmas

@@ -1,0 +1,10 @@
+pub mod Computing
+pub mod Expansions
+pub mod Expand
+pub mod Frames
+pub mod Plans
+pub mod Rows
+pub mod Texts
+pub mod Views
+pub mod Words
+pub mod Worlds
