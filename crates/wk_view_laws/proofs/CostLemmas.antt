@@ -1,4 +1,4 @@
--- Each question but a view's own is paid for by a node, so an expansion has at most as many reads as nodes.
+-- Each question of an expansion is paid for by a node, and none is for a viewed page's text.
 use Rattle.std.proofs.Common.{◌≡◌, ℕ, suc, ◌+◌, ◌≤◌, Bool, true, false, length, subst, Option, Some, None, arith, inl, inr}
 use Rattle.std.specs.Bool.{if◌then◌else◌, nat_lt}
 use Rattle.std.proofs.lemmas.Bool.{cases_Bool}
@@ -6,13 +6,15 @@ use borrow.Author.Tests.{ltb-false}
 use Rattle.wk_text_rules.specs.Titles.{PageTitle}
 use Rattle.wk_view_rules.specs.Expansions.{Expansion, Output, Progress, give, answer_to, ◌>>=◌, charged, argument_within_limit, inclusion_within_limit, most_nodes, most_bytes, with_nodes}
 use Rattle.wk_view_rules.specs.Plans.{Plan, gives, asks, and_then}
-use Rattle.wk_view_rules.specs.Worlds.{Answer}
+use Rattle.wk_view_rules.specs.Worlds.{Answer, kind_eq}
 use Rattle.wk_view_rules.specs.declared.Kind.{Kind}
+use Rattle.wk_view_rules.specs.declared.Kind.TheVariants.{View}
 
--- each way through the plan ends with at least so many nodes as there were questions, counted from `base`
+-- Each way through the plan ends with at least so many nodes as there were questions, counted from `base`, and no
+-- question is for a viewed page's text.
 abbrev pub EndsPaid : {A : Type 0} → ℕ → Plan (A × Progress) → Type 0
 EndsPaid base (gives (x, progress)) = (base ≤ progress.counters.nodes) × (progress.counters.nodes ≤ most_nodes)
-EndsPaid base (asks title kind more) = (answer : Answer) → EndsPaid (suc base) (more answer)
+EndsPaid base (asks title kind more) = (kind_eq kind View ≡ false) × ((answer : Answer) → EndsPaid (suc base) (more answer))
 
 -- An expansion that begins with so many nodes more than questions ends with at least as many.
 pub record Pays {A : Type 0} (credit : ℕ) (m : Expansion A) : Type 0 where
@@ -26,10 +28,12 @@ pays-more h = record { pays = λ base progress below most. h.pays base progress 
 
 ends-bind : {A B : Type 0} (credit base : ℕ) (p : Plan (A × Progress)) (next : A → Expansion B) → ((x : A) → Pays credit (next x)) → EndsPaid (base + credit) p → EndsPaid base (and_then p (λ end. next end.0 end.1))
 ends-bind credit base (gives (x, progress)) next later h = (later x).pays base progress h.0 h.1
-ends-bind credit base (asks title kind more) next later h =
-    λ answer. ends-bind credit (suc base) (more answer) next later
-    (let one_more : suc (base + credit) ≡ suc base + credit = omega arith in
-    subst (λ n. EndsPaid n (more answer)) one_more (h answer))
+ends-bind credit base (asks title kind more) next later h = (
+  h.0,
+  λ answer. ends-bind credit (suc base) (more answer) next later
+      (let one_more : suc (base + credit) ≡ suc base + credit = omega arith in
+      subst (λ n. EndsPaid n (more answer)) one_more (h.1 answer)),
+)
 
 pub pays-bind : {A B : Type 0} {credit : ℕ} {m : Expansion A} {next : A → Expansion B} → Pays 0 m → ((x : A) → Pays credit (next x)) → Pays credit (m >>= next)
 pays-bind {credit = credit} {m = m} {next = next} first later = record {
@@ -37,9 +41,9 @@ pays-bind {credit = credit} {m = m} {next = next} first later = record {
 }
 
 -- a question takes the credit
-pub pays-answer : {B : Type 0} {title : PageTitle} {kind : Kind} {next : Answer → Expansion B} → ((answer : Answer) → Pays 0 (next answer)) → Pays 1 (answer_to title kind >>= next)
-pays-answer later = record {
-  pays = λ base progress below most answer. (later answer).pays (suc base) progress (omega arith) most;
+pub pays-answer : {B : Type 0} {title : PageTitle} {kind : Kind} {next : Answer → Expansion B} → kind_eq kind View ≡ false → ((answer : Answer) → Pays 0 (next answer)) → Pays 1 (answer_to title kind >>= next)
+pays-answer no_view later = record {
+  pays = λ base progress below most. (no_view, λ answer. (later answer).pays (suc base) progress (omega arith) most);
 }
 
 -- a charge gives credit

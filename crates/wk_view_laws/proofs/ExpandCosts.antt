@@ -1,5 +1,5 @@
 -- What the parts of an expansion cost: each template node pays for its question, and a redirect for its second one.
-use Rattle.std.proofs.Common.{ℕ, zero, suc, ◌+◌, ◌/◌, Bool, true, false, List, [], ◌∷◌, length, Option, Some, None, arith, inl, inr, zero-le}
+use Rattle.std.proofs.Common.{refl, ℕ, zero, suc, ◌+◌, ◌/◌, Bool, true, false, List, [], ◌∷◌, length, Option, Some, None, arith, inl, inr, zero-le}
 use Rattle.std.specs.Bool.{nat_lt, nat_le}
 use Rattle.std.specs.Fmt.{decimal}
 use Rattle.std.specs.List.{list_any}
@@ -81,7 +81,7 @@ module _ (inner : Frame → List Item → Expansion Output) (inner-pays : (frame
 
   pays-redirected : (title target : PageTitle) (parts : List Part) → Pays 1 (redirected inner viewed frame title target parts)
   unfolding redirected
-  pays-redirected title target parts = pays-if _ (pays-more (pays-give _)) (pays-answer (λ answer.
+  pays-redirected title target parts = pays-if _ (pays-more (pays-give _)) (pays-answer refl (λ answer.
       pays-option (page_of answer) (pays-give _) (λ p. pays-included title target p.text parts)))
 
   pays-included_text : (title : PageTitle) (text : List ℕ) (parts : List Part) → Pays 0 (included_text inner viewed frame title text parts)
@@ -92,7 +92,7 @@ module _ (inner : Frame → List Item → Expansion Output) (inner-pays : (frame
   pays-inclusion_of : (title : PageTitle) (parts : List Part) → Pays 1 (inclusion inner viewed frame title parts)
   unfolding inclusion
   pays-inclusion_of title parts = pays-if (is_virtual title) (pays-more (pays-give _)) (pays-if (is_within frame title) (pays-more (pays-give _)) (pays-if (nat_le most_depth (length frame)) (pays-more (pays-give _))
-      (pays-answer (λ answer. pays-option (page_of answer) (pays-give _) (λ p. pays-included_text title p.text parts)))))
+      (pays-answer refl (λ answer. pays-option (page_of answer) (pays-give _) (λ p. pays-included_text title p.text parts)))))
 
   pays-as_written : (name : Output) (parts : List Part) → Pays 0 (template_as_written inner viewed frame name parts)
   unfolding template_as_written
@@ -104,7 +104,7 @@ module _ (inner : Frame → List Item → Expansion Output) (inner-pays : (frame
 
   pays-by_existence : (title : PageTitle) (parts : List Part) → Pays 1 (by_existence inner viewed frame title parts)
   unfolding by_existence
-  pays-by_existence title parts = pays-answer (λ answer. pays-operand _ parts)
+  pays-by_existence title parts = pays-answer refl (λ answer. pays-operand _ parts)
 
   pays-existence : (title : PageTitle) (parts : List Part) → Pays 1 (existence_output inner viewed frame title parts)
   unfolding existence_output

@@ -2,4 +2,5 @@ pub mod CostLemmas
 pub mod ExpandCosts
 pub mod PlanLemmas
 pub mod RedirectLemmas
+pub mod RowLemmas
 pub mod ViewLemmas

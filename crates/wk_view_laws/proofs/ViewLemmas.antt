@@ -20,10 +20,10 @@ use Rattle.wk_view_laws.proofs.ExpandCosts.{pays-expand}
 use Rattle.wk_view_laws.proofs.PlanLemmas.{IsDone-run, done-elsewhere, met, title_eq-same}
 
 -- a view's plan behind its first answer
-abbrev after_page : PageTitle → Option PageText → Plan Expanded
+abbrev pub after_page : PageTitle → Option PageText → Plan Expanded
 after_page page o = elim o [ None ↦ gives (record { out = []; counters = no_counters }) | Some p ↦ text_plan page p.text ]
 
-abbrev after_view : PageTitle → Answer → Plan Expanded
+abbrev pub after_view : PageTitle → Answer → Plan Expanded
 after_view page answer = after_page page (page_of answer)
 
 -- two worlds of which one agrees with the reads over the other give one view
@@ -54,7 +54,7 @@ length-noted before r = elim (cases_Bool (list_any (is_read_of r.title r.kind) b
 paid-most : {A : Type 0} (p : Plan (A × Progress)) (base : ℕ) → EndsPaid base p → base ≤ most_nodes
 paid-most (gives (x, progress)) base h = omega (arith, h.0, h.1)
 paid-most (asks title kind more) base h =
-    let later : suc base ≤ most_nodes = paid-most (more (existence false)) (suc base) (h (existence false)) in
+    let later : suc base ≤ most_nodes = paid-most (more (existence false)) (suc base) (h.1 (existence false)) in
     omega arith
 
 -- an expansion that begins with so many reads more than nodes ends with so many more at most
@@ -68,7 +68,7 @@ count-run source (asks title kind more) base over before h few =
       | Some answer ↦
           let r : Read = record { title = title; kind = kind; answer = answer } in
           let one_more : length (noted before r) ≤ suc base + over = omega (arith, length-noted before r) in
-          count-run source (more answer) (suc base) over (noted before r) (h answer) one_more
+          count-run source (more answer) (suc base) over (noted before r) (h.1 answer) one_more
     ]
 
 -- an expansion of a text has so many reads more than before at most

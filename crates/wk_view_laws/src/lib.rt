@@ -1,19 +1,22 @@
 //! Laws of what a page expands to. Each is the contract of a function that does nothing: its clauses are the law.
 #![tactic(auto)]
 
-ghost use Rattle.std.specs.Prelude.{◌≡◌, ℕ, ◌+◌, ◌/◌, ◌≤◌, List, [], length, None};
+ghost use Rattle.std.specs.Prelude.{◌≡◌, ◌≢◌, ◌||◌, false, is_some, ℕ, ◌+◌, ◌/◌, ◌≤◌, List, [], length, None};
+ghost use Rattle.std.specs.List.{list_any};
 ghost use Rattle.wk_text_rules.specs.Titles.{PageTitle};
 ghost use Rattle.wk_tree_rules.specs.Tree.{tree, nodes, Part};
 ghost use Rattle.wk_tree_rules.specs.Trees.{Item};
-ghost use Rattle.wk_tree_rules.specs.declared.Mode.TheVariants.{Include};
+ghost use Rattle.wk_tree_rules.specs.declared.Mode.TheVariants as mode;
 ghost use Rattle.wk_view_rules.specs.Expand.{expand, included, inclusion};
 ghost use Rattle.wk_view_rules.specs.Expansions.{Expansion, Output, Progress, with_nodes};
 ghost use Rattle.wk_view_rules.specs.Frames.{Frame};
 ghost use Rattle.wk_view_rules.specs.Plans.{Plan, done, need, run, reads_of, noted, IsDone, NeedsOrReads};
-ghost use Rattle.wk_view_rules.specs.Rows.{rows, no_rows};
+ghost use Rattle.wk_view_rules.specs.Rows.{rows, no_rows, names_text, names_both};
 ghost use Rattle.wk_view_rules.specs.Views.{Expanded, view, reads, shown_text};
-ghost use Rattle.wk_view_rules.specs.Worlds.{World, PageText, Source, Read, of_world, Agrees};
+ghost use Rattle.wk_view_rules.specs.Worlds.{World, PageText, Source, Read, of_world, is_read_of, Agrees};
 ghost use Rattle.wk_view_rules.specs.declared.Kind.{Kind};
+ghost use Rattle.wk_view_rules.specs.declared.Kind.TheVariants.{Include, Exists};
+ghost use Rattle.wk_view_laws.specs.Changes.{DifferOnlyAt};
 ghost use Rattle.wk_view_laws.specs.Inclusions.{MeetsRedirect, read_for_inclusion};
 
 /// An expansion that is done over one source is the same over each source that gives its reads the same answers.
@@ -66,5 +69,19 @@ pub fn reads_are_a_million_and_one_at_most()
 /// is. It reads nothing else where the text holds no node, so never where the target's own target leads.
 pub fn redirects_are_followed_once()
     ensures goes_on { (pages : World) (inner : Frame → List Item → Expansion Output) (viewed : PageTitle) (frame : Frame) (title target : PageTitle) (text target_text : PageText) (parts : List Part) (progress : Progress) (before : List Read) → MeetsRedirect pages frame progress title target text target_text → run (of_world pages) (inclusion inner viewed frame title parts progress) before ≡ run (of_world pages) (included inner viewed frame title target target_text.text parts (with_nodes (progress.counters.nodes + (1 + length text.text / 64)) progress)) (noted (noted before (read_for_inclusion title text)) (read_for_inclusion target target_text)) }
-    ensures reads { (pages : World) (left : ℕ) (viewed : PageTitle) (frame : Frame) (title target : PageTitle) (text target_text : PageText) (progress : Progress) (before : List Read) → MeetsRedirect pages frame progress title target text target_text → nodes (tree Include target_text.text) ≡ [] → reads_of (run (of_world pages) (inclusion (expand left viewed) viewed frame title [] progress) before) ≡ noted (noted before (read_for_inclusion title text)) (read_for_inclusion target target_text) }
+    ensures reads { (pages : World) (left : ℕ) (viewed : PageTitle) (frame : Frame) (title target : PageTitle) (text target_text : PageText) (progress : Progress) (before : List Read) → MeetsRedirect pages frame progress title target text target_text → nodes (tree mode.Include target_text.text) ≡ [] → reads_of (run (of_world pages) (inclusion (expand left viewed) viewed frame title [] progress) before) ≡ noted (noted before (read_for_inclusion title text)) (read_for_inclusion target target_text) }
+{}
+
+/// A page's rows name exactly the titles that are read for it: as text those that it includes, with existence those
+/// that it tests too.
+pub fn rows_name_what_is_read()
+    ensures text { (pages : World) (page title : PageTitle) → names_text (rows pages page) title ≡ list_any (is_read_of title Include) (reads (of_world pages) page) }
+    ensures both { (pages : World) (page title : PageTitle) → names_both (rows pages page) title ≡ (list_any (is_read_of title Include) (reads (of_world pages) page) || list_any (is_read_of title Exists) (reads (of_world pages) page)) }
+{}
+
+/// Where another title's page changes that a page's rows don't name, the page's rows stay. Where it only gets
+/// another text, it is enough that they don't name it as an included title.
+pub fn unnamed_titles_change_no_rows()
+    ensures any_change { (v w : World) (page title : PageTitle) → DifferOnlyAt title v w → page ≢ title → names_both (rows v page) title ≡ false → rows w page ≡ rows v page }
+    ensures other_text { (v w : World) (page title : PageTitle) → DifferOnlyAt title v w → page ≢ title → is_some (w title) ≡ is_some (v title) → names_text (rows v page) title ≡ false → rows w page ≡ rows v page }
 {}
