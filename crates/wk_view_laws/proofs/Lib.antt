@@ -3,4 +3,5 @@ pub mod ExpandCosts
 pub mod PlanLemmas
 pub mod RedirectLemmas
 pub mod RowLemmas
+pub mod SeenLemmas
 pub mod ViewLemmas

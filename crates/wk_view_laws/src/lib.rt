@@ -13,7 +13,7 @@ ghost use Rattle.wk_view_rules.specs.Frames.{Frame};
 ghost use Rattle.wk_view_rules.specs.Plans.{Plan, done, need, run, reads_of, noted, IsDone, NeedsOrReads};
 ghost use Rattle.wk_view_rules.specs.Rows.{rows, no_rows, names_text, names_both};
 ghost use Rattle.wk_view_rules.specs.Views.{Expanded, view, reads, shown_text};
-ghost use Rattle.wk_view_rules.specs.Worlds.{World, PageText, Source, Read, of_world, is_read_of, Agrees};
+ghost use Rattle.wk_view_rules.specs.Worlds.{World, PageText, Source, Read, Seen, of_world, of_seen, is_read_of, Agrees, IsSeen};
 ghost use Rattle.wk_view_rules.specs.declared.Kind.{Kind};
 ghost use Rattle.wk_view_rules.specs.declared.Kind.TheVariants.{Include, Exists};
 ghost use Rattle.wk_view_laws.specs.Changes.{DifferOnlyAt};
@@ -40,6 +40,15 @@ pub fn needed_by_the_reads_alone()
 pub fn reads_are_answers()
     ensures view { (a : Source) (page : PageTitle) → Agrees a (reads a page) }
     ensures text { (a : Source) (page : PageTitle) (text : List ℕ) → Agrees a (reads_of (shown_text a page text)) }
+{}
+
+/// The reads of an expansion are answers that were seen: each pair of title and kind once, in the order of the
+/// first asking, and each answer in its kind's form.
+pub fn reads_are_seen()
+    ensures world { (pages : World) (page : PageTitle) → IsSeen (reads (of_world pages) page) }
+    ensures seen { (seen : Seen) (page : PageTitle) → IsSeen seen → IsSeen (reads (of_seen seen) page) }
+    ensures text_in_a_world { (pages : World) (page : PageTitle) (text : List ℕ) → IsSeen (reads_of (shown_text (of_world pages) page text)) }
+    ensures text_by_what_was_seen { (seen : Seen) (page : PageTitle) (text : List ℕ) → IsSeen seen → IsSeen (reads_of (shown_text (of_seen seen) page text)) }
 {}
 
 /// A world answers all that is asked, so an expansion over it is done.
