@@ -25,7 +25,8 @@ use Rattle.wk_view_rules.specs.Worlds.{page as page_answer}
 use Rattle.wk_view_rules.specs.declared.Kind.{Kind}
 use Rattle.wk_view_rules.specs.declared.Kind.TheVariants.{View, Include, Exists}
 use Rattle.wk_view_laws.specs.Changes.{DifferOnlyAt}
-use Rattle.wk_view_laws.proofs.CostLemmas.{EndsPaid}
+use Rattle.wk_view_laws.specs.Titles.{IsPageTitle}
+use Rattle.wk_view_laws.proofs.CostLemmas.{EndsPaid, limits-start}
 use Rattle.wk_view_laws.proofs.ExpandCosts.{pays-expand}
 use Rattle.wk_view_laws.proofs.PlanLemmas.{IsDone-run, agrees-itself, kind_eq-same, met, title_eq-true, title_eq-same}
 use Rattle.wk_view_laws.proofs.ViewLemmas.{after_page, after_view, rows-elsewhere}
@@ -106,7 +107,7 @@ list_any-titles_read title kind (r ∷ reads) =
 -- ---- rows name what was read
 
 -- a fact of a world's view and of its rows, where it holds of each end that is done
-of_done : (pages : World) (page : PageTitle) (P : Outcome Expanded → Type 0) → ((x : Expanded) (seen : List Read) → P (done x seen)) → P (view (of_world pages) page)
+pub of_done : (pages : World) (page : PageTitle) (P : Outcome Expanded → Type 0) → ((x : Expanded) (seen : List Read) → P (done x seen)) → P (view (of_world pages) page)
 of_done pages page P h = go (view (of_world pages) page) (IsDone-run pages (view_plan page) [])
   where
     go : (o : Outcome Expanded) → IsDone o → P o
@@ -129,38 +130,44 @@ names_both-rows pages page title =
 
 -- ---- only the viewed page is read as viewed
 
--- a read of a viewed page's text is of this page
-abbrev OfPage : PageTitle → Read → Type 0
-OfPage page r = kind_eq r.kind View ≡ true → r.title ≡ page
+-- a read for this page: of a viewed page's text only its own, and else of a title that a page can have
+pub record IsReadFor (page : PageTitle) (r : Read) : Type 0 where
+  pub viewed : kind_eq r.kind View ≡ true → r.title ≡ page
+  pub other : kind_eq r.kind View ≡ false → IsPageTitle r.title
 
-of_page-noted : (page : PageTitle) (before : List Read) (r : Read) → OfPage page r → All (OfPage page) before → All (OfPage page) (noted before r)
-of_page-noted page before r of_page all = elim (cases_Bool (list_any (is_read_of r.title r.kind) before)) [
+read_for-noted : (page : PageTitle) (before : List Read) (r : Read) → IsReadFor page r → All (IsReadFor page) before → All (IsReadFor page) (noted before r)
+read_for-noted page before r here all = elim (cases_Bool (list_any (is_read_of r.title r.kind) before)) [
   | inl there ↦ rw there all
-  | inr missing ↦ rw missing (All-push (OfPage page) before r all of_page)
+  | inr missing ↦ rw missing (All-push (IsReadFor page) before r all here)
 ]
 
-of_page-run : (page : PageTitle) (source : Source) (p : Plan (Output × Progress)) (base : ℕ) (before : List Read) → EndsPaid base p → All (OfPage page) before → All (OfPage page) (reads_of (run source (and_then p expanded_by) before))
+read_for-run : (page : PageTitle) (source : Source) (p : Plan (Output × Progress)) (base : ℕ) (before : List Read) → EndsPaid base p → All (IsReadFor page) before → All (IsReadFor page) (reads_of (run source (and_then p expanded_by) before))
 unfolding run
-of_page-run page source (gives (out, progress)) base before h all = all
-of_page-run page source (asks title kind more) base before h all =
-    elim (ask source title kind) as (λ o. All (OfPage page) (reads_of (met source title kind (λ answer. and_then (more answer) expanded_by) before o))) [
+read_for-run page source (gives (out, progress)) base before h all = all
+read_for-run page source (asks title kind more) base before h all =
+    elim (ask source title kind) as (λ o. All (IsReadFor page) (reads_of (met source title kind (λ answer. and_then (more answer) expanded_by) before o))) [
       | None ↦ all
       | Some answer ↦
           let r : Read = record { title = title; kind = kind; answer = answer } in
-          let of_page : OfPage page r = λ is_view. absurd (let wrong : true ≡ false = sym is_view ∙ h.0 in cc) in
-          of_page-run page source (more answer) (suc base) (noted before r) (h.1 answer) (of_page-noted page before r of_page all)
+          let here : IsReadFor page r = record {
+            viewed = λ is_view. absurd (let wrong : true ≡ false = sym is_view ∙ h.0.no_view in cc);
+            other = λ no_view. h.0.of_page;
+          } in
+          read_for-run page source (more answer) (suc base) (noted before r) (h.1 answer) (read_for-noted page before r here all)
     ]
 
-pub of_page-view : (source : Source) (page : PageTitle) → All (OfPage page) (reads_of (view source page))
+pub read_for-view : (source : Source) (page : PageTitle) → All (IsReadFor page) (reads_of (view source page))
 unfolding run view_plan text_plan
-of_page-view source page = elim (ask source page View) as (λ o. All (OfPage page) (reads_of (met source page View (after_view page) [] o))) [
-  | None ↦ All-nil (OfPage page)
+read_for-view source page = elim (ask source page View) as (λ o. All (IsReadFor page) (reads_of (met source page View (after_view page) [] o))) [
+  | None ↦ All-nil (IsReadFor page)
   | Some answer ↦
-      let first : List Read = record { title = page; kind = View; answer = answer } ∷ [] in
-      let all : All (OfPage page) first = All-push (OfPage page) [] (record { title = page; kind = View; answer = answer }) (All-nil (OfPage page)) (λ e. refl) in
-      elim (page_of answer) as (λ o. All (OfPage page) (reads_of (run source (after_page page o) first))) [
+      let r : Read = record { title = page; kind = View; answer = answer } in
+      let here : IsReadFor page r = record { viewed = λ e. refl; other = λ e. absurd (let wrong : true ≡ false = e in cc) } in
+      let all : All (IsReadFor page) (r ∷ []) = All-push (IsReadFor page) [] r (All-nil (IsReadFor page)) here in
+      elim (page_of answer) as (λ o. All (IsReadFor page) (reads_of (run source (after_page page o) (r ∷ [])))) [
         | None ↦ all
-        | Some p ↦ of_page-run page source (expand most_open page [] (tree mode.View p.text) no_progress) 0 first ((pays-expand most_open page [] (tree mode.View p.text)).pays 0 no_progress (omega arith) (omega arith)) all
+        | Some p ↦ read_for-run page source (expand most_open page [] (tree mode.View p.text) no_progress) 0 (r ∷ [])
+            ((pays-expand most_open page [] (tree mode.View p.text)).pays 0 no_progress (omega arith) limits-start) all
       ]
 ]
 
@@ -188,7 +195,7 @@ module _ (v w : World) (page title : PageTitle) (elsewhere : DifferOnlyAt title 
   -- where the title's text isn't read, and its existence isn't read or stays, both worlds answer a read of it alike
   answer_of_title : list_any (is_read_of title Include) seen ≡ false → (list_any (is_read_of title Exists) seen ≡ false) ⊎ (is_some (w title) ≡ is_some (v title)) → (k : ℕ) (d : Read) → k < length seen → (get_or seen k d).title ≡ title → (kind : Kind) → (get_or seen k d).kind ≡ kind → answer_in w (get_or seen k d).title kind ≡ answer_in v (get_or seen k d).title kind
   answer_of_title no_text existence_same k d within of_title View of_kind =
-      let of_page : (get_or seen k d).title ≡ page = of_page-view (of_world v) page k d within (rw of_kind refl) in
+      let of_page : (get_or seen k d).title ≡ page = (read_for-view (of_world v) page k d within).viewed (rw of_kind refl) in
       absurd (other_page (sym of_page ∙ of_title))
   answer_of_title no_text existence_same k d within of_title Include of_kind = absurd (not_read title Include seen k d no_text within of_title of_kind)
   answer_of_title no_text existence_same k d within of_title Exists of_kind = elim existence_same [

@@ -1,2 +1,4 @@
 pub mod Changes
 pub mod Inclusions
+pub mod Limits
+pub mod Titles

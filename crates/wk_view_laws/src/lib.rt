@@ -18,6 +18,8 @@ ghost use Rattle.wk_view_rules.specs.declared.Kind.{Kind};
 ghost use Rattle.wk_view_rules.specs.declared.Kind.TheVariants.{Include, Exists};
 ghost use Rattle.wk_view_laws.specs.Changes.{DifferOnlyAt};
 ghost use Rattle.wk_view_laws.specs.Inclusions.{MeetsRedirect, read_for_inclusion};
+ghost use Rattle.wk_view_laws.specs.Limits.{IsWithinLimits};
+ghost use Rattle.wk_view_laws.specs.Titles.{RowsAreInOrder, RowsHavePageTitles};
 
 /// An expansion that is done over one source is the same over each source that gives its reads the same answers.
 /// Sources are worlds and lists of answers alike, so a draft made of answers of many moments is the expansion of
@@ -93,4 +95,21 @@ pub fn rows_name_what_is_read()
 pub fn unnamed_titles_change_no_rows()
     ensures any_change { (v w : World) (page title : PageTitle) → DifferOnlyAt title v w → page ≢ title → names_both (rows v page) title ≡ false → rows w page ≡ rows v page }
     ensures other_text { (v w : World) (page title : PageTitle) → DifferOnlyAt title v w → page ≢ title → is_some (w title) ≡ is_some (v title) → names_text (rows v page) title ≡ false → rows w page ≡ rows v page }
+{}
+
+/// The counters of an expansion never pass its limits.
+pub fn counters_stay_within_limits()
+    ensures view { (a : Source) (page : PageTitle) (x : Expanded) (seen : List Read) → view a page ≡ done x seen → IsWithinLimits x.counters }
+    ensures text { (a : Source) (page : PageTitle) (text : List ℕ) (x : Expanded) (seen : List Read) → shown_text a page text ≡ done x seen → IsWithinLimits x.counters }
+{}
+
+/// Each list of a page's rows is in title order, and has no title twice.
+pub fn rows_are_in_order()
+    ensures { (pages : World) (page : PageTitle) → RowsAreInOrder (rows pages page) }
+{}
+
+/// Each title in a page's rows is one that a text names and that a page can have; those of its members are in the
+/// namespace of categories.
+pub fn rows_have_page_titles()
+    ensures { (pages : World) (page : PageTitle) → RowsHavePageTitles (rows pages page) }
 {}
