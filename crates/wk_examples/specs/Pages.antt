@@ -43,6 +43,15 @@ chain_of_templates =
     ++ (codes "Template:T41", codes "x") ∷ []
     )
 
+-- a text so many times
+abbrev pub times : ℕ → List ℕ → List ℕ
+times zero text = []
+times (suc n) text = text ++ times n text
+
+-- what stands in so many arguments within each other
+abbrev pub in_arguments : ℕ → List ℕ → List ℕ
+in_arguments count text = times count (codes "{{{x|") ++ text ++ times count (codes "}}}")
+
 -- ---- expansions
 
 -- the page API, on which the texts of the examples are shown

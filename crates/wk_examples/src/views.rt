@@ -4,7 +4,7 @@ ghost use Rattle.wk_view_rules.specs.declared.Kind.TheVariants.{View, Include, E
 ghost use Rattle.wk_view_rules.specs.Plans.{done, need};
 ghost use Rattle.wk_view_rules.specs.Views.{view, shown_text};
 ghost use Rattle.wk_view_rules.specs.Worlds.{of_seen, page};
-ghost use Rattle.wk_examples.specs.Pages.{given, given_counters, given_reads, viewed, viewed_reads, pages, api, chain_of_templates, a_hundred_and_one, existence_tests};
+ghost use Rattle.wk_examples.specs.Pages.{given, given_counters, given_reads, viewed, viewed_reads, pages, api, chain_of_templates, a_hundred_and_one, existence_tests, in_arguments, times};
 
 /// Arguments that nothing binds, and templates without pages.
 pub fn nothing_there()
@@ -167,4 +167,11 @@ pub fn costs()
     ensures inclusion { given_counters (pages ((codes "Template:A", replicate 130 120) ∷ [])) (codes "{{A}}") ≡ record { nodes = 3; include = 130; argument = 0; exists = 0 } }
     ensures argument { given_counters (pages ((codes "Template:A", codes "{{{k}}}") ∷ [])) (codes "{{A|k= " ++ replicate 63 120 ++ codes "}}") ≡ record { nodes = 3; include = 63; argument = 63; exists = 0 } }
     ensures redirect { given_counters (pages ((codes "Template:R", codes "#redirect [[Template:T]]") ∷ (codes "Template:T", codes "t") ∷ [])) (codes "{{R}}") ≡ record { nodes = 2; include = 1; argument = 0; exists = 0 } }
+{}
+
+/// Nodes within each other: two hundred are open, and no more than a hundred nodes of one text.
+pub fn nodes_within_each_other()
+    ensures two_hundred_open { given (pages ((codes "Template:B", in_arguments 99 (codes "{{C}}")) ∷ (codes "Template:C", codes "{{{x|y}}}") ∷ [])) (in_arguments 99 (codes "{{B}}")) ≡ codes "<span class=\"error\">Expansion depth limit exceeded</span>" }
+    ensures one_fewer_open { given (pages ((codes "Template:B", in_arguments 98 (codes "{{C}}")) ∷ (codes "Template:C", codes "{{{x|y}}}") ∷ [])) (in_arguments 99 (codes "{{B}}")) ≡ codes "y" }
+    ensures height { given (pages []) (in_arguments 150 (codes "y")) ≡ times 50 (codes "{{{x|") ++ codes "y" ++ times 150 (codes "}") }
 {}

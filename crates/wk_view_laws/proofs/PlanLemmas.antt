@@ -12,6 +12,7 @@ use Rattle.wk_text_rules.specs.Titles.{PageTitle, title_eq}
 use Rattle.wk_view_rules.specs.Plans.{Plan, gives, asks, and_then, Outcome, done, need, noted, run, reads_of, IsDone, NeedsOrReads}
 use Rattle.wk_view_rules.specs.Worlds.{Answer, Read, Source, World, of_world, ask, answer_in, is_read_of, kind_eq, Agrees}
 use Rattle.wk_view_rules.specs.declared.Kind.{Kind}
+use Rattle.wk_view_laws.specs.Plans.{goes_on}
 use Rattle.wk_view_rules.specs.declared.Kind.TheVariants.{View, Include, Exists}
 
 -- ---- tests on pairs of title and kind
@@ -197,16 +198,11 @@ need-elsewhere a b (asks title kind more) before wanted as_kind after agrees agr
 
 -- ---- one plan behind another
 
--- how a plan goes on behind the end of the one before it
-abbrev pub outcome_then : {A B : Type 0} → Source → Outcome A → (A → Plan B) → Outcome B
-outcome_then source (done x reads) next = run source (next x) reads
-outcome_then source (need title kind reads) next = need title kind reads
-
-pub run-and_then : {A B : Type 0} (source : Source) (p : Plan A) (next : A → Plan B) (before : List Read) → run source (and_then p next) before ≡ outcome_then source (run source p before) next
+pub run-and_then : {A B : Type 0} (source : Source) (p : Plan A) (next : A → Plan B) (before : List Read) → run source (and_then p next) before ≡ goes_on source next (run source p before)
 unfolding run
 run-and_then source (gives x) next before = refl
 run-and_then source (asks title kind more) next before =
-    elim (ask source title kind) as (λ o. met source title kind (λ answer. and_then (more answer) next) before o ≡ outcome_then source (met source title kind more before o) next) [
+    elim (ask source title kind) as (λ o. met source title kind (λ answer. and_then (more answer) next) before o ≡ goes_on source next (met source title kind more before o)) [
       | None ↦ refl
       | Some answer ↦ run-and_then source (more answer) next _
     ]

@@ -10,7 +10,7 @@ ghost use Rattle.wk_tree_rules.specs.declared.Mode.TheVariants as mode;
 ghost use Rattle.wk_view_rules.specs.Expand.{expand, included, inclusion};
 ghost use Rattle.wk_view_rules.specs.Expansions.{Expansion, Output, Progress, with_nodes};
 ghost use Rattle.wk_view_rules.specs.Frames.{Frame};
-ghost use Rattle.wk_view_rules.specs.Plans.{Plan, done, need, run, reads_of, noted, IsDone, NeedsOrReads};
+ghost use Rattle.wk_view_rules.specs.Plans.{Plan, and_then, done, need, run, reads_of, noted, IsDone, NeedsOrReads};
 ghost use Rattle.wk_view_rules.specs.Rows.{rows, no_rows, names_text, names_both};
 ghost use Rattle.wk_view_rules.specs.Views.{Expanded, view, reads, shown_text};
 ghost use Rattle.wk_view_rules.specs.Worlds.{World, PageText, Source, Read, Seen, of_world, of_seen, is_read_of, Agrees, IsSeen};
@@ -19,6 +19,7 @@ ghost use Rattle.wk_view_rules.specs.declared.Kind.TheVariants.{Include, Exists}
 ghost use Rattle.wk_view_laws.specs.Changes.{DifferOnlyAt};
 ghost use Rattle.wk_view_laws.specs.Inclusions.{MeetsRedirect, read_for_inclusion};
 ghost use Rattle.wk_view_laws.specs.Limits.{IsWithinLimits};
+ghost use Rattle.wk_view_laws.specs.Plans.{goes_on};
 ghost use Rattle.wk_view_laws.specs.Titles.{RowsAreInOrder, RowsHavePageTitles};
 
 /// An expansion that is done over one source is the same over each source that gives its reads the same answers.
@@ -36,6 +37,11 @@ pub fn needed_by_the_reads_alone()
     ensures view { (a b : Source) (page wanted : PageTitle) (kind : Kind) (seen : List Read) → view a page ≡ need wanted kind seen → Agrees b seen → NeedsOrReads wanted kind seen (view b page) }
     ensures text { (a b : Source) (page wanted : PageTitle) (text : List ℕ) (kind : Kind) (seen : List Read) → shown_text a page text ≡ need wanted kind seen → Agrees b seen → NeedsOrReads wanted kind seen (shown_text b page text) }
     ensures plan { (a b : Source) (p : Plan Expanded) (wanted : PageTitle) (kind : Kind) (seen : List Read) → run a p [] ≡ need wanted kind seen → Agrees b seen → NeedsOrReads wanted kind seen (run b p []) }
+{}
+
+/// A plan behind another is met where the first one ended: with its value and its reads.
+pub fn plans_go_on()
+    ensures { (a : Source) (first : Plan (Output × Progress)) (next : Output × Progress → Plan (Output × Progress)) (before : List Read) → run a (and_then first next) before ≡ goes_on a next (run a first before) }
 {}
 
 /// The reads of an expansion hold the source's own answers, whether it is done or in need.
