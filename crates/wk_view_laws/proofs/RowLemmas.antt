@@ -1,5 +1,5 @@
 -- Rows name what was read, and a title that they don't name may change.
-use Rattle.std.proofs.Common.{◌≡◌, ◌≢◌, ℕ, suc, ◌<◌, Bool, true, false, ◌&&◌, ◌||◌, List, [], ◌∷◌, length, refl, sym, ◌∙◌, ap, subst, Some, None, arith, inl, inr, get_or}
+use Rattle.std.proofs.Common.{◌≡◌, ◌≢◌, ℕ, suc, ◌<◌, Bool, true, false, ◌&&◌, ◌||◌, List, [], ◌∷◌, ◌++◌, length, refl, sym, ◌∙◌, ap, subst, Some, None, arith, inl, inr, get_or}
 use Rattle.std.specs.Bool.{one_answer}
 use Rattle.std.specs.List.{All, list_any, fold}
 use Rattle.std.specs.Option.{is_some}
@@ -8,7 +8,7 @@ use Rattle.std.specs.Cmp.Lexicographic.{slice_cmp}
 use Rattle.std.specs.declared.cmp.Ordering.{Ordering}
 use Rattle.std.specs.declared.cmp.Ordering.TheVariants.{Less, Equal, Greater}
 use Rattle.std.proofs.lemmas.Bool.{cases_Bool}
-use Rattle.std.proofs.lemmas.List.Elements.{All-nil, All-push}
+use Rattle.std.proofs.lemmas.List.Elements.{All-nil, All-push, filter_map-append}
 use Rattle.std.proofs.lemmas.List.Folds.{list_any_at}
 use Rattle.std.specs.Prelude.{◌⊎◌}
 use Rattle.std.proofs.lemmas.Map.Text.{is_eq-slice_cmp}
@@ -16,17 +16,17 @@ use Rattle.wk_text_rules.specs.Titles.{PageTitle, title_cmp, title_eq}
 use Rattle.wk_tree_rules.specs.Tree.{tree}
 use Rattle.wk_tree_rules.specs.declared.Mode.TheVariants as mode
 use Rattle.wk_view_rules.specs.Expand.{expand}
-use Rattle.wk_view_rules.specs.Expansions.{Output, Progress, no_progress, most_open}
+use Rattle.wk_view_rules.specs.Expansions.{Output, Progress, no_counters, no_progress, most_open}
 use Rattle.wk_view_rules.specs.Plans.{Plan, gives, asks, and_then, Outcome, done, need, noted, run, reads_of, IsDone}
 use Rattle.wk_view_rules.specs.Rows.{put_in_order, in_title_order, titles_in_order, titles_read, rows, rows_at, rows_by, names_text, names_both}
 use Rattle.wk_view_rules.specs.Views.{Expanded, expanded_by, view, view_plan, text_plan}
-use Rattle.wk_view_rules.specs.Worlds.{existence, page_of, Read, Source, World, of_world, ask, answer_in, is_read_of, kind_eq, Agrees}
+use Rattle.wk_view_rules.specs.Worlds.{Answer, existence, page_of, Read, Source, World, of_world, ask, answer_in, is_read_of, kind_eq, Agrees}
 use Rattle.wk_view_rules.specs.Worlds.{page as page_answer}
 use Rattle.wk_view_rules.specs.declared.Kind.{Kind}
 use Rattle.wk_view_rules.specs.declared.Kind.TheVariants.{View, Include, Exists}
 use Rattle.wk_view_laws.specs.Changes.{DifferOnlyAt}
 use Rattle.wk_view_laws.specs.Titles.{IsPageTitle}
-use Rattle.wk_view_laws.proofs.CostLemmas.{EndsPaid, limits-start}
+use Rattle.wk_view_laws.proofs.CostLemmas.{EndsPaid, kept-start, tested_with}
 use Rattle.wk_view_laws.proofs.ExpandCosts.{pays-expand}
 use Rattle.wk_view_laws.proofs.PlanLemmas.{IsDone-run, agrees-itself, kind_eq-same, met, title_eq-true, title_eq-same}
 use Rattle.wk_view_laws.proofs.ViewLemmas.{after_page, after_view, rows-elsewhere}
@@ -141,10 +141,10 @@ read_for-noted page before r here all = elim (cases_Bool (list_any (is_read_of r
   | inr missing ↦ rw missing (All-push (IsReadFor page) before r all here)
 ]
 
-read_for-run : (page : PageTitle) (source : Source) (p : Plan (Output × Progress)) (base : ℕ) (before : List Read) → EndsPaid base p → All (IsReadFor page) before → All (IsReadFor page) (reads_of (run source (and_then p expanded_by) before))
+read_for-run : (page : PageTitle) (source : Source) (p : Plan (Output × Progress)) (base : ℕ) (tested : List PageTitle) (before : List Read) → EndsPaid base tested p → All (IsReadFor page) before → All (IsReadFor page) (reads_of (run source (and_then p expanded_by) before))
 unfolding run
-read_for-run page source (gives (out, progress)) base before h all = all
-read_for-run page source (asks title kind more) base before h all =
+read_for-run page source (gives (out, progress)) base tested before h all = all
+read_for-run page source (asks title kind more) base tested before h all =
     elim (ask source title kind) as (λ o. All (IsReadFor page) (reads_of (met source title kind (λ answer. and_then (more answer) expanded_by) before o))) [
       | None ↦ all
       | Some answer ↦
@@ -153,7 +153,7 @@ read_for-run page source (asks title kind more) base before h all =
             viewed = λ is_view. absurd (let wrong : true ≡ false = sym is_view ∙ h.0.no_view in cc);
             other = λ no_view. h.0.of_page;
           } in
-          read_for-run page source (more answer) (suc base) (noted before r) (h.1 answer) (read_for-noted page before r here all)
+          read_for-run page source (more answer) (suc base) (tested_with title kind tested) (noted before r) (h.1 answer) (read_for-noted page before r here all)
     ]
 
 pub read_for-view : (source : Source) (page : PageTitle) → All (IsReadFor page) (reads_of (view source page))
@@ -166,8 +166,8 @@ read_for-view source page = elim (ask source page View) as (λ o. All (IsReadFor
       let all : All (IsReadFor page) (r ∷ []) = All-push (IsReadFor page) [] r (All-nil (IsReadFor page)) here in
       elim (page_of answer) as (λ o. All (IsReadFor page) (reads_of (run source (after_page page o) (r ∷ [])))) [
         | None ↦ all
-        | Some p ↦ read_for-run page source (expand most_open page [] (tree mode.View p.text) no_progress) 0 (r ∷ [])
-            ((pays-expand most_open page [] (tree mode.View p.text)).pays 0 no_progress (omega arith) limits-start) all
+        | Some p ↦ read_for-run page source (expand most_open page [] (tree mode.View p.text) no_progress) 0 [] (r ∷ [])
+            ((pays-expand most_open page [] (tree mode.View p.text)).pays 0 no_progress (omega arith) kept-start) all
       ]
 ]
 
@@ -226,3 +226,61 @@ module _ (v w : World) (page title : PageTitle) (elsewhere : DifferOnlyAt title 
 
   pub rows-unnamed_text : is_some (w title) ≡ is_some (v title) → names_text (rows v page) title ≡ false → rows w page ≡ rows v page
   rows-unnamed_text same unnamed = rows-elsewhere v w page (agrees-elsewhere (sym (names_text-rows v page title) ∙ unnamed) (inr same))
+
+-- ---- the titles that were tested
+
+append_nil : {X : Type 0} (xs : List X) → xs ++ [] ≡ xs
+append_nil [] = refl
+append_nil (x ∷ xs) = ap (λ ys. x ∷ ys) (append_nil xs)
+
+-- one more question, among the titles that were tested and among the reads
+tested-noted : (title : PageTitle) (kind : Kind) (answer : Answer) (before : List Read) → tested_with title kind (titles_read Exists before) ≡ titles_read Exists (noted before (record { title = title; kind = kind; answer = answer }))
+tested-noted title View answer before = elim (cases_Bool (list_any (is_read_of title View) before)) [
+  | inl there ↦ rw there refl
+  | inr missing ↦ rw (missing, filter_map-append) (sym (append_nil (titles_read Exists before)))
+]
+tested-noted title Include answer before = elim (cases_Bool (list_any (is_read_of title Include) before)) [
+  | inl there ↦ rw there refl
+  | inr missing ↦ rw (missing, filter_map-append) (sym (append_nil (titles_read Exists before)))
+]
+tested-noted title Exists answer before = elim (cases_Bool (list_any (is_read_of title Exists) before)) [
+  | inl there ↦ rw (list_any-titles_read title Exists before, there) refl
+  | inr missing ↦ rw (list_any-titles_read title Exists before, missing, filter_map-append) refl
+]
+
+tests-run : (source : Source) (p : Plan (Output × Progress)) (base : ℕ) (tested : List PageTitle) (before : List Read) (x : Expanded) (seen : List Read) → EndsPaid base tested p → tested ≡ titles_read Exists before → run source (and_then p expanded_by) before ≡ done x seen → x.counters.exists ≡ length (titles_read Exists seen)
+unfolding run
+tests-run source (gives (out, progress)) base tested before x seen h same end =
+    let made : Expanded = record { out = out; counters = progress.counters } in
+    let x_is : made ≡ x = cc in
+    let seen_is : before ≡ seen = cc in
+    ap (λ (e : Expanded). e.counters.exists) (sym x_is) ∙ h.1.counted ∙ ap length (h.2 ∙ same) ∙ ap (λ reads. length (titles_read Exists reads)) seen_is
+tests-run source (asks title kind more) base tested before x seen h same end =
+    (elim (ask source title kind) as (λ o. met source title kind (λ answer. and_then (more answer) expanded_by) before o ≡ done x seen → x.counters.exists ≡ length (titles_read Exists seen)) [
+      | None ↦ λ e. cc
+      | Some answer ↦ tests-run source (more answer) (suc base) (tested_with title kind tested) _ x seen (h.1 answer)
+          (ap (tested_with title kind) same ∙ tested-noted title kind answer before)
+    ]) end
+
+pub tests-text : (source : Source) (page : PageTitle) (text : List ℕ) (before : List Read) (x : Expanded) (seen : List Read) → titles_read Exists before ≡ [] → run source (text_plan page text) before ≡ done x seen → x.counters.exists ≡ length (titles_read Exists seen)
+unfolding text_plan
+tests-text source page text before x seen none end =
+    tests-run source (expand most_open page [] (tree mode.View text) no_progress) 0 [] before x seen
+    ((pays-expand most_open page [] (tree mode.View text)).pays 0 no_progress (omega arith) kept-start) (sym none) end
+
+pub tests-view : (source : Source) (page : PageTitle) (x : Expanded) (seen : List Read) → view source page ≡ done x seen → x.counters.exists ≡ length (titles_read Exists seen)
+unfolding run view_plan
+tests-view source page x seen end =
+    (elim (ask source page View) as (λ o. met source page View (after_view page) [] o ≡ done x seen → x.counters.exists ≡ length (titles_read Exists seen)) [
+      | None ↦ λ e. cc
+      | Some answer ↦
+          let first : List Read = record { title = page; kind = View; answer = answer } ∷ [] in
+          elim (page_of answer) as (λ o. run source (after_page page o) first ≡ done x seen → x.counters.exists ≡ length (titles_read Exists seen)) [
+            | None ↦ λ e.
+                let nothing : Expanded = record { out = []; counters = no_counters } in
+                let x_is : nothing ≡ x = cc in
+                let seen_is : first ≡ seen = cc in
+                ap (λ (e : Expanded). e.counters.exists) (sym x_is) ∙ ap (λ reads. length (titles_read Exists reads)) seen_is
+            | Some p ↦ tests-text source page p.text first x seen refl
+          ]
+    ]) end
