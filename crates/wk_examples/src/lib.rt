@@ -3,6 +3,7 @@
 #![tactic(auto)]
 
 pub mod atoms;
+pub mod laws;
 pub mod links;
 pub mod numerals;
 pub mod redirects;
