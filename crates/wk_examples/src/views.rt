@@ -274,11 +274,17 @@ pub fn needs()
     ensures the_page { view (of_seen []) api ≡ need api View [] }
     ensures a_template { view
         (of_seen
-        (record { title = api; kind = View;
-        answer = page (Some (record { revision = 7; text = codes "a{{T}}" })) } ∷ [])) api
+        (record {
+          title = api;
+          kind = View;
+          answer = page (Some (record { revision = 7; text = codes "a{{T}}" }));
+        } ∷ [])) api
         ≡ need (titled (pos 10) (codes "T")) Include
-        (record { title = api; kind = View;
-        answer = page (Some (record { revision = 7; text = codes "a{{T}}" })) } ∷ []) }
+        (record {
+          title = api;
+          kind = View;
+          answer = page (Some (record { revision = 7; text = codes "a{{T}}" }));
+        } ∷ []) }
     ensures existence_first { shown_text (of_seen []) api (codes "{{#ifexist:Q|{{B}}}}{{C}}")
         ≡ need (titled (pos 0) (codes "Q")) Exists [] }
 {}
