@@ -3,5 +3,4 @@ pub mod Queues
 pub mod Pages
 pub mod Spelled
 pub mod Stores
-pub mod Queues
 pub mod Wikis

@@ -1,10 +1,10 @@
 -- How the examples write worlds and what is expanded in them: in short texts, which only examples use.
-use Rattle.std.specs.Prelude.{ℕ, zero, suc, pos, List, [], ◌∷◌, ◌++◌, map, flat_map, bytes_eq, codes, decimal, option_to_list, Some, None, if◌then◌else◌}
+use Rattle.std.specs.Prelude.{ℕ, ℤ, zero, suc, pos, List, [], ◌∷◌, ◌++◌, map, flat_map, bytes_eq, codes, decimal, option_to_list, Some, None, if◌then◌else◌}
 use Rattle.wk_text_rules.specs.Marked.{text_of}
-use Rattle.wk_text_rules.specs.Titles.{PageTitle, shown}
+use Rattle.wk_text_rules.specs.Titles.{PageTitle, shown, title_eq}
 use Rattle.wk_view_rules.specs.Expansions.{Counters, no_counters}
 use Rattle.wk_view_rules.specs.Plans.{Outcome, done, need, reads_of}
-use Rattle.wk_view_rules.specs.Rows.{PageRows, Member}
+use Rattle.wk_view_rules.specs.Rows.{PageRows, Member, rows}
 use Rattle.wk_view_rules.specs.Views.{Expanded, view, shown_text}
 use Rattle.wk_view_rules.specs.Worlds.{World, Read, of_world, mark}
 use Rattle.wk_view_rules.specs.declared.Kind.{Kind}
@@ -20,6 +20,10 @@ pages_from n (entry ∷ entries) title =
 -- pages by their shown titles and their texts, with revisions from 1
 abbrev pub pages : List (List ℕ × List ℕ) → World
 pages entries = pages_from 1 entries
+
+-- one page alone
+abbrev pub only : List ℕ → List ℕ → World
+only name text = pages ((name, text) ∷ [])
 
 -- so many numbers one after the other
 abbrev pub numbers_from : ℕ → ℕ → List ℕ
@@ -43,11 +47,23 @@ chain_of_templates =
     ++ (codes "Template:T41", codes "x") ∷ []
     )
 
+-- a text so many times
+abbrev pub times : ℕ → List ℕ → List ℕ
+times zero text = []
+times (suc n) text = text ++ times n text
+
+-- what stands in so many arguments within each other
+abbrev pub in_arguments : ℕ → List ℕ → List ℕ
+in_arguments count text = times count (codes "{{{x|") ++ text ++ times count (codes "}}}")
+
 -- ---- expansions
+
+abbrev pub titled : ℤ → List ℕ → PageTitle
+titled ns key = record { ns = ns; key = key }
 
 -- the page API, on which the texts of the examples are shown
 abbrev pub api : PageTitle
-api = record { ns = pos 0; key = codes "API" }
+api = titled (pos 0) (codes "API")
 
 abbrev pub output_text : Outcome Expanded → List ℕ
 output_text (done expanded reads) = text_of expanded.out
@@ -97,3 +113,22 @@ short_rows rows = record {
   members = map (λ (m : Member). (shown m.category, m.sortkey, m.prefix)) rows.members;
   redirect = map shown (option_to_list rows.redirect);
 }
+
+-- the rows of a page in a world
+abbrev pub page_rows : World → PageTitle → ShortRows
+page_rows world title = short_rows (rows world title)
+
+-- ---- a world that changes
+
+-- the page P, which includes Template:A and tests for Q
+abbrev pub page_p : PageTitle
+page_p = titled (pos 0) (codes "P")
+
+abbrev pub world_before : World
+world_before =
+    pages ((codes "P", codes "{{A}}{{#ifexist:Q|y}}") ∷ (codes "Template:A", codes "a") ∷ (codes "B", codes "b") ∷ [])
+
+-- the same with another text of one page
+abbrev pub changed : PageTitle → List ℕ → World → World
+changed title text world other =
+    if title_eq other title then Some (record { revision = 9; text = text }) else world other

@@ -4,6 +4,7 @@
 
 pub mod atoms;
 pub mod jobs;
+pub mod laws;
 pub mod links;
 pub mod numerals;
 pub mod redirects;

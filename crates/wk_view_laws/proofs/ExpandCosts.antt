@@ -1,6 +1,6 @@
 -- What the parts of an expansion cost: each template node pays for its question, and a redirect for its second one.
-use Rattle.std.proofs.Common.{ℕ, zero, suc, ◌+◌, ◌/◌, Bool, true, false, List, [], ◌∷◌, length, Option, Some, None, arith, inl, inr, zero-le}
-use Rattle.std.specs.Bool.{nat_lt, nat_le}
+use Rattle.std.proofs.Common.{◌≡◌, ◌<◌, ◌≤◌, ◌++◌, refl, sym, subst, length-append, ℕ, zero, suc, ◌+◌, ◌/◌, Bool, true, false, List, [], ◌∷◌, length, Option, Some, None, arith, inl, inr, zero-le}
+use Rattle.std.specs.Bool.{nat_lt, nat_le, if◌then◌else◌}
 use Rattle.std.specs.Fmt.{decimal}
 use Rattle.std.specs.List.{list_any}
 use Rattle.std.proofs.lemmas.Bool.{cases_Bool}
@@ -8,17 +8,21 @@ use Rattle.wk_text_rules.specs.Titles.{PageTitle, title_eq, is_virtual}
 use Rattle.wk_tree_rules.specs.Tree.{Part, title_part}
 use Rattle.wk_tree_rules.specs.Trees.{Item, plain, sealed, nothing, node, Row, NodeKind, template, argument}
 use Rattle.wk_view_rules.specs.Expand.{item_output, items_output, Search, trimmed_items, whole_part, operand, written_parts, argument_value, argument_default, argument_output, with_bindings, included, redirected, included_text, inclusion, template_as_written, page_output, by_existence, existence_output, without_result, behind_bare_item, behind_named_item, switch_output, function_output, template_output, kind_output, node_output, expand}
-use Rattle.wk_view_rules.specs.Expansions.{Expansion, Output, give, most_tests, most_depth}
+use Rattle.wk_view_rules.specs.Expansions.{Expansion, Output, Progress, give, most_tests, most_depth, with_test}
 use Rattle.wk_view_rules.specs.Frames.{Frame, Binding, binding_length, is_within}
-use Rattle.wk_view_rules.specs.Worlds.{page_of}
+use Rattle.wk_view_rules.specs.Worlds.{page_of, is_there}
 use Rattle.wk_view_rules.specs.declared.Func.{Func}
 use Rattle.wk_view_rules.specs.declared.Func.TheVariants.{If, IfEq, IfExist, IfError, Switch}
+use Rattle.wk_view_rules.specs.declared.Kind.TheVariants.{Exists}
 use Rattle.wk_view_rules.specs.declared.Turned.{Turned}
 use Rattle.wk_view_rules.specs.declared.Turned.TheVariants.{Result, Default, Pass}
 use Rattle.wk_view_rules.specs.declared.Word.{Word}
 use Rattle.wk_view_rules.specs.declared.Word.TheVariants.{Variable, Function, Page}
 use Rattle.wk_view_rules.specs.declared.Var.{Var}
-use Rattle.wk_view_laws.proofs.CostLemmas.{Pays, pays-give, pays-more, pays-bind, pays-answer, pays-charged, pays-argument, pays-inclusion, pays-if, pays-option}
+use Rattle.wk_view_laws.proofs.CostLemmas.{EndsPaid, IsKept, Pays, tested_with, pays-give, pays-more, pays-bind, pays-answer, pays-charged, pays-argument, pays-inclusion, pays-if, pays-option, pays-unless, pays-found}
+use Rattle.wk_view_laws.proofs.TitleLemmas.{page-called_title, page-tested_title, page-redirect_target}
+use Rattle.wk_view_laws.specs.Titles.{IsPageTitle}
+use borrow.Author.Tests.{ltb-true}
 
 -- ---- lists of items
 
@@ -79,20 +83,24 @@ module _ (inner : Frame → List Item → Expansion Output) (inner-pays : (frame
   pays-included title source text parts = pays-charged (length text / 64) 0 0
       (pays-bind (pays-bindings 1 [] parts) (λ bindings. pays-bind (inner-pays _ _) (λ out. pays-inclusion title out))) zero-le
 
-  pays-redirected : (title target : PageTitle) (parts : List Part) → Pays 1 (redirected inner viewed frame title target parts)
+  pays-redirected : (title target : PageTitle) (parts : List Part) → IsPageTitle target → Pays 1 (redirected inner viewed frame title target parts)
   unfolding redirected
-  pays-redirected title target parts = pays-if _ (pays-more (pays-give _)) (pays-answer (λ answer.
+  pays-redirected title target parts of_page = pays-if _ (pays-more (pays-give _)) (pays-answer of_page (λ answer.
       pays-option (page_of answer) (pays-give _) (λ p. pays-included title target p.text parts)))
 
   pays-included_text : (title : PageTitle) (text : List ℕ) (parts : List Part) → Pays 0 (included_text inner viewed frame title text parts)
   unfolding included_text
-  pays-included_text title text parts = pays-option _ (pays-included title title text parts) (λ target.
-      pays-charged (1 + length text / 64) 0 1 (pays-redirected title target parts) (omega arith))
+  pays-included_text title text parts = pays-found _ (pays-included title title text parts) (λ target e.
+      pays-charged (1 + length text / 64) 0 1 (pays-redirected title target parts (page-redirect_target text target e)) (omega arith))
 
-  pays-inclusion_of : (title : PageTitle) (parts : List Part) → Pays 1 (inclusion inner viewed frame title parts)
+  pays-inclusion_of : (title : PageTitle) (parts : List Part) → (is_virtual title ≡ false → IsPageTitle title) → Pays 1 (inclusion inner viewed frame title parts)
   unfolding inclusion
-  pays-inclusion_of title parts = pays-if (is_virtual title) (pays-more (pays-give _)) (pays-if (is_within frame title) (pays-more (pays-give _)) (pays-if (nat_le most_depth (length frame)) (pays-more (pays-give _))
-      (pays-answer (λ answer. pays-option (page_of answer) (pays-give _) (λ p. pays-included_text title p.text parts)))))
+  pays-inclusion_of title parts of_page =
+      pays-unless (is_virtual title) (pays-more (pays-give _)) (λ real.
+      pays-if (is_within frame title) (pays-more (pays-give _))
+      (pays-if (nat_le most_depth (length frame)) (pays-more (pays-give _))
+      (pays-answer (of_page real) (λ answer.
+      pays-option (page_of answer) (pays-give _) (λ p. pays-included_text title p.text parts)))))
 
   pays-as_written : (name : Output) (parts : List Part) → Pays 0 (template_as_written inner viewed frame name parts)
   unfolding template_as_written
@@ -100,20 +108,36 @@ module _ (inner : Frame → List Item → Expansion Output) (inner-pays : (frame
 
   pays-page : (name : Output) (parts : List Part) → Pays 1 (page_output inner viewed frame name parts)
   unfolding page_output
-  pays-page name parts = pays-option _ (pays-more (pays-as_written name parts)) (λ title. pays-inclusion_of title parts)
+  pays-page name parts = pays-found _ (pays-more (pays-as_written name parts)) (λ title e. pays-inclusion_of title parts (page-called_title name title e))
 
-  pays-by_existence : (title : PageTitle) (parts : List Part) → Pays 1 (by_existence inner viewed frame title parts)
+  -- where the titles tested before, with this one, are those tested now
+  ends-by_existence : (title : PageTitle) (parts : List Part) (base : ℕ) (progress : Progress) (before : List PageTitle) → IsPageTitle title → base + 1 ≤ progress.counters.nodes → IsKept progress → tested_with title Exists before ≡ progress.tested → EndsPaid base before (by_existence inner viewed frame title parts progress)
   unfolding by_existence
-  pays-by_existence title parts = pays-answer (λ answer. pays-operand _ parts)
+  ends-by_existence title parts base progress before of_page below kept e = (
+    record { no_view = refl; of_page = of_page },
+    λ answer. subst (λ t. EndsPaid (suc base) t (operand inner viewed frame (if is_there answer then 2 else 3) parts progress)) (sym e)
+        ((pays-operand _ parts).pays (suc base) progress (omega arith) kept),
+  )
 
-  pays-existence : (title : PageTitle) (parts : List Part) → Pays 1 (existence_output inner viewed frame title parts)
+  pays-existence : (title : PageTitle) (parts : List Part) → IsPageTitle title → Pays 1 (existence_output inner viewed frame title parts)
   unfolding existence_output
-  pays-existence title parts = record {
-    pays = λ base progress below most. elim (cases_Bool (list_any (title_eq title) progress.tested)) [
-      | inl tested ↦ rw tested ((pays-by_existence title parts).pays base progress below most)
+  pays-existence title parts of_page = record {
+    pays = λ base progress below kept. elim (cases_Bool (list_any (title_eq title) progress.tested)) [
+      | inl tested ↦
+          let same : tested_with title Exists progress.tested ≡ progress.tested = rw tested refl in
+          rw tested (ends-by_existence title parts base progress progress.tested of_page below kept same)
       | inr untested ↦ elim (cases_Bool (nat_lt progress.counters.exists most_tests)) [
-        | inl room ↦ rw (untested, room) ((pays-by_existence title parts).pays base _ below most)
-        | inr none ↦ rw (untested, none) ((pays-more (pays-operand 3 parts)).pays base progress below most)
+        | inl room ↦
+            let most = kept.limits in
+            let fewer : progress.counters.exists < most_tests = ltb-true _ _ room in
+            let more : tested_with title Exists progress.tested ≡ progress.tested ++ title ∷ [] = rw untested refl in
+            let one_more : progress.counters.exists + 1 ≡ length (progress.tested ++ title ∷ []) = rw length-append (omega (arith, kept.counted)) in
+            let kept_more : IsKept (with_test title progress) = record {
+              limits = record { nodes = most.nodes; include = most.include; argument = most.argument; exists = omega arith };
+              counted = one_more;
+            } in
+            rw (untested, room) (ends-by_existence title parts base (with_test title progress) progress.tested of_page below kept_more more)
+        | inr none ↦ rw (untested, none) ((pays-more (pays-operand 3 parts)).pays base progress below kept)
       ]
     ];
   }
@@ -153,7 +177,7 @@ module _ (inner : Frame → List Item → Expansion Output) (inner-pays : (frame
   unfolding function_output
   pays-function If first parts = pays-more (pays-operand _ parts)
   pays-function IfEq first parts = pays-more (pays-bind (pays-operand 2 parts) (λ second. pays-operand _ parts))
-  pays-function IfExist first parts = pays-option _ (pays-more (pays-operand 3 parts)) (λ title. pays-existence title parts)
+  pays-function IfExist first parts = pays-found _ (pays-more (pays-operand 3 parts)) (λ title e. pays-existence title parts (page-tested_title first title e))
   pays-function IfError first parts = pays-more (pays-if _ (pays-operand 2 parts) (pays-if _ (pays-give _) (pays-operand 3 parts)))
   pays-function Switch first parts = pays-more (pays-switch _ parts)
 

@@ -1,5 +1,9 @@
 pub mod CostLemmas
 pub mod ExpandCosts
+pub mod OrderLemmas
 pub mod PlanLemmas
 pub mod RedirectLemmas
+pub mod RowLemmas
+pub mod SeenLemmas
+pub mod TitleLemmas
 pub mod ViewLemmas

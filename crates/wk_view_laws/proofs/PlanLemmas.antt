@@ -9,14 +9,15 @@ use Rattle.std.proofs.lemmas.List.Elements.{All-pop, All-push}
 use Rattle.std.proofs.lemmas.List.Folds.{Any-from_list_any, list_any-append}
 use Rattle.std.proofs.lemmas.Slice.Eq.{bytes_eq-Decides}
 use Rattle.wk_text_rules.specs.Titles.{PageTitle, title_eq}
-use Rattle.wk_view_rules.specs.Plans.{Plan, gives, asks, Outcome, done, need, noted, run, reads_of, IsDone, NeedsOrReads}
+use Rattle.wk_view_rules.specs.Plans.{Plan, gives, asks, and_then, Outcome, done, need, noted, run, reads_of, IsDone, NeedsOrReads}
 use Rattle.wk_view_rules.specs.Worlds.{Answer, Read, Source, World, of_world, ask, answer_in, is_read_of, kind_eq, Agrees}
 use Rattle.wk_view_rules.specs.declared.Kind.{Kind}
+use Rattle.wk_view_laws.specs.Plans.{goes_on}
 use Rattle.wk_view_rules.specs.declared.Kind.TheVariants.{View, Include, Exists}
 
 -- ---- tests on pairs of title and kind
 
-both_parts : (a b : Bool) → (a && b) ≡ true → (a ≡ true) × (b ≡ true)
+pub both_parts : (a b : Bool) → (a && b) ≡ true → (a ≡ true) × (b ≡ true)
 both_parts true true e = (refl, refl)
 both_parts true false e = cc
 both_parts false b e = cc
@@ -194,3 +195,14 @@ need-elsewhere a b (asks title kind more) before wanted as_kind after agrees agr
     need_asks a b title kind more before wanted as_kind after agrees agrees_b
     (λ answer reads here next. need-elsewhere a b (more answer) reads wanted as_kind after here agrees_b next)
     (ask a title kind) refl end
+
+-- ---- one plan behind another
+
+pub run-and_then : {A B : Type 0} (source : Source) (p : Plan A) (next : A → Plan B) (before : List Read) → run source (and_then p next) before ≡ goes_on source next (run source p before)
+unfolding run
+run-and_then source (gives x) next before = refl
+run-and_then source (asks title kind more) next before =
+    elim (ask source title kind) as (λ o. met source title kind (λ answer. and_then (more answer) next) before o ≡ goes_on source next (met source title kind more before o)) [
+      | None ↦ refl
+      | Some answer ↦ run-and_then source (more answer) next _
+    ]

@@ -1,1 +1,5 @@
+pub mod Changes
 pub mod Inclusions
+pub mod Limits
+pub mod Plans
+pub mod Titles
