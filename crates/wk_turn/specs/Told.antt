@@ -1,0 +1,28 @@
+-- What contracts see of a pass.
+use Rattle.std.specs.Prelude.{◌≡◌, ℕ, List, [], ◌∷◌, Option, Some, None}
+use Rattle.atomic_table.specs.Seated.{TableId}
+use Rattle.wk_turn.specs.declared.board.View.{View}
+use Rattle.wk_turn.specs.declared.board.Stage.{Stage}
+use Rattle.wk_turn.specs.declared.board.Stage.TheVariants.{Idle, Holds}
+
+-- Which turn it is of, the state's start, the journal as it was seen, the places in it of the entries that the pass made, and the journal at `enter` where the pass has the turn
+pub record Story (A E : Type 0) : Type 0 where
+  pub turn : TableId
+  pub start : Option A
+  pub seen : List E
+  pub own : List ℕ
+  pub held : Option (List E)
+
+module _ {E : Type 0} where
+  abbrev pub held_of : Stage E → Option (List E)
+  held_of (Holds n at) = Some at
+  held_of _ = None
+
+  -- between two calls a pass has no number, or it has the turn and the empty slot
+  abbrev pub Rests : {S : Type 0} → Stage E → List (ℕ × Option S) → Type 0
+  Rests Idle carried = carried ≡ []
+  Rests (Holds n at) carried = carried ≡ (0, None) ∷ []
+  Rests _ carried = ⊥
+
+abbrev pub story : {A E : Type 0} → TableId → View A E → Story A E
+story turn v = record { turn = turn; start = v.start; seen = v.seen; own = v.own; held = held_of v.stage }
