@@ -2,6 +2,7 @@
 #![tactic(auto)]
 
 mod board;
+mod line;
 mod lock;
 mod pass;
 mod plays;
