@@ -1,3 +1,4 @@
 pub mod Lists
 pub mod Owning
+pub mod Passes
 pub mod Steps

@@ -1,7 +1,8 @@
 -- What contracts see of a pass.
-use Rattle.std.specs.Prelude.{◌≡◌, ℕ, List, [], ◌∷◌, Option, Some, None}
+use Rattle.std.specs.Prelude.{◌≡◌, ℕ, List, [], ◌∷◌, length, Option, Some, None, IsSome}
 use Rattle.atomic_table.specs.Seated.{TableId}
 use Rattle.wk_turn.specs.declared.board.View.{View}
+use Rattle.wk_turn.specs.Journal.{AreOwn}
 use Rattle.wk_turn.specs.declared.board.Stage.{Stage}
 use Rattle.wk_turn.specs.declared.board.Stage.TheVariants.{Idle, Holds}
 
@@ -23,6 +24,14 @@ module _ {E : Type 0} where
   Rests Idle carried = carried ≡ []
   Rests (Holds n at) carried = carried ≡ (0, None) ∷ []
   Rests _ carried = ⊥
+
+-- what is so of a pass between two calls
+pub record Settled {A E S : Type 0} (closes : E → Option ℕ) (point : ℕ) (v : View A E) (carried : List (ℕ × Option S)) : Type 0 where
+  pub point_is : point ≡ length v.seen
+  pub bare : v.seats ≡ 0
+  pub begun : IsSome v.start
+  pub rests : Rests v.stage carried
+  pub own : AreOwn closes v.seen v.own
 
 abbrev pub story : {A E : Type 0} → TableId → View A E → Story A E
 story turn v = record { turn = turn; start = v.start; seen = v.seen; own = v.own; held = held_of v.stage }

@@ -1,13 +1,15 @@
 //! The lock, and how it begins.
 ghost use Rattle.std.specs.Prelude.{◌≡◌, [], ◌∷◌, Some, None, MatchResult};
 
-use crate::board::{Board, Place};
-use crate::pass::Pass;
+use crate::board::Board;
+use crate::line::{end, give_turn, merge_seats, split_seat, take_turn};
+use crate::pass::{Held, Pass};
 use crate::storied::Storied;
 use atomic_table::{Refused, Table};
 use std::alloc::{AllocFailed, Global};
 use std::marker::Model;
 use std::snapshot::Snapshot;
+use std::sync::Wait;
 use wk_memory::Memory;
 
 /// A ticket lock round one state. Contracts see which it is.
@@ -47,5 +49,84 @@ pub fn begin<S: Storied>(alloc: Global, state: S) -> Result<(Turn<S>, Pass<S>), 
             slots.destroy_empty();
             Err((state, Memory))
         }
+    }
+}
+
+impl<S: Storied> Turn<S> {
+    ghost use mathlib.Core.List.{IsPrefix};
+    ghost use Rattle.std.specs.Prelude.{◌≡◌, ◌++◌, [], Some, None, IfOk};
+    ghost use Rattle.wk_turn.specs.Journal.{AreOwn, ClosesOwn, added, longer};
+
+    /// Makes a pass that has seen what `pass` has seen, and has made no entry.
+    /// Memory comes only where 2^64 - 1 passes were made, or as many calls of `split` met others.
+    pub fn split(&self, pass: &mut Pass<S>) -> Result<Pass<S>, Memory>
+        requires { pass.old.turn ≡ self.now }
+        ensures pass { pass.new ≡ pass.old }
+        ensures new { IfOk result (λ p. p ≡ record pass.old { own = []; held = None }) }
+    {
+        let point = pass.point;
+        match split_seat(&self.board.shared, &mut pass.seat) {
+            Some(seat) => Ok(Pass { seat, point }),
+            None => Err(Memory),
+        }
+    }
+
+    /// Takes in another pass: what it has seen, where that is more, and its entries. No memory.
+    pub fn join(&self, pass: &mut Pass<S>, other: Pass<S>)
+        requires turn { (pass.old.turn ≡ self.now) × (other.turn ≡ self.now) }
+        requires free { (pass.old.held ≡ None) × (other.held ≡ None) }
+        ensures pass { pass.new ≡ record pass.old { seen = longer pass.old.seen other.seen; own = pass.old.own ++ other.own } }
+        ensures seen { IsPrefix pass.old.seen pass.new.seen × IsPrefix other.seen pass.new.seen }
+        ensures own { AreOwn S.closes pass.new.seen pass.new.own }
+    {
+        let Pass { seat, point } = other;
+        merge_seats(&self.board.shared, &mut pass.seat, seat);
+        pass.point = pass.point.max(point);
+    }
+
+    /// Waits for the turn and takes the state. Its journal begins with all that the pass has seen. No memory.
+    pub fn enter<R: Wait>(&self, rt: &R, pass: &mut Pass<S>) -> Held<S>
+        requires turn { pass.old.turn ≡ self.now }
+        requires free { pass.old.held ≡ None }
+        ensures pass { pass.new ≡ record pass.old { held = Some (S.journal result.value) } }
+        ensures before { result.before.value ≡ result.value }
+        ensures start { pass.old.start ≡ Some (S.start result.value) }
+        ensures seen { IsPrefix pass.old.seen (S.journal result.value) }
+        ensures own { AreOwn S.closes (S.journal result.value) pass.old.own }
+    {
+        let value = take_turn(rt, &self.board.shared, &mut pass.seat);
+        let before = Snapshot::of(&value);
+        Held { value, before }
+    }
+
+    /// Gives the state and the turn back. The pass has then seen the whole journal, and the entries added are its own. No memory.
+    pub fn leave(&self, pass: &mut Pass<S>, held: Held<S>)
+        requires turn { pass.old.turn ≡ self.now }
+        requires entered { (pass.old.held ≡ Some (S.journal held.before.value)) × (pass.old.start ≡ Some (S.start held.before.value)) }
+        requires start { S.start held.value ≡ S.start held.before.value }
+        requires journal { IsPrefix (S.journal held.before.value) (S.journal held.value) }
+        requires closes { ClosesOwn S.closes (S.journal held.before.value) (S.journal held.value) pass.old.own }
+        ensures pass { pass.new ≡ record pass.old { seen = S.journal held.value; own = pass.old.own ++ added (S.journal held.before.value) (S.journal held.value); held = None } }
+        ensures own { AreOwn S.closes pass.new.seen pass.new.own }
+    {
+        let Held { value, before } = held;
+        let point = value.length();
+        give_turn(&self.board.shared, &mut pass.seat, value, point, &before);
+        pass.point = point;
+    }
+
+    /// Waits for the turn, and keeps the state. Its journal begins with all that the pass has seen. No memory.
+    pub fn finish<R: Wait>(self, rt: &R, pass: Pass<S>) -> S
+        requires turn { pass.turn ≡ self }
+        requires free { pass.held ≡ None }
+        ensures start { pass.start ≡ Some (S.start result) }
+        ensures seen { IsPrefix pass.seen (S.journal result) }
+        ensures own { AreOwn S.closes (S.journal result) pass.own }
+    {
+        let Turn { board } = self;
+        let Pass { mut seat, point: _ } = pass;
+        let state = take_turn(rt, &board.shared, &mut seat);
+        end(board, seat);
+        state
     }
 }

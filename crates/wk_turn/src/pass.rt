@@ -15,15 +15,13 @@ pub struct Pass<S: Storied> {
 }
 
 impl<S: Storied> Model for Pass<S> {
-    ghost use Rattle.std.specs.Prelude.{◌≡◌, length};
-    ghost use Rattle.wk_turn.specs.Journal.{AreOwn};
-    ghost use Rattle.wk_turn.specs.Told.{Story, story, Rests};
+    ghost use Rattle.wk_turn.specs.Told.{Story, Settled, story};
 
     ghost Value = { Story S.Start S.Entry };
 
     ghost view = { λ p. story p.seat.table_id p.seat.me.0 };
 
-    ghost invariant = { λ p. (p.point ≡ length p.seat.me.0.seen) × (p.seat.me.0.seats ≡ 0) × Rests p.seat.me.0.stage p.seat.me.1 × AreOwn S.closes p.seat.me.0.seen p.seat.me.0.own };
+    ghost invariant = { λ p. Settled S.closes p.point p.seat.me.0 p.seat.me.1 };
 }
 
 /// The state, for the caller that has the turn. It is not `Drop`: give it back by `leave`.
