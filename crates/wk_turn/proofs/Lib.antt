@@ -1,4 +1,3 @@
 pub mod Lists
 pub mod Owning
-pub mod Passes
 pub mod Steps

@@ -377,8 +377,8 @@ module _ {A E S : Type 0} (start_of : S → A) (journal_of : S → List E) (clos
         },
         λ n' at' y' is' carried'.
             let z : n ≡ n' = ap (number_or 0) (sym is ∙ is') in let f : at ≡ at' = ap (found_or []) (sym is ∙ is') in let g : y ≡ y' = ap (taken_or y) (sym carried ∙ carried') in
-            subst (λ (u : ℕ × List E × S). (◌≡◌ {A = M} (w, me.1) (record v { seen = journal_of u.2; own = v.own ++ added u.1 (journal_of u.2); stage = Marked u.0 }, me.1)) × AreOwn closes (journal_of u.2) (v.own ++ added u.1 (journal_of u.2)))
-            (λ i. (z i, f i, g i)) (refl, own),
+            subst (λ (u : ℕ × List E × S). (◌≡◌ {A = M} (w, me.1) (record v { seen = journal_of u.2; own = v.own ++ added u.1 (journal_of u.2); stage = Marked u.0 }, me.1)) × IsPrefix v.seen (journal_of u.2) × AreOwn closes (journal_of u.2) (v.own ++ added u.1 (journal_of u.2)))
+            (λ i. (z i, f i, g i)) (refl, prefix_trans v.seen log log' k.seen pre, own),
       )
     where
       beyond_log : (s : St) (r : Rule s) (p : ℕ) → length r.log ≤ p → sum_by (λ (u : D). times p u.own) s.views ≡ 0

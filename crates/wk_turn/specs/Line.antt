@@ -112,7 +112,7 @@ module _ {A E S : Type 0} (start_of : S → A) (journal_of : S → List E) (clos
 
   abbrev pub marked : Step (Option S) → Seated A E S → ℕ → Seated A E S → Type 0
   marked st m r m' = (n : ℕ) (at : List E) (y : S) → m.0.stage ≡ Holds n at → m.1 ≡ (0, Some y) ∷ []
-      → (m' ≡ (record m.0 { seen = journal_of y; own = m.0.own ++ added at (journal_of y); stage = Marked n }, m.1)) × AreOwn closes (journal_of y) (m.0.own ++ added at (journal_of y))
+      → (m' ≡ (record m.0 { seen = journal_of y; own = m.0.own ++ added at (journal_of y); stage = Marked n }, m.1)) × IsPrefix m.0.seen (journal_of y) × AreOwn closes (journal_of y) (m.0.own ++ added at (journal_of y))
 
   -- what was joined are beginnings of what is seen, in which the own entries stand
   abbrev pub told : Step (Option S) → Seated A E S → ℕ → Seated A E S → Type 0

@@ -6,6 +6,11 @@ use Rattle.wk_turn.specs.Journal.{AreOwn}
 use Rattle.wk_turn.specs.declared.board.Stage.{Stage}
 use Rattle.wk_turn.specs.declared.board.Stage.TheVariants.{Idle, Holds}
 
+-- which turn it is, and the start of its state
+pub record Begun (A : Type 0) : Type 0 where
+  pub id : TableId
+  pub start : A
+
 -- Which turn it is of, the state's start, the journal as it was seen, the places in it of the entries that the pass made, and the journal at `enter` where the pass has the turn
 pub record Story (A E : Type 0) : Type 0 where
   pub turn : TableId
@@ -13,6 +18,10 @@ pub record Story (A E : Type 0) : Type 0 where
   pub seen : List E
   pub own : List ℕ
   pub held : Option (List E)
+
+-- the pass is of this turn, and so has its start
+abbrev pub IsOf : {A E : Type 0} → Begun A → Story A E → Type 0
+IsOf turn pass = (pass.turn ≡ turn.id) × (pass.start ≡ Some turn.start)
 
 module _ {E : Type 0} where
   abbrev pub held_of : Stage E → Option (List E)

@@ -110,6 +110,7 @@ pub(crate) fn give_turn<S: Storied>(
     requires closes { ClosesOwn S.closes (S.journal before.now.value) (S.journal state) place.old.me.0.own }
     ensures seat { (place.new.table_id ≡ place.old.table_id) × (place.new.id ≡ place.old.id) }
     ensures idle { place.new.me ≡ (record place.old.me.0 { seen = S.journal state; own = place.old.me.0.own ++ added (S.journal before.now.value) (S.journal state); stage = Stage.Idle }, []) }
+    ensures seen { IsPrefix place.old.me.0.seen (S.journal state) }
     ensures own { AreOwn S.closes (S.journal state) (place.old.me.0.own ++ added (S.journal before.now.value) (S.journal state)) }
 {
     let nothing = top.exchange(place, 0, Some(state));

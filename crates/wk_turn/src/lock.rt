@@ -7,12 +7,12 @@ use crate::pass::{Held, Pass};
 use crate::storied::Storied;
 use atomic_table::{Refused, Table};
 use std::alloc::{AllocFailed, Global};
-use std::marker::Model;
+use std::marker::{Model, PhantomData};
 use std::snapshot::Snapshot;
 use std::sync::Wait;
 use wk_memory::Memory;
 
-/// A ticket lock round one state. Contracts see which it is.
+/// A ticket lock round one state. Contracts see which it is, and the state's start.
 #[derive(Drop)]
 pub struct Turn<S: Storied> {
     pub(crate) board: Board<S>,
@@ -20,20 +20,18 @@ pub struct Turn<S: Storied> {
 
 impl<S: Storied> Model for Turn<S> {
     ghost use Rattle.std.specs.Prelude.{◌≡◌};
-    ghost use Rattle.atomic_table.specs.Seated.{TableId, table_id_coded};
+    ghost use Rattle.wk_turn.specs.Told.{Begun};
 
-    ghost Value = { TableId };
+    ghost Value = { Begun S.Start };
 
-    ghost coded = { table_id_coded };
-
-    ghost view = { λ t. t.board.shared.table_id };
+    ghost view = { λ t. record { id = t.board.shared.table_id; start = S.start t.board.shared.key.value } };
 
     ghost invariant = { λ t. (t.board.shared.table_id.words ≡ 4) × (t.board.shared.table_id.slots ≡ 1) };
 }
 
 /// Begins the turn round a state. The pass has seen the state's whole journal, and made no entry. The state comes back where memory ran out.
 pub fn begin<S: Storied>(alloc: Global, state: S) -> Result<(Turn<S>, Pass<S>), (S, Memory)>
-    ensures { MatchResult result (λ t. t.1 ≡ record { turn = t.0; start = Some (S.start state); seen = S.journal state; own = []; held = None }) (λ e. e.0 ≡ state) }
+    ensures { MatchResult result (λ t. (t.0.start ≡ S.start state) × (t.1 ≡ record { turn = t.0.id; start = Some (S.start state); seen = S.journal state; own = []; held = None })) (λ e. e.0 ≡ state) }
 {
     let point = state.length();
     let first = Snapshot::of(&state);
@@ -56,11 +54,12 @@ impl<S: Storied> Turn<S> {
     ghost use mathlib.Core.List.{IsPrefix};
     ghost use Rattle.std.specs.Prelude.{◌≡◌, ◌++◌, [], Some, None, IfOk};
     ghost use Rattle.wk_turn.specs.Journal.{AreOwn, ClosesOwn, added, longer};
+    ghost use Rattle.wk_turn.specs.Told.{IsOf};
 
     /// Makes a pass that has seen what `pass` has seen, and has made no entry.
     /// Memory comes only where 2^64 - 1 passes were made, or as many calls of `split` met others.
     pub fn split(&self, pass: &mut Pass<S>) -> Result<Pass<S>, Memory>
-        requires { pass.old.turn ≡ self.now }
+        requires { IsOf self.now pass.old }
         ensures pass { pass.new ≡ pass.old }
         ensures new { IfOk result (λ p. p ≡ record pass.old { own = []; held = None }) }
     {
@@ -73,7 +72,7 @@ impl<S: Storied> Turn<S> {
 
     /// Takes in another pass: what it has seen, where that is more, and its entries. No memory.
     pub fn join(&self, pass: &mut Pass<S>, other: Pass<S>)
-        requires turn { (pass.old.turn ≡ self.now) × (other.turn ≡ self.now) }
+        requires turn { IsOf self.now pass.old × IsOf self.now other }
         requires free { (pass.old.held ≡ None) × (other.held ≡ None) }
         ensures pass { pass.new ≡ record pass.old { seen = longer pass.old.seen other.seen; own = pass.old.own ++ other.own } }
         ensures seen { IsPrefix pass.old.seen pass.new.seen × IsPrefix other.seen pass.new.seen }
@@ -86,30 +85,39 @@ impl<S: Storied> Turn<S> {
 
     /// Waits for the turn and takes the state. Its journal begins with all that the pass has seen. No memory.
     pub fn enter<R: Wait>(&self, rt: &R, pass: &mut Pass<S>) -> Held<S>
-        requires turn { pass.old.turn ≡ self.now }
+        requires turn { IsOf self.now pass.old }
         requires free { pass.old.held ≡ None }
         ensures pass { pass.new ≡ record pass.old { held = Some (S.journal result.value) } }
         ensures before { result.before.value ≡ result.value }
-        ensures start { pass.old.start ≡ Some (S.start result.value) }
+        ensures start { S.start result.value ≡ self.now.start }
         ensures seen { IsPrefix pass.old.seen (S.journal result.value) }
         ensures own { AreOwn S.closes (S.journal result.value) pass.old.own }
     {
         let value = take_turn(rt, &self.board.shared, &mut pass.seat);
         let before = Snapshot::of(&value);
-        Held { value, before }
+        Held {
+            value,
+            before,
+            entered: PhantomData,
+        }
     }
 
     /// Gives the state and the turn back. The pass has then seen the whole journal, and the entries added are its own. No memory.
     pub fn leave(&self, pass: &mut Pass<S>, held: Held<S>)
-        requires turn { pass.old.turn ≡ self.now }
-        requires entered { (pass.old.held ≡ Some (S.journal held.before.value)) × (pass.old.start ≡ Some (S.start held.before.value)) }
+        requires turn { IsOf self.now pass.old }
+        requires entered { (pass.old.held ≡ Some (S.journal held.before.value)) × (S.start held.before.value ≡ self.now.start) }
         requires start { S.start held.value ≡ S.start held.before.value }
         requires journal { IsPrefix (S.journal held.before.value) (S.journal held.value) }
         requires closes { ClosesOwn S.closes (S.journal held.before.value) (S.journal held.value) pass.old.own }
         ensures pass { pass.new ≡ record pass.old { seen = S.journal held.value; own = pass.old.own ++ added (S.journal held.before.value) (S.journal held.value); held = None } }
+        ensures seen { IsPrefix pass.old.seen pass.new.seen }
         ensures own { AreOwn S.closes pass.new.seen pass.new.own }
     {
-        let Held { value, before } = held;
+        let Held {
+            value,
+            before,
+            entered: _,
+        } = held;
         let point = value.length();
         give_turn(&self.board.shared, &mut pass.seat, value, point, &before);
         pass.point = point;
@@ -117,9 +125,9 @@ impl<S: Storied> Turn<S> {
 
     /// Waits for the turn, and keeps the state. Its journal begins with all that the pass has seen. No memory.
     pub fn finish<R: Wait>(self, rt: &R, pass: Pass<S>) -> S
-        requires turn { pass.turn ≡ self }
+        requires turn { IsOf self pass }
         requires free { pass.held ≡ None }
-        ensures start { pass.start ≡ Some (S.start result) }
+        ensures start { S.start result ≡ self.start }
         ensures seen { IsPrefix pass.seen (S.journal result) }
         ensures own { AreOwn S.closes (S.journal result) pass.own }
     {

@@ -1,9 +1,9 @@
 //! What one caller knows of the turn, and the state while it has the turn.
-ghost use Rattle.std.specs.Prelude.{◌≡◌, length};
+ghost use Rattle.std.specs.Prelude.{◌≡◌, length, IsSome};
 
 use crate::board::Place;
 use crate::storied::Storied;
-use std::marker::Model;
+use std::marker::{Model, PhantomData};
 use std::snapshot::Snapshot;
 
 /// What one caller has seen of a turn's state. Contracts see its turn, the state's start, the journal that it has seen,
@@ -29,6 +29,8 @@ pub struct Held<S: Storied> {
     pub value: S,
     /// The state as it was at `enter`, for contracts alone.
     pub before: Snapshot<S>,
+    // Only `enter` makes a held state, and only `leave` takes one apart.
+    pub(crate) entered: PhantomData<S>,
 }
 
 impl<S: Storied> Pass<S> {
@@ -37,6 +39,7 @@ impl<S: Storied> Pass<S> {
     /// The length of the journal that the pass has seen. No memory.
     pub fn point(&self) -> u64
         ensures length { result ≡ length self.now.seen }
+        ensures start { IsSome self.now.start }
         ensures own { AreOwn S.closes self.now.seen self.now.own }
     {
         self.point

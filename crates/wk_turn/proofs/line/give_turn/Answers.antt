@@ -1,4 +1,5 @@
 use Rattle.std.proofs.Common.{rules, ◌≡◌, ap, ◌∙◌, sym, subst, List, ℕ, [], ◌∷◌, ◌++◌, Some}
+use mathlib.Core.List.{IsPrefix}
 use Rattle.atomic_table.specs.Table.{rest}
 use Rattle.wk_turn.specs.declared.board.Stage.TheVariants.{Idle}
 use Rattle.wk_turn.specs.Journal.{added, ClosesOwn, AreOwn}
@@ -35,5 +36,11 @@ returns-clause-idle g c =
 pub returns-clause-own : goal.returns-clause-own
 returns-clause-own g c =
     let put = c.exchange-nothing.ensures.3 in let turn = c.requires.turn in let after = g.S.Storied.journal c.args.state in
-    let own = (c.fetch_max.ensures.2 _ _ _ (ap (λ m. m.0.stage) put ∙ turn.0.1) (ap (λ m. m.1) put ∙ ap (λ cs. (0, Some c.args.state) ∷ rest cs) turn.1)).1 in
+    let own = (c.fetch_max.ensures.2 _ _ _ (ap (λ m. m.0.stage) put ∙ turn.0.1) (ap (λ m. m.1) put ∙ ap (λ cs. (0, Some c.args.state) ∷ rest cs) turn.1)).2 in
     subst (λ (places : List ℕ). AreOwn g.S.Storied.closes after (places ++ added (g.S.Storied.journal c.args.before.now.value) after)) (ap (λ m. m.0.own) put) own
+
+pub returns-clause-seen : goal.returns-clause-seen
+returns-clause-seen g c =
+    let put = c.exchange-nothing.ensures.3 in let turn = c.requires.turn in let after = g.S.Storied.journal c.args.state in
+    let seen = (c.fetch_max.ensures.2 _ _ _ (ap (λ m. m.0.stage) put ∙ turn.0.1) (ap (λ m. m.1) put ∙ ap (λ cs. (0, Some c.args.state) ∷ rest cs) turn.1)).1 in
+    subst (λ (l : List g.row.S-Entry.Denot). IsPrefix l after) (ap (λ m. m.0.seen) put) seen
