@@ -3,7 +3,7 @@ use Rattle.std.proofs.Common.{◌≡◌, ℕ, ◌+◌, ◌-◌, ◌<◌, ◌≤�
 use mathlib.Core.List.{IsPrefix}
 use mathlib.Core.Logic.{dite}
 use native.Mathlib.Decide.{ℕ_discrete, dec_le}
-use Rattle.wk_turn.specs.Journal.{times, IsListed, added, Closes, ClosesOwn, AreOwn}
+use Rattle.wk_turn.specs.Journal.{times, IsListed, added, Closes, ClosesOwn, AreOwn, IsOpen}
 use Rattle.wk_turn.proofs.Lists.{prefix_length, prefix_get, get_prefix, get_below, times-append, times-range_in, times-range_out}
 
 module _ {E : Type 0} (closes : E → Option ℕ) where
@@ -100,3 +100,7 @@ module _ {E : Type 0} (closes : E → Option ℕ) where
         by_own = λ p q l c. ⊎_elim (λ (x : IsListed one p). first q (a.by_own p q x c)) (λ (x : IsListed two p). second q (b.by_own p q x c)) (either_of p l);
         once = λ p q r l c d. ⊎_elim (λ (x : IsListed one p). a.once p q r x c d) (λ (x : IsListed two p). b.once p q r x c d) (either_of p l);
       }
+
+  -- what is open where the pass last saw the journal is open in a longer journal in which its entries stand
+  pub still_open : (seen log : List E) (own : List ℕ) → AreOwn closes seen own → AreOwn closes log own → IsPrefix seen log → (p : ℕ) → IsOpen closes seen own p → IsOpen closes log own p
+  still_open seen log own then now pre p o = (o.0, λ q c. o.1 q (closes_shorter seen log q p pre (then.there q (now.by_own p q o.0 c)) c))

@@ -145,14 +145,18 @@ module _ {A E S : Type 0} (start_of : S → A) (journal_of : S → List E) (clos
 
   -- what a view knows, once the journal and the line went on
   goes_on : (serving ticket : ℕ) (log : List E) (home : Home) (owner : ℕ → ℕ) (j : ℕ) (v : D) → K serving ticket log home owner j v
-      → (serving' ticket' : ℕ) (log' : List E) (home' : Home) (owner' : ℕ → ℕ) → IsPrefix log log' → AreOwn closes log' v.own → AtStage serving' ticket' log' home' owner' j v.seen v.stage
+      → (serving' ticket' : ℕ) (log' : List E) (home' : Home) (owner' : ℕ → ℕ) → IsPrefix log log' → ((own : List ℕ) → AreOwn closes log own → ((p : ℕ) → IsListed own p → IsListed v.own p) → AreOwn closes log' own) → AtStage serving' ticket' log' home' owner' j v.seen v.stage
       → K serving' ticket' log' home' owner' j v
   goes_on serving ticket log home owner j v k serving' ticket' log' home' owner' pre own stage = record {
     start_is = k.start_is;
     seen = prefix_trans v.seen log log' k.seen pre;
     one = prefix_trans v.one log log' k.one pre;
     two = prefix_trans v.two log log' k.two pre;
-    own = own;
+    own = own v.own k.own (λ p l. l);
+    own_one = own v.own_one k.own_one k.one_in;
+    own_two = own v.own_two k.own_two k.two_in;
+    one_in = k.one_in;
+    two_in = k.two_in;
     within = k.within;
     stage = stage;
   }
@@ -166,6 +170,10 @@ module _ {A E S : Type 0} (start_of : S → A) (journal_of : S → List E) (clos
     one = k.one;
     two = k.two;
     own = k.own;
+    own_one = k.own_one;
+    own_two = k.own_two;
+    one_in = k.one_in;
+    two_in = k.two_in;
     within = k.within;
     stage = stage;
   }
@@ -224,6 +232,10 @@ module _ {A E S : Type 0} (start_of : S → A) (journal_of : S → List E) (clos
         one = prefix_nil (journal_of first);
         two = prefix_nil (journal_of first);
         own = own_none closes (journal_of first);
+        own_one = own_none closes (journal_of first);
+        own_two = own_none closes (journal_of first);
+        one_in = λ p l. l;
+        two_in = λ p l. l;
         within = λ p l. absurd (omega arith);
         stage = tt;
       }
@@ -255,7 +267,7 @@ module _ {A E S : Type 0} (start_of : S → A) (journal_of : S → List E) (clos
           apart = λ p. let a = r.apart p in let b = sum_set (λ (u : D). times p u.own) s.views id v w at in omega arith;
           each = views_stay (K r.serving (t + 1) r.log r.home (put r.owner t id)) s.views id w
               (restaged r.serving t r.log r.home r.owner id v k r.serving (t + 1) r.home (put r.owner t id) (Waits t) (omega arith, omega arith, put_here r.owner t id))
-              (λ j d _ there. let o = r.each j d there in goes_on r.serving t r.log r.home r.owner j d o r.serving (t + 1) r.log r.home (put r.owner t id) (prefix_self r.log) o.own
+              (λ j d _ there. let o = r.each j d there in goes_on r.serving t r.log r.home r.owner j d o r.serving (t + 1) r.log r.home (put r.owner t id) (prefix_self r.log) (λ _ own _. own)
               (longer_line r.serving t r.log r.home r.owner id j d.seen d.stage o.stage));
         },
         (t, at_words s r 1, refl),
@@ -306,7 +318,7 @@ module _ {A E S : Type 0} (start_of : S → A) (journal_of : S → List E) (clos
               apart = λ p. let a = r.apart p in let b = sum_set (λ (u : D). times p u.own) s.views id v w at in omega arith;
               each = views_stay (K r.serving r.ticket r.log none r.owner) s.views id w
                   (restaged r.serving r.ticket r.log r.home r.owner id v k r.serving r.ticket none r.owner (Holds n (journal_of x)) (turn, mine.1, mine.2, refl, kept.1))
-                  (λ j d other there. let o = r.each j d there in goes_on r.serving r.ticket r.log r.home r.owner j d o r.serving r.ticket r.log none r.owner (prefix_self r.log) o.own
+                  (λ j d other there. let o = r.each j d there in goes_on r.serving r.ticket r.log r.home r.owner j d o r.serving r.ticket r.log none r.owner (prefix_self r.log) (λ _ own _. own)
                   (alone r.serving r.ticket r.log r.home r.owner r.log none r.serving (omega arith) id j other (ap r.owner (sym turn) ∙ mine.2) d.seen d.stage o.stage));
             },
             λ n' is'. subst (λ (z : ℕ). (get_or s.words 2 0 ≡ z % 2 ^ 64 → (y : S) × ((w, (0, Some x) ∷ me.1) ≡ staged me (Holds z (journal_of y)) ((0, Some y) ∷ me.1)) × Finds start_of journal_of closes v y) × (get_or s.words 2 0 ≢ z % 2 ^ 64 → (w, (0, Some x) ∷ me.1) ≡ me)) (same n' is') (
@@ -332,7 +344,7 @@ module _ {A E S : Type 0} (start_of : S → A) (journal_of : S → List E) (clos
       let asked' : ClosesOwn closes log log' v.own = subst (λ (l : List E). ClosesOwn closes l log' v.own) mine.4 asked in
       let own' : AreOwn closes log' (v.own ++ added log log') = own_more closes log log' v.own k.own pre asked' in
       let own : AreOwn closes log' (v.own ++ added at log') = subst (λ (l : List E). AreOwn closes log' (v.own ++ added l log')) (sym mine.4) own' in
-      let w : D = record v { seen = log'; own = v.own ++ added at log'; stage = Marked n } in
+      let w : D = record v { seen = log'; own = v.own ++ added at log'; own_one = []; own_two = []; stage = Marked n } in
       let le = prefix_length log log' pre in
       let was : in_line v.stage ≡ 1 = ap in_line is in let held : busy v.stage ≡ 1 = ap busy is in
       let in_all = sum_set (λ (u : D). in_line u.stage) s.views id v w here in let busy_all = sum_set (λ (u : D). busy u.stage) s.views id v w here in
@@ -366,18 +378,22 @@ module _ {A E S : Type 0} (start_of : S → A) (journal_of : S → List E) (clos
                 one = prefix_trans v.one log log' k.one pre;
                 two = prefix_trans v.two log log' k.two pre;
                 own = own;
+                own_one = own_none closes log';
+                own_two = own_none closes log';
+                one_in = λ p l. absurd (omega arith);
+                two_in = λ p l. absurd (omega arith);
                 within = own.there;
                 stage = (mine.0, mine.1, mine.2, mine.3, refl);
               }
               (λ j d other there. let o = r.each j d there in goes_on r.serving r.ticket log r.home r.owner j d o r.serving r.ticket log' r.home r.owner pre
-              (own_after closes log log' d.own o.own pre (λ q p beyond c l. ⊎_elim
-              (λ (mine_too : IsListed v.own p). let both = two_le_sum (λ (u : D). times p u.own) s.views id j v d other here there in let a = r.apart p in omega arith)
-              (λ (new : length log ≤ p). let old = o.own.there p l in omega arith) (asked' q p beyond c).0))
+              (λ places theirs within. own_after closes log log' places theirs pre (λ q p beyond c l. ⊎_elim
+              (λ (mine_too : IsListed v.own p). let too = within p l in let both = two_le_sum (λ (u : D). times p u.own) s.views id j v d other here there in let a = r.apart p in omega arith)
+              (λ (new : length log ≤ p). let old = theirs.there p l in omega arith) (asked' q p beyond c).0))
               (alone r.serving r.ticket log r.home r.owner log' r.home r.serving (omega arith) id j other served d.seen d.stage o.stage));
         },
         λ n' at' y' is' carried'.
             let z : n ≡ n' = ap (number_or 0) (sym is ∙ is') in let f : at ≡ at' = ap (found_or []) (sym is ∙ is') in let g : y ≡ y' = ap (taken_or y) (sym carried ∙ carried') in
-            subst (λ (u : ℕ × List E × S). (◌≡◌ {A = M} (w, me.1) (record v { seen = journal_of u.2; own = v.own ++ added u.1 (journal_of u.2); stage = Marked u.0 }, me.1)) × IsPrefix v.seen (journal_of u.2) × AreOwn closes (journal_of u.2) (v.own ++ added u.1 (journal_of u.2)))
+            subst (λ (u : ℕ × List E × S). (◌≡◌ {A = M} (w, me.1) (record v { seen = journal_of u.2; own = v.own ++ added u.1 (journal_of u.2); own_one = []; own_two = []; stage = Marked u.0 }, me.1)) × IsPrefix v.seen (journal_of u.2) × AreOwn closes (journal_of u.2) (v.own ++ added u.1 (journal_of u.2)))
             (λ i. (z i, f i, g i)) (refl, prefix_trans v.seen log log' k.seen pre, own),
       )
     where
@@ -415,7 +431,7 @@ module _ {A E S : Type 0} (start_of : S → A) (journal_of : S → List E) (clos
           apart = λ p. let a = r.apart p in let b = sum_set (λ (u : D). times p u.own) s.views id v w at in omega arith;
           each = views_stay (K (r.serving + 1) r.ticket r.log back r.owner) s.views id w
               (restaged r.serving r.ticket r.log r.home r.owner id v k (r.serving + 1) r.ticket back r.owner Idle tt)
-              (λ j d other there. let o = r.each j d there in goes_on r.serving r.ticket r.log r.home r.owner j d o (r.serving + 1) r.ticket r.log back r.owner (prefix_self r.log) o.own
+              (λ j d other there. let o = r.each j d there in goes_on r.serving r.ticket r.log r.home r.owner j d o (r.serving + 1) r.ticket r.log back r.owner (prefix_self r.log) (λ _ own _. own)
               (alone r.serving r.ticket r.log r.home r.owner r.log back (r.serving + 1) (omega arith) id j other served d.seen d.stage o.stage));
         },
         ap (λ cs. (w, Rattle.atomic_table.specs.Table.rest cs)) carried,
@@ -450,7 +466,7 @@ module _ {A E S : Type 0} (start_of : S → A) (journal_of : S → List E) (clos
           apart = λ p. let a = r.apart p in let b = sum_set (λ (u : D). times p u.own) s.views id v w here in omega arith;
           each = views_stay (K r.serving r.ticket r.log back r.owner) s.views id w
               (restaged r.serving r.ticket r.log r.home r.owner id v k r.serving r.ticket back r.owner (Ended n) (mine.0, mine.1, mine.2, refl))
-              (λ j d other there. let o = r.each j d there in goes_on r.serving r.ticket r.log r.home r.owner j d o r.serving r.ticket r.log back r.owner (prefix_self r.log) o.own
+              (λ j d other there. let o = r.each j d there in goes_on r.serving r.ticket r.log r.home r.owner j d o r.serving r.ticket r.log back r.owner (prefix_self r.log) (λ _ own _. own)
               (alone r.serving r.ticket r.log r.home r.owner r.log back r.serving (omega arith) id j other served d.seen d.stage o.stage));
         },
         (n, ap (λ cs. (w, Rattle.atomic_table.specs.Table.rest cs)) carried),
@@ -465,7 +481,14 @@ module _ {A E S : Type 0} (start_of : S → A) (journal_of : S → List E) (clos
 
   pub tells : (slots id : ℕ) (me : M) → Allows Rule slots id me 0 (λ x. x) (told start_of journal_of closes (step slots 0 0 0 none) me)
   tells slots id me s r _ at _ = let v : D = me.0 in let k = r.each id v at in
-      (v, keeps, tt, unmoved s r 0 id v me.1 at, λ e. (refl, first k e, second k e, own_before closes v.seen r.log v.own k.own k.seen k.within))
+      (v, keeps, tt, unmoved s r 0 id v me.1 at, λ e _. (
+        refl,
+        first k e,
+        second k e,
+        own_before closes v.seen r.log v.own_one k.own_one k.seen (λ p l. k.within p (k.one_in p l)),
+        own_before closes v.seen r.log v.own_two k.own_two k.seen (λ p l. k.within p (k.two_in p l)),
+        own_before closes v.seen r.log v.own k.own k.seen k.within,
+      ))
     where
       first : {serving ticket : ℕ} {log : List E} {home : Home} {owner : ℕ → ℕ} → K serving ticket log home owner id me.0 → me.0.seen ≡ longer me.0.one me.0.two → IsPrefix me.0.one me.0.seen
       first {serving} {ticket} {log} k e = longer_first me.0.one me.0.two me.0.seen log k.one k.seen e
@@ -495,7 +518,7 @@ module _ {A E S : Type 0} (start_of : S → A) (journal_of : S → List E) (clos
           apart = λ p. let a = r.apart p in let b = sum_set (λ (u : D). times p u.own) s.views id v w at in omega arith;
           value = r.value;
           each = views_stay (K r.serving r.ticket r.log r.home r.owner) s.views id w
-              record { start_is = k.start_is; seen = k.seen; one = k.one; two = k.two; own = k.own; within = k.within; stage = k.stage }
+              record { start_is = k.start_is; seen = k.seen; one = k.one; two = k.two; own = k.own; own_one = k.own_one; own_two = k.own_two; one_in = k.one_in; two_in = k.two_in; within = k.within; stage = k.stage }
               (λ j d _ there. r.each j d there);
         },
         ((λ _. refl), λ miss. absurd (miss hit)),
@@ -545,10 +568,10 @@ module _ {A E S : Type 0} (start_of : S → A) (journal_of : S → List E) (clos
         apart = λ p. let a = r.apart p in let b = sum_set (λ (u : D). times p u.own) s.views id v w at in let c = sum_push (λ (u : D). times p u.own) vs new in omega arith;
         each = λ j d e. ⊎_elim
             (views_stay (K r.serving r.ticket r.log r.home r.owner) s.views id w
-            record { start_is = k.start_is; seen = k.seen; one = k.one; two = k.two; own = k.own; within = k.within; stage = k.stage }
+            record { start_is = k.start_is; seen = k.seen; one = k.one; two = k.two; own = k.own; own_one = k.own_one; own_two = k.own_two; one_in = k.one_in; two_in = k.two_in; within = k.within; stage = k.stage }
             (λ i u _ there. r.each i u there) j d)
             (λ (t : new ≡ d). subst (K r.serving r.ticket r.log r.home r.owner j) t
-            record { start_is = k.start_is; seen = k.seen; one = prefix_nil r.log; two = prefix_nil r.log; own = own_none closes r.log; within = λ p l. absurd (omega arith); stage = tt })
+            record { start_is = k.start_is; seen = k.seen; one = prefix_nil r.log; two = prefix_nil r.log; own = own_none closes r.log; own_one = own_none closes r.log; own_two = own_none closes r.log; one_in = λ p l. l; two_in = λ p l. l; within = λ p l. absurd (omega arith); stage = tt })
             (at_snoc vs new d j e);
       }
 
@@ -576,7 +599,7 @@ module _ {A E S : Type 0} (start_of : S → A) (journal_of : S → List E) (clos
         apart = λ p. let a = r.apart p in let b = sum_set (λ (u : D). times p u.own) s.views id v both at in let c = sum_set (λ (u : D). times p u.own) vs other w gone there' in
             let d = times-append p v.own w.own in omega arith;
         each = views_stay P vs other gone
-            record { start_is = λ a e. absurd cc; seen = prefix_nil r.log; one = prefix_nil r.log; two = prefix_nil r.log; own = own_none closes r.log; within = λ p m. absurd (omega arith); stage = tt }
+            record { start_is = λ a e. absurd cc; seen = prefix_nil r.log; one = prefix_nil r.log; two = prefix_nil r.log; own = own_none closes r.log; own_one = own_none closes r.log; own_two = own_none closes r.log; one_in = λ p l. l; two_in = λ p l. l; within = λ p m. absurd (omega arith); stage = tt }
             (λ j d _. views_stay P s.views id both
             record {
               start_is = k.start_is;
@@ -584,6 +607,10 @@ module _ {A E S : Type 0} (start_of : S → A) (journal_of : S → List E) (clos
               one = k.seen;
               two = l.seen;
               own = own_both closes r.log v.own w.own k.own l.own (λ p. let a = r.apart p in let b = two_le_sum (λ (u : D). times p u.own) s.views id other v w distinct at there in omega arith);
+              own_one = k.own;
+              own_two = l.own;
+              one_in = λ p m. let d = times-append p v.own w.own in omega arith;
+              two_in = λ p m. let d = times-append p v.own w.own in omega arith;
               within = λ p m. let d = times-append p v.own w.own in let z = longer_length v.seen w.seen in let z0 = z.0 in let z1 = z.1 in dite (ℕ_discrete (times p v.own) 0)
                   (λ e. let h = l.within p (omega arith) in omega arith) (λ n. let h = k.within p (omega arith) in omega arith);
               stage = subst (AtStage r.serving r.ticket r.log r.home r.owner id (longer v.seen w.seen)) (sym still) tt;

@@ -34,3 +34,7 @@ module _ {E : Type 0} (closes : E → Option ℕ) where
     pub single : (p : ℕ) → times p own ≤ 1
     pub by_own : (p q : ℕ) → IsListed own p → Closes log q p → IsListed own q
     pub once : (p q r : ℕ) → IsListed own p → Closes log q p → Closes log r p → q ≡ r
+
+  -- the place is listed, and no entry of the journal closes it
+  abbrev pub IsOpen : List E → List ℕ → ℕ → Type 0
+  IsOpen log own p = IsListed own p × ((q : ℕ) → ¬ Closes log q p)

@@ -49,6 +49,10 @@ module _ {A E S : Type 0} (start_of : S → A) (journal_of : S → List E) (clos
     pub one : IsPrefix v.one log
     pub two : IsPrefix v.two log
     pub own : AreOwn closes log v.own
+    pub own_one : AreOwn closes log v.own_one
+    pub own_two : AreOwn closes log v.own_two
+    pub one_in : (p : ℕ) → IsListed v.own_one p → IsListed v.own p
+    pub two_in : (p : ℕ) → IsListed v.own_two p → IsListed v.own p
     pub within : (p : ℕ) → IsListed v.own p → p < length v.seen
     pub stage : AtStage serving ticket log home owner seat v.seen v.stage
 
@@ -71,14 +75,14 @@ module _ {A E S : Type 0} (start_of : S → A) (journal_of : S → List E) (clos
 
 module _ {A E : Type 0} where
   abbrev pub newcomer : Option A → List E → View A E
-  newcomer start seen = record { start = start; seen = seen; one = []; two = []; own = []; stage = Idle; seats = 0 }
+  newcomer start seen = record { start = start; seen = seen; own = []; one = []; two = []; own_one = []; own_two = []; stage = Idle; seats = 0 }
 
   -- a view that was joined to another
   abbrev pub spent : View A E
   spent = newcomer None []
 
   abbrev pub joined : View A E → View A E → View A E
-  joined v w = record v { seen = longer v.seen w.seen; one = v.seen; two = w.seen; own = v.own ++ w.own }
+  joined v w = record v { seen = longer v.seen w.seen; own = v.own ++ w.own; one = v.seen; two = w.seen; own_one = v.own; own_two = w.own }
 
 abbrev Seated : Type 0 → Type 0 → Type 0 → Type 0
 Seated A E S = Me (Option S) (View A E)
@@ -112,8 +116,9 @@ module _ {A E S : Type 0} (start_of : S → A) (journal_of : S → List E) (clos
 
   abbrev pub marked : Step (Option S) → Seated A E S → ℕ → Seated A E S → Type 0
   marked st m r m' = (n : ℕ) (at : List E) (y : S) → m.0.stage ≡ Holds n at → m.1 ≡ (0, Some y) ∷ []
-      → (m' ≡ (record m.0 { seen = journal_of y; own = m.0.own ++ added at (journal_of y); stage = Marked n }, m.1)) × IsPrefix m.0.seen (journal_of y) × AreOwn closes (journal_of y) (m.0.own ++ added at (journal_of y))
+      → (m' ≡ (record m.0 { seen = journal_of y; own = m.0.own ++ added at (journal_of y); own_one = []; own_two = []; stage = Marked n }, m.1)) × IsPrefix m.0.seen (journal_of y) × AreOwn closes (journal_of y) (m.0.own ++ added at (journal_of y))
 
-  -- what was joined are beginnings of what is seen, in which the own entries stand
+  -- what was joined are beginnings of what is seen, in which the entries of each seat stand, and those of both together
   abbrev pub told : Step (Option S) → Seated A E S → ℕ → Seated A E S → Type 0
-  told st m r m' = m.0.seen ≡ longer m.0.one m.0.two → (m' ≡ m) × IsPrefix m.0.one m.0.seen × IsPrefix m.0.two m.0.seen × AreOwn closes m.0.seen m.0.own
+  told st m r m' = let v = m.0 in v.seen ≡ longer v.one v.two → v.own ≡ v.own_one ++ v.own_two
+      → (m' ≡ m) × IsPrefix v.one v.seen × IsPrefix v.two v.seen × AreOwn closes v.seen v.own_one × AreOwn closes v.seen v.own_two × AreOwn closes v.seen v.own

@@ -32,11 +32,13 @@ pub struct View<A, E> {
     /// None once the view was joined to another.
     pub start: Option<A>,
     pub seen: LinkedList<E>,
-    /// The two journals that were joined last.
-    pub one: LinkedList<E>,
-    pub two: LinkedList<E>,
     /// The places of the entries that the seat made.
     pub own: LinkedList<u64>,
+    /// What the two seats had seen and made that were joined last.
+    pub one: LinkedList<E>,
+    pub two: LinkedList<E>,
+    pub own_one: LinkedList<u64>,
+    pub own_two: LinkedList<u64>,
     pub stage: Stage<E>,
     /// 1 between the count of a new seat and its making.
     pub seats: u64,

@@ -50,7 +50,7 @@ pub(crate) fn merge_seats<S: Storied>(top: &Top<S>, place: &mut Place<S>, other:
     requires table { (place.old.table_id ≡ top.now.table_id) × (other.table_id ≡ top.now.table_id) × (top.now.table_id.words ≡ 4) }
     requires idle { (place.old.me.0.stage ≡ Stage.Idle) × (other.me.0.stage ≡ Stage.Idle) × (other.me.1 ≡ []) × (other.me.0.seats ≡ 0) }
     ensures seat { (place.new.table_id ≡ place.old.table_id) × (place.new.id ≡ place.old.id) × (place.new.me ≡ (joined place.old.me.0 other.me.0, place.old.me.1)) }
-    ensures told { let v = joined place.old.me.0 other.me.0 in IsPrefix v.one v.seen × IsPrefix v.two v.seen × AreOwn S.closes v.seen v.own }
+    ensures told { let v = joined place.old.me.0 other.me.0 in IsPrefix v.one v.seen × IsPrefix v.two v.seen × AreOwn S.closes v.seen v.own_one × AreOwn S.closes v.seen v.own_two × AreOwn S.closes v.seen v.own }
 {
     top.join_seat::<Glue>(place, other);
     top.load::<Tell>(place, SEATS);
@@ -109,7 +109,7 @@ pub(crate) fn give_turn<S: Storied>(
     requires state { (place.old.me.0.start ≡ Some (S.start state)) × IsPrefix (S.journal before.now.value) (S.journal state) × (point ≡ length (S.journal state)) }
     requires closes { ClosesOwn S.closes (S.journal before.now.value) (S.journal state) place.old.me.0.own }
     ensures seat { (place.new.table_id ≡ place.old.table_id) × (place.new.id ≡ place.old.id) }
-    ensures idle { place.new.me ≡ (record place.old.me.0 { seen = S.journal state; own = place.old.me.0.own ++ added (S.journal before.now.value) (S.journal state); stage = Stage.Idle }, []) }
+    ensures idle { place.new.me ≡ (record place.old.me.0 { seen = S.journal state; own = place.old.me.0.own ++ added (S.journal before.now.value) (S.journal state); own_one = []; own_two = []; stage = Stage.Idle }, []) }
     ensures seen { IsPrefix place.old.me.0.seen (S.journal state) }
     ensures own { AreOwn S.closes (S.journal state) (place.old.me.0.own ++ added (S.journal before.now.value) (S.journal state)) }
 {

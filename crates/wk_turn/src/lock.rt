@@ -52,8 +52,8 @@ pub fn begin<S: Storied>(alloc: Global, state: S) -> Result<(Turn<S>, Pass<S>), 
 
 impl<S: Storied> Turn<S> {
     ghost use mathlib.Core.List.{IsPrefix};
-    ghost use Rattle.std.specs.Prelude.{◌≡◌, ◌++◌, [], Some, None, IfOk};
-    ghost use Rattle.wk_turn.specs.Journal.{AreOwn, ClosesOwn, added, longer};
+    ghost use Rattle.std.specs.Prelude.{◌≡◌, ℕ, ◌++◌, [], Some, None, IfOk};
+    ghost use Rattle.wk_turn.specs.Journal.{AreOwn, ClosesOwn, IsOpen, added, longer};
     ghost use Rattle.wk_turn.specs.Told.{IsOf};
 
     /// Makes a pass that has seen what `pass` has seen, and has made no entry.
@@ -76,6 +76,8 @@ impl<S: Storied> Turn<S> {
         requires free { (pass.old.held ≡ None) × (other.held ≡ None) }
         ensures pass { pass.new ≡ record pass.old { seen = longer pass.old.seen other.seen; own = pass.old.own ++ other.own } }
         ensures seen { IsPrefix pass.old.seen pass.new.seen × IsPrefix other.seen pass.new.seen }
+        ensures each { AreOwn S.closes pass.new.seen pass.old.own × AreOwn S.closes pass.new.seen other.own }
+        ensures open { ((p : ℕ) → IsOpen S.closes pass.old.seen pass.old.own p → IsOpen S.closes pass.new.seen pass.old.own p) × ((p : ℕ) → IsOpen S.closes other.seen other.own p → IsOpen S.closes pass.new.seen other.own p) }
         ensures own { AreOwn S.closes pass.new.seen pass.new.own }
     {
         let Pass { seat, point } = other;
@@ -92,6 +94,7 @@ impl<S: Storied> Turn<S> {
         ensures start { S.start result.value ≡ self.now.start }
         ensures seen { IsPrefix pass.old.seen (S.journal result.value) }
         ensures own { AreOwn S.closes (S.journal result.value) pass.old.own }
+        ensures open { (p : ℕ) → IsOpen S.closes pass.old.seen pass.old.own p → IsOpen S.closes (S.journal result.value) pass.old.own p }
     {
         let value = take_turn(rt, &self.board.shared, &mut pass.seat);
         let before = Snapshot::of(&value);
@@ -130,6 +133,7 @@ impl<S: Storied> Turn<S> {
         ensures start { S.start result ≡ self.start }
         ensures seen { IsPrefix pass.seen (S.journal result) }
         ensures own { AreOwn S.closes (S.journal result) pass.own }
+        ensures open { (p : ℕ) → IsOpen S.closes pass.seen pass.own p → IsOpen S.closes (S.journal result) pass.own p }
     {
         let Turn { board } = self;
         let Pass { mut seat, point: _ } = pass;
