@@ -53,6 +53,10 @@ module _ {A : Type 0} where
   get_below (y ∷ xs) zero x h = omega arith
   get_below (y ∷ xs) (suc k) x h = let l = get_below xs k x h in omega arith
 
+  pub get_last : (xs : List A) (x : A) → slice_get (xs ++ x ∷ []) (length xs) ≡ Some x
+  get_last [] x = refl
+  get_last (y ∷ xs) x = get_last xs x
+
   pub sum_set : (f : A → ℕ) (l : List A) (i : ℕ) (v w : A) → get_elem? l i ≡ some v → sum_by f (set l i w) + f v ≡ sum_by f l + f w
   sum_set f [] i v w at = absurd (some-ne-none v (sym at))
   sum_set f (x ∷ xs) zero v w at = let a = sum_by-cons f w xs in let b = sum_by-cons f x xs in let c : f x ≡ f v = ap f (some-injective x v at) in omega arith
@@ -90,7 +94,7 @@ times-append p xs ys = sum_by-append _ xs ys
 times-cons : (p q : ℕ) (qs : List ℕ) → times p (q ∷ qs) ≡ cond (eqb q p) 1 0 + times p qs
 times-cons p q qs = sum_by-cons (λ x. cond (eqb x p) 1 0) q qs
 
-times_here : (p q : ℕ) (qs : List ℕ) → q ≡ p → times p (q ∷ qs) ≡ 1 + times p qs
+pub times_here : (p q : ℕ) (qs : List ℕ) → q ≡ p → times p (q ∷ qs) ≡ 1 + times p qs
 times_here p q qs e = times-cons p q qs ∙ ap (λ b. cond b 1 0 + times p qs) (eq-eqb q p e)
 
 times_else : (p q : ℕ) (qs : List ℕ) → q ≢ p → times p (q ∷ qs) ≡ times p qs

@@ -480,15 +480,20 @@ module _ {A E S : Type 0} (start_of : S → A) (journal_of : S → List E) (clos
       last.4 0 None (ap (λ hs. get_elem? hs 0) r.homes ∙ ap some mine.3)
 
   pub tells : (slots id : ℕ) (me : M) → Allows Rule slots id me 0 (λ x. x) (told start_of journal_of closes (step slots 0 0 0 none) me)
-  tells slots id me s r _ at _ = let v : D = me.0 in let k = r.each id v at in
-      (v, keeps, tt, unmoved s r 0 id v me.1 at, λ e _. (
-        refl,
-        first k e,
-        second k e,
-        own_before closes v.seen r.log v.own_one k.own_one k.seen (λ p l. k.within p (k.one_in p l)),
-        own_before closes v.seen r.log v.own_two k.own_two k.seen (λ p l. k.within p (k.two_in p l)),
-        own_before closes v.seen r.log v.own k.own k.seen k.within,
-      ))
+  tells slots id me s r _ at _ = let v : D = me.0 in let k = r.each id v at in (
+    v,
+    keeps,
+    tt,
+    unmoved s r 0 id v me.1 at,
+    λ e _. (
+      refl,
+      first k e,
+      second k e,
+      own_before closes v.seen r.log v.own_one k.own_one k.seen (λ p l. k.within p (k.one_in p l)),
+      own_before closes v.seen r.log v.own_two k.own_two k.seen (λ p l. k.within p (k.two_in p l)),
+      own_before closes v.seen r.log v.own k.own k.seen k.within,
+    ),
+  )
     where
       first : {serving ticket : ℕ} {log : List E} {home : Home} {owner : ℕ → ℕ} → K serving ticket log home owner id me.0 → me.0.seen ≡ longer me.0.one me.0.two → IsPrefix me.0.one me.0.seen
       first {serving} {ticket} {log} k e = longer_first me.0.one me.0.two me.0.seen log k.one k.seen e

@@ -7,6 +7,8 @@ mod lock;
 mod pass;
 mod plays;
 mod storied;
+#[cfg(test)]
+mod tests;
 
 pub use lock::{Turn, begin};
 pub use pass::{Held, Pass};

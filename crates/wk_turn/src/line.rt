@@ -114,9 +114,7 @@ pub(crate) fn give_turn<S: Storied>(
     ensures own { AreOwn S.closes (S.journal state) (place.old.me.0.own ++ added (S.journal before.now.value) (S.journal state)) }
 {
     let nothing = top.exchange(place, 0, Some(state));
-    let None = nothing else {
-        unreachable!()
-    };
+    let None = nothing else { unreachable!() };
     top.fetch_max::<Mark>(place, FRONT, point);
     let served = top.fetch_add::<HandOn>(place, SERVING, 1);
     wake(top, served.wrapping_add(1));
@@ -130,8 +128,6 @@ pub(crate) fn end<S: Storied>(board: Board<S>, mut place: Place<S>)
     board.shared.load::<End>(&mut place, SEATS);
     let mut closed = board.close_with(place);
     let nothing = closed.take(0);
-    let None = nothing else {
-        unreachable!()
-    };
+    let None = nothing else { unreachable!() };
     closed.free();
 }

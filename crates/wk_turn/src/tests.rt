@@ -1,0 +1,91 @@
+//! A tally whose entries open and close, shared by turns.
+ghost use Rattle.std.specs.Prelude.{◌≡◌, ◌+◌, ◌-◌, ◌<◌, ◌≤◌, ℕ, List, [], ◌∷◌, ◌++◌, length, take, Some, None, IfSome, IfNone, slice_get};
+ghost use Rattle.std.specs.List.{sum_by};
+ghost use mathlib.Core.List.{IsPrefix};
+ghost use Rattle.wk_turn.specs.Journal.{IsListed, IsOpen};
+ghost use Rattle.wk_turn.specs.Told.{IsOf};
+
+use super::*;
+use std::alloc::Global;
+use std::process::Abort;
+use std::sync::Wait;
+use std::test::Fail;
+use std::thread::{Threads, for_each_mut, join};
+
+/// An entry of a tally: it adds an amount, and may close an earlier entry.
+#[derive(Clone, Copy)]
+struct Mark {
+    amount: u64,
+    closes: Option<u64>,
+}
+
+#[derive(Drop)]
+struct Tally {
+    first: u64,
+    total: u64,
+    marks: Vec<Mark>,
+    ghost counted: { total ≡ first + sum_by (λ m. m.amount) marks.items },
+}
+
+impl Storied for Tally {
+    type Start = u64;
+
+    type Entry = Mark;
+
+    ghost start = { λ t. t.first };
+
+    ghost journal = { λ t. t.marks.items };
+
+    ghost closes = { λ m. m.closes };
+
+    fn length(&self) -> u64 {
+        self.marks.len() as u64
+    }
+}
+
+impl Tally {
+    fn new(alloc: Global, first: u64) -> Tally
+        ensures { (result.first ≡ first) × (result.marks.items ≡ []) }
+    {
+        Tally {
+            first,
+            total: first,
+            marks: Vec::new(alloc),
+        }
+    }
+
+    /// Makes the entry, and answers the total before it. None where memory ran out or the total is full.
+    fn make(&mut self, mark: Mark) -> Option<u64>
+        ensures made { IfSome result (λ total. (total ≡ self.old.total) × (self.new.marks.items ≡ self.old.marks.items ++ mark ∷ [])) }
+        ensures none { IfNone result (self.new.marks.items ≡ self.old.marks.items) }
+        ensures first { self.new.first ≡ self.old.first }
+    {
+        let total = self.total;
+        let sum = total.checked_add(mark.amount)?;
+        self.marks.push(mark).ok()?;
+        self.total = sum;
+        Some(total)
+    }
+}
+
+/// Makes one entry under the turn. Beside the answer it gives the point.
+fn make<R: Wait>(
+    rt: &R,
+    turn: &Turn<Tally>,
+    pass: &mut Pass<Tally>,
+    mark: Mark,
+) -> (Option<u64>, u64)
+    requires turn { IsOf turn.now pass.old }
+    requires free { pass.old.held ≡ None }
+    requires closes { (p : ℕ) → mark.closes ≡ Some p → IsOpen (λ m. m.closes) pass.old.seen pass.old.own p }
+    ensures turn { IsOf turn.now pass.new × (pass.new.held ≡ None) }
+    ensures point { result.1 ≡ length pass.new.seen }
+    ensures seen { IsPrefix pass.old.seen pass.new.seen }
+    ensures made { IfSome result.0 (λ total. (before : List Mark) × IsPrefix pass.old.seen before × (pass.new.seen ≡ before ++ mark ∷ []) × (pass.new.own ≡ pass.old.own ++ length before ∷ []) × (total ≡ turn.now.start + sum_by (λ m. m.amount) before)) }
+    ensures none { IfNone result.0 (pass.new.own ≡ pass.old.own) }
+{
+    let mut held = turn.enter(rt, pass);
+    let answer = held.value.make(mark);
+    turn.leave(pass, held);
+    (answer, pass.point())
+}
