@@ -1,5 +1,5 @@
 //! A tally whose entries open and close, shared by turns.
-ghost use Rattle.std.specs.Prelude.{◌≡◌, ◌+◌, ◌-◌, ◌<◌, ◌≤◌, ℕ, List, [], ◌∷◌, ◌++◌, length, take, Some, None, IfSome, IfNone, slice_get};
+ghost use Rattle.std.specs.Prelude.{◌≡◌, ◌+◌, ◌-◌, ◌<◌, ◌≤◌, ◌≢◌, ℕ, List, [], ◌∷◌, ◌++◌, length, take, Some, None, IfSome, IfNone, slice_get};
 ghost use Rattle.std.specs.List.{sum_by};
 ghost use mathlib.Core.List.{IsPrefix};
 ghost use Rattle.wk_turn.specs.Journal.{IsListed, IsOpen};
@@ -88,4 +88,89 @@ fn make<R: Wait>(
     let answer = held.value.make(mark);
     turn.leave(pass, held);
     (answer, pass.point())
+}
+
+/// Makes an entry that closes nothing, and answers its place.
+fn open<R: Wait>(rt: &R, turn: &Turn<Tally>, pass: &mut Pass<Tally>, amount: u64) -> Option<u64>
+    requires turn { IsOf turn.now pass.old }
+    requires free { pass.old.held ≡ None }
+    ensures turn { IsOf turn.now pass.new × (pass.new.held ≡ None) }
+    ensures seen { IsPrefix pass.old.seen pass.new.seen }
+    ensures open { IfSome result (λ p. IsOpen (λ m. m.closes) pass.new.seen pass.new.own p) }
+    ensures made { IfSome result (λ p. slice_get pass.new.seen p ≡ Some record { amount = amount; closes = None }) }
+{
+    let mark = Mark {
+        amount,
+        closes: None,
+    };
+    let (answer, point) = make(rt, turn, pass, mark);
+    match answer {
+        Some(_) => Some(point - 1),
+        None => None,
+    }
+}
+
+/// Makes an entry that closes one which the pass left open.
+fn close<R: Wait>(rt: &R, turn: &Turn<Tally>, pass: &mut Pass<Tally>, place: u64) -> Option<u64>
+    requires turn { IsOf turn.now pass.old }
+    requires free { pass.old.held ≡ None }
+    requires open { IsOpen (λ m. m.closes) pass.old.seen pass.old.own place }
+    ensures turn { IsOf turn.now pass.new × (pass.new.held ≡ None) }
+    ensures seen { IsPrefix pass.old.seen pass.new.seen }
+{
+    let mark = Mark {
+        amount: 0,
+        closes: Some(place),
+    };
+    make(rt, turn, pass, mark).0
+}
+
+fn open_as<R: Wait>(
+    rt: &R,
+    turn: &Turn<Tally>,
+    mut pass: Pass<Tally>,
+    amount: u64,
+) -> (Pass<Tally>, Option<u64>)
+    requires turn { IsOf turn.now pass }
+    requires free { pass.held ≡ None }
+    ensures turn { IsOf turn.now result.0 × (result.0.held ≡ None) }
+    ensures open { IfSome result.1 (λ p. IsOpen (λ m. m.closes) result.0.seen result.0.own p) }
+    ensures made { IfSome result.1 (λ p. slice_get result.0.seen p ≡ Some record { amount = amount; closes = None }) }
+{
+    let place = open(rt, turn, &mut pass, amount);
+    (pass, place)
+}
+
+/// Two threads make an entry each, on two passes. Where both did, both entries stand in the journal, at two places.
+fn open_both<R: Threads + Wait + Sync>(
+    rt: &R,
+    turn: &Turn<Tally>,
+    one: Pass<Tally>,
+    two: Pass<Tally>,
+    amounts: (u64, u64),
+) -> (Pass<Tally>, Option<(u64, u64)>)
+    requires turn { IsOf turn.now one × IsOf turn.now two }
+    requires free { (one.held ≡ None) × (two.held ≡ None) }
+    ensures turn { IsOf turn.now result.0 × (result.0.held ≡ None) }
+    ensures apart { IfSome result.1 (λ r. r.0 ≢ r.1) }
+    ensures first { IfSome result.1 (λ r. slice_get result.0.seen r.0 ≡ Some record { amount = amounts.0; closes = None }) }
+    ensures second { IfSome result.1 (λ r. slice_get result.0.seen r.1 ≡ Some record { amount = amounts.1; closes = None }) }
+{
+    let (first, second) = amounts;
+    let ((mut pass, a), (other, b)) = join(
+        rt,
+        || -> (Pass<Tally>, Option<u64>)
+            requires { IsOf turn.now one × (one.held ≡ None) }
+            ensures { IsOf turn.entry.now result.0 × (result.0.held ≡ None) × IfSome result.1 (λ p. IsOpen (λ m. m.closes) result.0.seen result.0.own p × (slice_get result.0.seen p ≡ Some record { amount = first; closes = None })) }
+        { open_as(rt, turn, one, first) },
+        || -> (Pass<Tally>, Option<u64>)
+            requires { IsOf turn.now two × (two.held ≡ None) }
+            ensures { IsOf turn.entry.now result.0 × (result.0.held ≡ None) × IfSome result.1 (λ p. IsOpen (λ m. m.closes) result.0.seen result.0.own p × (slice_get result.0.seen p ≡ Some record { amount = second; closes = None })) }
+        { open_as(rt, turn, two, second) },
+    );
+    turn.join(&mut pass, other);
+    let (Some(a), Some(b)) = (a, b) else {
+        return (pass, None);
+    };
+    (pass, Some((a, b)))
 }
