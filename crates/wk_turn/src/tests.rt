@@ -1,5 +1,5 @@
 //! A tally whose entries open and close, shared by turns.
-ghost use Rattle.std.specs.Prelude.{◌≡◌, ◌+◌, ◌-◌, ◌<◌, ◌≤◌, ◌≢◌, ℕ, List, [], ◌∷◌, ◌++◌, length, take, Some, None, IfSome, IfNone, slice_get};
+ghost use Rattle.std.specs.Prelude.{◌≡◌, ◌+◌, ◌-◌, ◌<◌, ◌≤◌, ◌≢◌, ℕ, List, [], ◌∷◌, ◌++◌, length, take, Some, None, IfSome, IfNone, IfOk, All, slice_get};
 ghost use Rattle.std.specs.List.{sum_by};
 ghost use mathlib.Core.List.{IsPrefix};
 ghost use Rattle.wk_turn.specs.Journal.{IsListed, IsOpen};
@@ -11,6 +11,7 @@ use std::process::Abort;
 use std::sync::Wait;
 use std::test::Fail;
 use std::thread::{Threads, for_each_mut, join};
+use wk_memory::Memory;
 
 /// An entry of a tally: it adds an amount, and may close an earlier entry.
 #[derive(Clone, Copy)]
@@ -173,4 +174,143 @@ fn open_both<R: Threads + Wait + Sync>(
         return (pass, None);
     };
     (pass, Some((a, b)))
+}
+
+#[derive(Drop)]
+struct Worker {
+    pass: Pass<Tally>,
+    made: u64,
+}
+
+/// Takes so many turns, and makes an entry in each.
+fn work<R: Wait>(rt: &R, turn: &Turn<Tally>, worker: &mut Worker, turns: u64)
+    requires { IsOf turn.now worker.old.pass × (worker.old.pass.held ≡ None) }
+    ensures { IsOf turn.now worker.new.pass × (worker.new.pass.held ≡ None) }
+{
+    'turns: for _ in 0..turns {
+        if open(rt, turn, &mut worker.pass, 1).is_some() {
+            worker.made = worker.made.saturating_add(1);
+        }
+    }
+}
+
+fn work_all<R: Threads + Wait + Sync>(
+    rt: &R,
+    turn: &Turn<Tally>,
+    workers: &mut [Worker],
+    turns: u64,
+)
+    requires { All (λ w. IsOf turn.now w.pass × (w.pass.held ≡ None)) workers.old }
+    ensures { All (λ w. IsOf turn.now w.pass × (w.pass.held ≡ None)) workers.new }
+{
+    let threads = workers.len().max(1);
+    for_each_mut(
+        rt,
+        workers,
+        threads,
+        &|_, worker: &mut Worker| { work(rt, turn, worker, turns) },
+    );
+}
+
+fn hired(
+    alloc: Global,
+    turn: &Turn<Tally>,
+    pass: &mut Pass<Tally>,
+    count: usize,
+) -> Result<Vec<Worker>, Memory>
+    requires { IsOf turn.now pass.old × (pass.old.held ≡ None) }
+    ensures pass { pass.new ≡ pass.old }
+    ensures workers { IfOk result (λ v. All (λ w. IsOf turn.now w.pass × (w.pass.held ≡ None)) v.items) }
+{
+    let mut workers = Vec::new(alloc);
+    'hiring: for _ in 0..count {
+        let pass = turn.split(pass)?;
+        workers.push(Worker { pass, made: 0 })?;
+    }
+    Ok(workers)
+}
+
+/// Joins all passes, and answers how many entries the workers made.
+fn gathered(turn: &Turn<Tally>, pass: &mut Pass<Tally>, mut workers: Vec<Worker>) -> u64
+    requires pass { IsOf turn.now pass.old × (pass.old.held ≡ None) }
+    requires workers { All (λ w. IsOf turn.now w.pass × (w.pass.held ≡ None)) workers.items }
+    ensures { IsOf turn.now pass.new × (pass.new.held ≡ None) }
+{
+    let mut made = 0u64;
+    'gathering: while let Some(worker) = workers.pop() {
+        let Worker {
+            pass: other,
+            made: more,
+        } = worker;
+        turn.join(pass, other);
+        made = made.saturating_add(more);
+    }
+    made
+}
+
+fn begun(alloc: Global, first: u64) -> Result<(Turn<Tally>, Pass<Tally>), Memory>
+    ensures { IfOk result (λ t. IsOf t.0 t.1 × (t.1.held ≡ None)) }
+{
+    match begin(alloc, Tally::new(alloc, first)) {
+        Ok(both) => Ok(both),
+        Err((_tally, memory)) => Err(memory),
+    }
+}
+
+#[test]
+fn a_pass_sees_what_another_made(rt: HostRuntime) -> Result<(), Fail> {
+    let (turn, mut pass) = begun(rt.alloc(), 5)?;
+    let mut other = turn.split(&mut pass)?;
+    let mark = Mark {
+        amount: 7,
+        closes: None,
+    };
+    let (answer, point) = make(&rt, &turn, &mut other, mark);
+    assert!(rt; answer == Some(5) && point == 1 && other.point() == 1 && pass.point() == 0);
+    let held = turn.enter(&rt, &mut pass);
+    let length = held.value.length();
+    turn.leave(&mut pass, held);
+    assert!(rt; length == 1 && pass.point() == 1);
+    turn.join(&mut pass, other);
+    let tally = turn.finish(&rt, pass);
+    assert!(rt; tally.first == 5 && tally.total == 12 && tally.marks.len() == 1);
+    Ok(())
+}
+
+#[test]
+fn what_was_left_open_is_closed_later(rt: HostRuntime) -> Result<(), Fail> {
+    let (turn, mut pass) = begun(rt.alloc(), 0)?;
+    let mut other = turn.split(&mut pass)?;
+    let place = open(&rt, &turn, &mut pass, 3).ok_or("the entry is made")?;
+    let _ = open(&rt, &turn, &mut other, 4).ok_or("the entry is made")?;
+    let before = close(&rt, &turn, &mut pass, place).ok_or("the entry is closed")?;
+    turn.join(&mut pass, other);
+    let tally = turn.finish(&rt, pass);
+    assert_eq!(rt; tally.marks.len(), 3);
+    assert!(rt; place == 0 && before == 7 && tally.marks[2].closes == Some(0));
+    Ok(())
+}
+
+#[test]
+fn two_threads_make_an_entry_each(rt: HostRuntime) -> Result<(), Fail> {
+    let (turn, mut one) = begun(rt.alloc(), 0)?;
+    let two = turn.split(&mut one)?;
+    let (pass, places) = open_both(&rt, &turn, one, two, (3, 4));
+    let (a, b) = places.ok_or("both make one")?;
+    let point = pass.point();
+    let tally = turn.finish(&rt, pass);
+    assert!(rt; a + b == 1 && point == 2 && tally.total == 7 && tally.marks.len() == 2);
+    Ok(())
+}
+
+#[test]
+fn four_threads_take_a_thousand_turns_each(rt: HostRuntime) -> Result<(), Fail> {
+    let (turn, mut pass) = begun(rt.alloc(), 0)?;
+    let mut workers = hired(rt.alloc(), &turn, &mut pass, 4)?;
+    work_all(&rt, &turn, workers.as_mut_slice(), 1000);
+    let made = gathered(&turn, &mut pass, workers);
+    let point = pass.point();
+    let tally = turn.finish(&rt, pass);
+    assert!(rt; made == 4000 && point == 4000 && tally.total == 4000 && tally.marks.len() == 4000);
+    Ok(())
 }
