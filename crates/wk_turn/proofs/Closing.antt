@@ -1,9 +1,9 @@
 -- For a caller's proof of what `leave` asks, where it added nothing or one entry.
-use Rattle.std.proofs.Common.{◌≡◌, ◌≢◌, ℕ, ◌+◌, ◌-◌, ◌<◌, ◌≤◌, List, [], ◌∷◌, ◌++◌, length, Option, Some, None, slice_get, refl, ap, sym, ◌∙◌, subst, arith, ◌⊎◌, inl, inr, length-append}
+use Rattle.std.proofs.Common.{◌≡◌, ◌≢◌, ℕ, ◌-◌, ◌<◌, ◌≤◌, List, [], ◌∷◌, ◌++◌, length, Option, Some, slice_get, refl, ap, sym, ◌∙◌, arith, inl, length-append}
 use Rattle.std.specs.List.{range_with_len}
 use mathlib.Core.Logic.{dite}
-use native.Mathlib.Decide.{ℕ_discrete, dec_le}
-use Rattle.wk_turn.specs.Journal.{times, IsListed, added, Closes, ClosesOwn, AreOwn, IsOpen}
+use native.Mathlib.Decide.{dec_le}
+use Rattle.wk_turn.specs.Journal.{added, Closes, ClosesOwn, IsOpen}
 use Rattle.wk_turn.proofs.Lists.{get_below, get_prefix, get_last, times-append, times_here}
 
 module _ {E : Type 0} where

@@ -36,8 +36,10 @@ fn count_seat<S: Storied>(top: &Top<S>, place: &mut Place<S>) -> bool
 pub(crate) fn split_seat<S: Storied>(top: &Top<S>, place: &mut Place<S>) -> Option<Place<S>>
     requires table { (place.old.table_id ≡ top.now.table_id) × (top.now.table_id.words ≡ 4) }
     requires bare { place.old.me.0.seats ≡ 0 }
-    ensures seat { (place.new.table_id ≡ place.old.table_id) × (place.new.id ≡ place.old.id) × (place.new.me ≡ place.old.me) }
-    ensures new { IfSome result (λ p. (p.table_id ≡ place.old.table_id) × (p.me ≡ (newcomer place.old.me.0.start place.old.me.0.seen, []))) }
+    ensures seat { (place.new.table_id ≡ place.old.table_id) × (place.new.id ≡ place.old.id)
+        × (place.new.me ≡ place.old.me) }
+    ensures new { IfSome result (λ p. (p.table_id ≡ place.old.table_id)
+        × (p.me ≡ (newcomer place.old.me.0.start place.old.me.0.seen, []))) }
 {
     if !count_seat(top, place) {
         return None;
@@ -47,10 +49,15 @@ pub(crate) fn split_seat<S: Storied>(top: &Top<S>, place: &mut Place<S>) -> Opti
 
 /// Takes in another seat. What both have seen are beginnings of what is then seen.
 pub(crate) fn merge_seats<S: Storied>(top: &Top<S>, place: &mut Place<S>, other: Place<S>)
-    requires table { (place.old.table_id ≡ top.now.table_id) × (other.table_id ≡ top.now.table_id) × (top.now.table_id.words ≡ 4) }
-    requires idle { (place.old.me.0.stage ≡ Stage.Idle) × (other.me.0.stage ≡ Stage.Idle) × (other.me.1 ≡ []) × (other.me.0.seats ≡ 0) }
-    ensures seat { (place.new.table_id ≡ place.old.table_id) × (place.new.id ≡ place.old.id) × (place.new.me ≡ (joined place.old.me.0 other.me.0, place.old.me.1)) }
-    ensures told { let v = joined place.old.me.0 other.me.0 in IsPrefix v.one v.seen × IsPrefix v.two v.seen × AreOwn S.closes v.seen v.own_one × AreOwn S.closes v.seen v.own_two × AreOwn S.closes v.seen v.own }
+    requires table { (place.old.table_id ≡ top.now.table_id) × (other.table_id ≡ top.now.table_id)
+        × (top.now.table_id.words ≡ 4) }
+    requires idle { (place.old.me.0.stage ≡ Stage.Idle) × (other.me.0.stage ≡ Stage.Idle)
+        × (other.me.1 ≡ []) × (other.me.0.seats ≡ 0) }
+    ensures seat { (place.new.table_id ≡ place.old.table_id) × (place.new.id ≡ place.old.id)
+        × (place.new.me ≡ (joined place.old.me.0 other.me.0, place.old.me.1)) }
+    ensures told { let v = joined place.old.me.0 other.me.0 in
+        IsPrefix v.one v.seen × IsPrefix v.two v.seen × AreOwn S.closes v.seen v.own_one
+        × AreOwn S.closes v.seen v.own_two × AreOwn S.closes v.seen v.own }
 {
     top.join_seat::<Glue>(place, other);
     top.load::<Tell>(place, SEATS);
@@ -69,10 +76,12 @@ fn rest<S: Storied, R: Wait>(rt: &R, top: &Top<S>, backoff: &Backoff, serving: u
 
 /// Draws a number, waits until it is served, and takes the state.
 pub(crate) fn take_turn<S: Storied, R: Wait>(rt: &R, top: &Top<S>, place: &mut Place<S>) -> S
-    requires table { (place.old.table_id ≡ top.now.table_id) × (top.now.table_id.words ≡ 4) × (top.now.table_id.slots ≡ 1) }
+    requires table { (place.old.table_id ≡ top.now.table_id) × (top.now.table_id.words ≡ 4)
+        × (top.now.table_id.slots ≡ 1) }
     requires idle { (place.old.me.0.stage ≡ Stage.Idle) × (place.old.me.1 ≡ []) }
     ensures seat { (place.new.table_id ≡ place.old.table_id) × (place.new.id ≡ place.old.id) }
-    ensures turn { (n : ℕ) × (place.new.me ≡ staged place.old.me (Stage.Holds n (S.journal result)) ((0, None) ∷ [])) }
+    ensures turn { (n : ℕ)
+        × (place.new.me ≡ staged place.old.me (Stage.Holds n (S.journal result)) ((0, None) ∷ [])) }
     ensures finds { Finds S.start S.journal S.closes place.old.me.0 result }
 {
     let number = top.fetch_add::<Draw>(place, TICKET, 1);
@@ -104,14 +113,25 @@ pub(crate) fn give_turn<S: Storied>(
     point: u64,
     before: &Snapshot<S>,
 )
-    requires table { (place.old.table_id ≡ top.now.table_id) × (top.now.table_id.words ≡ 4) × (top.now.table_id.slots ≡ 1) }
-    requires turn { ((n : ℕ) × (place.old.me.0.stage ≡ Stage.Holds n (S.journal before.now.value))) × (place.old.me.1 ≡ (0, None) ∷ []) }
-    requires state { (place.old.me.0.start ≡ Some (S.start state)) × IsPrefix (S.journal before.now.value) (S.journal state) × (point ≡ length (S.journal state)) }
-    requires closes { ClosesOwn S.closes (S.journal before.now.value) (S.journal state) place.old.me.0.own }
+    requires table { (place.old.table_id ≡ top.now.table_id) × (top.now.table_id.words ≡ 4)
+        × (top.now.table_id.slots ≡ 1) }
+    requires turn { ((n : ℕ) × (place.old.me.0.stage ≡ Stage.Holds n (S.journal before.now.value)))
+        × (place.old.me.1 ≡ (0, None) ∷ []) }
+    requires state { (place.old.me.0.start ≡ Some (S.start state))
+        × IsPrefix (S.journal before.now.value) (S.journal state)
+        × (point ≡ length (S.journal state)) }
+    requires closes { ClosesOwn S.closes (S.journal before.now.value) (S.journal state)
+        place.old.me.0.own }
     ensures seat { (place.new.table_id ≡ place.old.table_id) × (place.new.id ≡ place.old.id) }
-    ensures idle { place.new.me ≡ (record place.old.me.0 { seen = S.journal state; own = place.old.me.0.own ++ added (S.journal before.now.value) (S.journal state); own_one = []; own_two = []; stage = Stage.Idle }, []) }
+    ensures idle { let own = place.old.me.0.own ++ added (S.journal before.now.value) (S.journal state) in
+        place.new.me ≡ (
+          record place.old.me.0
+              { seen = S.journal state; own = own; own_one = []; own_two = []; stage = Stage.Idle },
+          [],
+        ) }
     ensures seen { IsPrefix place.old.me.0.seen (S.journal state) }
-    ensures own { AreOwn S.closes (S.journal state) (place.old.me.0.own ++ added (S.journal before.now.value) (S.journal state)) }
+    ensures own { AreOwn S.closes (S.journal state)
+        (place.old.me.0.own ++ added (S.journal before.now.value) (S.journal state)) }
 {
     let nothing = top.exchange(place, 0, Some(state));
     let None = nothing else { unreachable!() };
@@ -122,8 +142,10 @@ pub(crate) fn give_turn<S: Storied>(
 
 /// Gives the slot back empty, and closes the table.
 pub(crate) fn end<S: Storied>(board: Board<S>, mut place: Place<S>)
-    requires table { (place.table_id ≡ board.shared.table_id) × (board.shared.table_id.words ≡ 4) × (board.shared.table_id.slots ≡ 1) }
-    requires turn { ((n : ℕ) × (at : List S.Entry) × (place.me.0.stage ≡ Stage.Holds n at)) × (place.me.1 ≡ (0, None) ∷ []) }
+    requires table { (place.table_id ≡ board.shared.table_id) × (board.shared.table_id.words ≡ 4)
+        × (board.shared.table_id.slots ≡ 1) }
+    requires turn { ((n : ℕ) × (at : List S.Entry) × (place.me.0.stage ≡ Stage.Holds n at))
+        × (place.me.1 ≡ (0, None) ∷ []) }
 {
     board.shared.load::<End>(&mut place, SEATS);
     let mut closed = board.close_with(place);

@@ -1,4 +1,4 @@
-use Rattle.std.proofs.Common.{rules, arith, refl, ap, ◌∙◌, ◌≡◌, ◌+◌}
+use Rattle.std.proofs.Common.{rules, refl}
 use Rattle.wk_turn.proofs.Steps.{counts}
 use Rattle.wk_turn.proofs.line.count_seat.Goals as goal
 

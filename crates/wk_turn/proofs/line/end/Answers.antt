@@ -1,4 +1,4 @@
-use Rattle.std.proofs.Common.{rules, ◌≡◌, ap, ◌∙◌, sym}
+use Rattle.std.proofs.Common.{rules, ap, ◌∙◌, sym}
 use mathlib.Core.Option.{some-injective}
 use Rattle.wk_turn.proofs.Steps.{ends, empties}
 use Rattle.wk_turn.proofs.line.end.Goals as goal

@@ -1,4 +1,4 @@
-use Rattle.std.proofs.Common.{rules, ◌≡◌, ap, ◌∙◌, sym, subst, List, ℕ, [], ◌∷◌, ◌++◌, Some}
+use Rattle.std.proofs.Common.{rules, ap, ◌∙◌, sym, subst, List, ℕ, [], ◌∷◌, ◌++◌, Some}
 use mathlib.Core.List.{IsPrefix}
 use Rattle.atomic_table.specs.Table.{rest}
 use Rattle.wk_turn.specs.declared.board.Stage.TheVariants.{Idle}

@@ -1,4 +1,4 @@
-use Rattle.std.proofs.Common.{rules, ◌≡◌, ap, ◌∙◌, sym}
+use Rattle.std.proofs.Common.{rules}
 use Rattle.wk_turn.proofs.Steps.{joins, tells}
 use Rattle.wk_turn.proofs.line.merge_seats.Goals as goal
 

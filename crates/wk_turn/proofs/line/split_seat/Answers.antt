@@ -1,4 +1,4 @@
-use Rattle.std.proofs.Common.{rules, arith, refl, ap, ◌∙◌, ◌≡◌, ◌+◌}
+use Rattle.std.proofs.Common.{rules}
 use Rattle.wk_turn.proofs.Steps.{splits}
 use Rattle.wk_turn.proofs.line.split_seat.Goals as goal
 

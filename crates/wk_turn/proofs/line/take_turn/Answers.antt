@@ -1,4 +1,4 @@
-use Rattle.std.proofs.Common.{rules, ◌≡◌, ap, ◌∙◌, sym, ◌∷◌, Some}
+use Rattle.std.proofs.Common.{rules, ap, ◌∙◌, sym, ◌∷◌, Some}
 use Rattle.atomic_table.specs.Table.{rest}
 use Rattle.wk_turn.proofs.Steps.{draws, looks}
 use Rattle.wk_turn.proofs.line.take_turn.Goals as goal

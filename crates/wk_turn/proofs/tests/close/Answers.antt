@@ -1,4 +1,4 @@
-use Rattle.std.proofs.Common.{◌≡◌, ℕ, Option, Some, subst}
+use Rattle.std.proofs.Common.{◌≡◌, subst}
 use Rattle.wk_turn.specs.declared.tests.Mark.{Mark}
 use Rattle.wk_turn.specs.Journal.{IsOpen}
 use Rattle.wk_turn.proofs.tests.close.Goals as goal

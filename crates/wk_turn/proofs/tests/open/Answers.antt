@@ -1,4 +1,4 @@
-use Rattle.std.proofs.Common.{◌≡◌, ℕ, ◌-◌, List, [], ◌∷◌, ◌++◌, length, Option, Some, None, slice_get, subst, sym, ap, ◌∙◌, arith, length-append}
+use Rattle.std.proofs.Common.{◌≡◌, ℕ, ◌-◌, List, [], ◌∷◌, length, None, slice_get, subst, sym, ap, ◌∙◌, arith, length-append}
 use Rattle.wk_turn.specs.declared.tests.Mark.{Mark}
 use Rattle.wk_turn.specs.Journal.{IsOpen}
 use Rattle.wk_turn.proofs.Closing.{one_open}

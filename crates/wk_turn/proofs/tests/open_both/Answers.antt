@@ -1,4 +1,4 @@
-use Rattle.std.proofs.Common.{◌≡◌, ℕ, ◌+◌, ◌≤◌, List, ◌++◌, Option, Some, subst, sym, ap, ◌∙◌, arith}
+use Rattle.std.proofs.Common.{ℕ, ◌≤◌, List, ◌++◌, subst, sym, ap, arith}
 use Rattle.wk_turn.specs.Journal.{times, IsListed}
 use Rattle.wk_turn.proofs.Lists.{prefix_get, times-append}
 use Rattle.wk_turn.proofs.tests.open_both.Goals as goal

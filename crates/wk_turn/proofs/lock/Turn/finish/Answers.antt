@@ -10,7 +10,7 @@ end-requires-clause-turn g c = let took = c.take_turn-state.ensures.turn in ((to
 pub returns-clause-start : goal.returns-clause-start
 returns-clause-start g c = sym (c.take_turn-state.ensures.finds.start_is _ (ap (λ p. p.start) c.pass.view_is ∙ c.requires.turn.1))
 
-pub returns-clause-open : goal.returns-clause-open
-returns-clause-open g c =
+pub returns-clause-still_open : goal.returns-clause-still_open
+returns-clause-still_open g c =
     let closes = g.S.Storied.closes in let found = c.take_turn-state.ensures.finds in let journal = g.S.Storied.journal c.take_turn-state.result in
     subst (λ (z : Story g.row.S-Start.Denot g.row.S-Entry.Denot). (p : ℕ) → IsOpen closes z.seen z.own p → IsOpen closes journal z.own p) c.pass.view_is (still_open closes _ journal _ c.pass.invariant.own found.own found.seen)
