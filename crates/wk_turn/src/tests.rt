@@ -176,6 +176,42 @@ fn open_both<R: Threads + Wait + Sync>(
     (pass, Some((a, b)))
 }
 
+/// Looks at any state under the turn: it adds no entry, and answers its point.
+fn look<S: Storied, R: Wait>(rt: &R, turn: &Turn<S>, mut pass: Pass<S>) -> (Pass<S>, u64)
+    requires turn { IsOf turn.now pass }
+    requires free { pass.held ≡ None }
+    ensures turn { IsOf turn.now result.0 × (result.0.held ≡ None) }
+    ensures own { result.0.own ≡ pass.own }
+    ensures seen { IsPrefix pass.seen result.0.seen × (result.1 ≡ length result.0.seen) }
+{
+    let held = turn.enter(rt, &mut pass);
+    let point = held.value.length();
+    turn.leave(&mut pass, held);
+    (pass, point)
+}
+
+/// Two threads look at any state that may be sent.
+fn look_both<S: Storied + Send, R: Threads + Wait + Sync>(
+    rt: &R,
+    turn: &Turn<S>,
+    one: Pass<S>,
+    two: Pass<S>,
+) -> (u64, u64)
+    requires turn { IsOf turn.now one × IsOf turn.now two }
+    requires free { (one.held ≡ None) × (two.held ≡ None) }
+{
+    let (one, two) = join(
+        rt,
+        || -> (Pass<S>, u64)
+            requires { IsOf turn.now one × (one.held ≡ None) }
+        { look(rt, turn, one) },
+        || -> (Pass<S>, u64)
+            requires { IsOf turn.now two × (two.held ≡ None) }
+        { look(rt, turn, two) },
+    );
+    (one.1, two.1)
+}
+
 #[derive(Drop)]
 struct Worker {
     pass: Pass<Tally>,
@@ -312,5 +348,13 @@ fn four_threads_take_a_thousand_turns_each(rt: HostRuntime) -> Result<(), Fail> 
     let point = pass.point();
     let tally = turn.finish(&rt, pass);
     assert!(rt; made == 4000 && point == 4000 && tally.total == 4000 && tally.marks.len() == 4000);
+    Ok(())
+}
+
+#[test]
+fn two_threads_look_at_once(rt: HostRuntime) -> Result<(), Fail> {
+    let (turn, mut one) = begun(rt.alloc(), 0)?;
+    let two = turn.split(&mut one)?;
+    assert_eq!(rt; look_both(&rt, &turn, one, two), (0, 0));
     Ok(())
 }
