@@ -205,6 +205,7 @@ module _ {A E S : Type 0} (start_of : S → A) (journal_of : S → List E) (clos
           let idle : busy t.1.stage ≡ 0 = ap (λ (u : D). busy u.stage) this ∙ ap busy is in
           let pos = t.3 in absurd (omega arith))
 
+  -- the table as the turn begins
   pub opens : (state : S) (point : ℕ) (first : S) → point ≡ length (journal_of first) → first ≡ state → start_of first ≡ start
       → Rule (opening (1 ∷ 0 ∷ 0 ∷ point ∷ []) (Some state ∷ []) (newcomer (Some (start_of first)) (journal_of first)))
   opens state point first len same begun = record {
@@ -241,6 +242,7 @@ module _ {A E S : Type 0} (start_of : S → A) (journal_of : S → List E) (clos
       }
       only (Rattle.std.proofs.Common.suc j) d e = absurd (some-ne-none d (sym e))
 
+  -- a number is drawn
   pub draws : (slots id : ℕ) (me : M) → me.0.stage ≡ Idle → Allows Rule slots id me 1 (λ x. (x + 1) % 2 ^ 64) (drew (step slots 1 1 0 none) me)
   draws slots id me idle s r _ at _ =
       let v : D = me.0 in let w : D = record v { stage = Waits r.ticket } in let k = r.each id v at in let t : ℕ = r.ticket in let line = r.line in
@@ -273,6 +275,7 @@ module _ {A E S : Type 0} (start_of : S → A) (journal_of : S → List E) (clos
         (t, at_words s r 1, refl),
       )
 
+  -- the number that is served is looked at, and the slot taken by whom it is
   pub looks : (slots id : ℕ) (me : M) (n : ℕ) → me.0.stage ≡ Waits n → Allows Rule slots id me 2 (λ x. x) (looked start_of journal_of closes (step slots 2 0 0 none) me)
   looks slots id me n is s r _ at _ = dite (ℕ_discrete (get_or s.words 2 0) (n % 2 ^ 64)) hit (λ miss.
       (v, keeps, tt, unmoved s r 2 id v me.1 at, λ n' is'. ((λ e. absurd (miss (e ∙ ap (λ (z : ℕ). z % 2 ^ 64) (sym (same n' is'))))), λ _. refl)))
@@ -331,10 +334,11 @@ module _ {A E S : Type 0} (start_of : S → A) (journal_of : S → List E) (clos
                   own = subst (λ (l : List E). AreOwn closes l v.own) (sym kept.1) k.own;
                 },
               )),
-              λ miss. absurd (miss found),
+              λ miss. absurd {A = ◌≡◌ {A = M} (w, (0, Some x) ∷ me.1) me} (miss found),
             ),
           )
 
+  -- the length of the journal is marked, with the state in the slot that is out
   pub marks : (slots id : ℕ) (me : M) (n : ℕ) (at : List E) (y : S) (len : ℕ) → me.0.stage ≡ Holds n at → me.1 ≡ (0, Some y) ∷ [] → IsPrefix at (journal_of y) → ClosesOwn closes at (journal_of y) me.0.own → len ≡ length (journal_of y)
       → Allows Rule slots id me 3 (λ x. max x len) (marked start_of journal_of closes (step slots 3 len 0 none) me)
   marks slots id me n at y len is carried begins asked count s r _ here _ =
@@ -401,6 +405,7 @@ module _ {A E S : Type 0} (start_of : S → A) (journal_of : S → List E) (clos
       beyond_log s r p beyond = dite (ℕ_discrete (sum_by (λ (u : D). times p u.own) s.views) 0) (λ e. e) (λ more.
           let t = some_term (λ (u : D). times p u.own) s.views (omega arith) in let low = (r.each t.0 t.1 t.2).own.there p t.3 in absurd (omega arith))
 
+  -- the slot comes back, and the next number is served
   pub hands_on : (slots id : ℕ) (me : M) (n : ℕ) (y : S) → me.0.stage ≡ Marked n → me.1 ≡ (0, Some y) ∷ [] → me.0.start ≡ Some (start_of y) → me.0.seen ≡ journal_of y
       → Allows Rule slots id me 2 (λ x. (x + 1) % 2 ^ 64) (handed_on (step slots 2 1 0 none) me)
   hands_on slots id me n y is carried begun saw s r _ at _ =
@@ -437,6 +442,7 @@ module _ {A E S : Type 0} (start_of : S → A) (journal_of : S → List E) (clos
         ap (λ cs. (w, Rattle.atomic_table.specs.Table.rest cs)) carried,
       )
 
+  -- the slot comes back empty
   pub ends : (slots id : ℕ) (me : M) (n : ℕ) (at : List E) → me.0.stage ≡ Holds n at → me.1 ≡ (0, None) ∷ [] → Allows Rule slots id me 0 (λ x. x) (ended (step slots 0 0 0 none) me)
   ends slots id me n at is carried s r _ here _ =
       let v : D = me.0 in let k = r.each id v here in
@@ -479,6 +485,7 @@ module _ {A E S : Type 0} (start_of : S → A) (journal_of : S → List E) (clos
       let mine : AtStage r.serving r.ticket r.log r.home r.owner id v.seen (Ended n) = subst (AtStage r.serving r.ticket r.log r.home r.owner id v.seen) is k.stage in
       last.4 0 None (ap (λ hs. get_elem? hs 0) r.homes ∙ ap some mine.3)
 
+  -- what was joined is told
   pub tells : (slots id : ℕ) (me : M) → Allows Rule slots id me 0 (λ x. x) (told start_of journal_of closes (step slots 0 0 0 none) me)
   tells slots id me s r _ at _ = let v : D = me.0 in let k = r.each id v at in (
     v,
@@ -501,6 +508,7 @@ module _ {A E S : Type 0} (start_of : S → A) (journal_of : S → List E) (clos
       second : {serving ticket : ℕ} {log : List E} {home : Home} {owner : ℕ → ℕ} → K serving ticket log home owner id me.0 → me.0.seen ≡ longer me.0.one me.0.two → IsPrefix me.0.two me.0.seen
       second {serving} {ticket} {log} k e = longer_second me.0.one me.0.two me.0.seen log k.two k.seen e
 
+  -- one more seat is counted
   pub counts : (slots id : ℕ) (me : M) (old new : ℕ) → me.0.seats ≡ 0 → new ≡ old + 1 → new < 2 ^ 64 → Allows Rule slots id me 0 (λ x. either (eqb x old) new x) (counted (step slots 0 old new none) me)
   counts slots id me old new bare up small s r _ at _ = dite (ℕ_discrete x old)
       (λ hit. (
@@ -551,6 +559,7 @@ module _ {A E S : Type 0} (start_of : S → A) (journal_of : S → List E) (clos
       seats_all : sum_by (λ (u : D). u.seats) (set s.views id w) + v.seats ≡ sum_by (λ (u : D). u.seats) s.views + 1
       seats_all = sum_set (λ (u : D). u.seats) s.views id v w at
 
+  -- the seat that was counted is made
   pub splits : (id : ℕ) (v : D) → v.seats ≡ 1 → Splits Rule id v (record v { seats = 0 }) (newcomer v.start v.seen)
   splits id v counted_one s r at =
       let w : D = record v { seats = 0 } in let new : D = newcomer v.start v.seen in let k = r.each id v at in let vs : List D = set s.views id w in
@@ -580,6 +589,7 @@ module _ {A E S : Type 0} (start_of : S → A) (journal_of : S → List E) (clos
             (at_snoc vs new d j e);
       }
 
+  -- a seat takes in another
   pub joins : (id : ℕ) (v : D) (other : ℕ) (w : D) → v.stage ≡ Idle → w.stage ≡ Idle → w.seats ≡ 0 → Joins Rule id v other w (joined v w) spent
   joins id v other w still idle bare s r at distinct there' =
       let both : D = joined v w in let gone : D = spent in let vs : List D = set s.views id both in let P = K r.serving r.ticket r.log r.home r.owner in

@@ -1,4 +1,4 @@
--- What contracts say of a journal, and of the places in it that belong to one pass.
+-- What contracts say of a journal, and of the places in it that belong to one pass (own). Places are counted from 0.
 use Rattle.std.specs.Prelude.{◌≡◌, ℕ, ◌-◌, ◌<◌, ◌≤◌, ◌==◌, ◌⊎◌, List, length, Option, Some, slice_get, count_by, nat_lt, if◌then◌else◌}
 use Rattle.std.specs.List.{range_with_len}
 
@@ -6,6 +6,7 @@ use Rattle.std.specs.List.{range_with_len}
 abbrev pub times : ℕ → List ℕ → ℕ
 times p places = count_by (λ q. q == p) places
 
+-- a place is listed
 abbrev pub IsListed : List ℕ → ℕ → Type 0
 IsListed places p = 0 < times p places
 

@@ -1,4 +1,4 @@
--- The rule of the table, and what each step tells.
+-- The rule of the table, and what each step tells (own).
 -- Word 0 counts the seats, word 1 is the next number to be drawn, word 2 the number that is served, and word 3 the length of the journal. The one slot has the state.
 -- Numbers are drawn and served without end. The words keep them modulo 2 ^ 64.
 use Rattle.std.specs.Prelude.{◌≡◌, ◌≢◌, ℕ, ◌+◌, ◌%◌, ◌^◌, ◌<◌, ◌≤◌, List, [], ◌∷◌, ◌++◌, length, Option, Some, None}
@@ -56,6 +56,8 @@ module _ {A E S : Type 0} (start_of : S → A) (journal_of : S → List E) (clos
     pub within : (p : ℕ) → IsListed v.own p → p < length v.seen
     pub stage : AtStage serving ticket log home owner seat v.seen v.stage
 
+  -- Between any two steps: the numbers from the one that is served to the next one are held by one seat each, and whoever has taken the state holds the one that is served.
+  -- The state at home has the start, and its journal is the log, of which every seat has seen a beginning. A place in the log is an own entry of one seat at most.
   pub record Kept (start : A) (s : State (Option S) (View A E)) : Type 0 where
     pub seats : ℕ
     pub ticket : ℕ
@@ -74,6 +76,7 @@ module _ {A E S : Type 0} (start_of : S → A) (journal_of : S → List E) (clos
     pub each : (j : ℕ) (v : View A E) → get_elem? s.views j ≡ some v → Knows start serving ticket log home owner j v
 
 module _ {A E : Type 0} where
+  -- the view of a seat that has made nothing
   abbrev pub newcomer : Option A → List E → View A E
   newcomer start seen = record { start = start; seen = seen; own = []; one = []; two = []; own_one = []; own_two = []; stage = Idle; seats = 0 }
 
@@ -81,6 +84,7 @@ module _ {A E : Type 0} where
   abbrev pub spent : View A E
   spent = newcomer None []
 
+  -- the view of a seat that takes in another, beside what both had seen and made
   abbrev pub joined : View A E → View A E → View A E
   joined v w = record v { seen = longer v.seen w.seen; own = v.own ++ w.own; one = v.seen; two = w.seen; own_one = v.own; own_two = w.own }
 
@@ -88,18 +92,23 @@ abbrev Seated : Type 0 → Type 0 → Type 0 → Type 0
 Seated A E S = Me (Option S) (View A E)
 
 module _ {A E S : Type 0} where
+  -- the seat at another stage, with these slots
   abbrev pub staged : Seated A E S → Stage E → List (ℕ × Option S) → Seated A E S
   staged m stage carried = (record m.0 { stage = stage }, carried)
 
+  -- one more seat was counted, if the count was the one expected
   abbrev pub counted : Step (Option S) → Seated A E S → ℕ → Seated A E S → Type 0
   counted st m r m' = (r ≡ st.first → m' ≡ (record m.0 { seats = 1 }, m.1)) × (r ≢ st.first → m' ≡ m)
 
+  -- a number was drawn, and the word shows what it is modulo 2 ^ 64
   abbrev pub drew : Step (Option S) → Seated A E S → ℕ → Seated A E S → Type 0
   drew st m r m' = (n : ℕ) × (r ≡ n % 2 ^ 64) × (m' ≡ staged m (Waits n) m.1)
 
+  -- the slot was given back with the state, and the next number is served
   abbrev pub handed_on : Step (Option S) → Seated A E S → ℕ → Seated A E S → Type 0
   handed_on st m r m' = m' ≡ staged m Idle []
 
+  -- the slot was given back empty
   abbrev pub ended : Step (Option S) → Seated A E S → ℕ → Seated A E S → Type 0
   ended st m r m' = (n : ℕ) × (m' ≡ staged m (Ended n) [])
 
@@ -110,10 +119,12 @@ module _ {A E S : Type 0} (start_of : S → A) (journal_of : S → List E) (clos
     pub seen : IsPrefix v.seen (journal_of x)
     pub own : AreOwn closes (journal_of x) v.own
 
+  -- the slot was taken, where the number is served, and the state found in it; and else nothing changed
   abbrev pub looked : Step (Option S) → Seated A E S → ℕ → Seated A E S → Type 0
   looked st m r m' = (n : ℕ) → m.0.stage ≡ Waits n
       → (r ≡ n % 2 ^ 64 → (x : S) × (m' ≡ staged m (Holds n (journal_of x)) ((0, Some x) ∷ m.1)) × Finds m.0 x) × (r ≢ n % 2 ^ 64 → m' ≡ m)
 
+  -- the state that is put into the slot has the log from now on, and what it has beyond the journal at `enter` is the seat's own
   abbrev pub marked : Step (Option S) → Seated A E S → ℕ → Seated A E S → Type 0
   marked st m r m' = (n : ℕ) (at : List E) (y : S) → m.0.stage ≡ Holds n at → m.1 ≡ (0, Some y) ∷ []
       → (m' ≡ (record m.0 { seen = journal_of y; own = m.0.own ++ added at (journal_of y); own_one = []; own_two = []; stage = Marked n }, m.1)) × IsPrefix m.0.seen (journal_of y) × AreOwn closes (journal_of y) (m.0.own ++ added at (journal_of y))

@@ -1,4 +1,4 @@
--- What contracts see of a pass.
+-- What contracts see of a turn and of a pass (own).
 use Rattle.std.specs.Prelude.{◌≡◌, ℕ, List, [], ◌∷◌, length, Option, Some, None, IsSome}
 use Rattle.atomic_table.specs.Seated.{TableId}
 use Rattle.wk_turn.specs.declared.board.View.{View}
@@ -24,6 +24,7 @@ abbrev pub IsOf : {A E : Type 0} → Begun A → Story A E → Type 0
 IsOf turn pass = (pass.turn ≡ turn.id) × (pass.start ≡ Some turn.start)
 
 module _ {E : Type 0} where
+  -- the journal at `enter`, where the seat has the turn
   abbrev pub held_of : Stage E → Option (List E)
   held_of (Holds n at) = Some at
   held_of _ = None
@@ -42,5 +43,6 @@ pub record Settled {A E S : Type 0} (closes : E → Option ℕ) (point : ℕ) (v
   pub rests : Rests v.stage carried
   pub own : AreOwn closes v.seen v.own
 
+-- the story of a seat of this turn
 abbrev pub story : {A E : Type 0} → TableId → View A E → Story A E
 story turn v = record { turn = turn; start = v.start; seen = v.seen; own = v.own; held = held_of v.stage }

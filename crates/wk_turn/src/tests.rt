@@ -1,13 +1,12 @@
 //! A tally whose entries open and close, shared by turns.
-ghost use Rattle.std.specs.Prelude.{◌≡◌, ◌+◌, ◌-◌, ◌<◌, ◌≤◌, ◌≢◌, ℕ, List, [], ◌∷◌, ◌++◌, length, take, Some, None, IfSome, IfNone, IfOk, All, slice_get};
+ghost use Rattle.std.specs.Prelude.{◌≡◌, ◌≢◌, ◌+◌, ℕ, List, [], ◌∷◌, ◌++◌, length, All, IfOk, IfSome, IfNone, slice_get};
 ghost use Rattle.std.specs.List.{sum_by};
 ghost use mathlib.Core.List.{IsPrefix};
-ghost use Rattle.wk_turn.specs.Journal.{IsListed, IsOpen};
+ghost use Rattle.wk_turn.specs.Journal.{IsOpen};
 ghost use Rattle.wk_turn.specs.Told.{IsOf};
 
 use super::*;
 use std::alloc::Global;
-use std::process::Abort;
 use std::sync::Wait;
 use std::test::Fail;
 use std::thread::{Threads, for_each_mut, join};
@@ -82,7 +81,9 @@ fn make<R: Wait>(
     ensures turn { IsOf turn.now pass.new × (pass.new.held ≡ None) }
     ensures point { result.1 ≡ length pass.new.seen }
     ensures seen { IsPrefix pass.old.seen pass.new.seen }
-    ensures made { IfSome result.0 (λ total. (before : List Mark) × IsPrefix pass.old.seen before × (pass.new.seen ≡ before ++ mark ∷ []) × (pass.new.own ≡ pass.old.own ++ length before ∷ []) × (total ≡ turn.now.start + sum_by (λ m. m.amount) before)) }
+    ensures made { IfSome result.0 (λ total. (before : List Mark) × IsPrefix pass.old.seen before
+        × (pass.new.seen ≡ before ++ mark ∷ []) × (pass.new.own ≡ pass.old.own ++ length before ∷ [])
+        × (total ≡ turn.now.start + sum_by (λ m. m.amount) before)) }
     ensures none { IfNone result.0 (pass.new.own ≡ pass.old.own) }
 {
     let mut held = turn.enter(rt, pass);
@@ -162,11 +163,15 @@ fn open_both<R: Threads + Wait + Sync>(
         rt,
         || -> (Pass<Tally>, Option<u64>)
             requires { IsOf turn.now one × (one.held ≡ None) }
-            ensures { IsOf turn.entry.now result.0 × (result.0.held ≡ None) × IfSome result.1 (λ p. IsOpen (λ m. m.closes) result.0.seen result.0.own p × (slice_get result.0.seen p ≡ Some record { amount = first; closes = None })) }
+            ensures { IsOf turn.entry.now result.0 × (result.0.held ≡ None)
+                × IfSome result.1 (λ p. IsOpen (λ m. m.closes) result.0.seen result.0.own p
+                × (slice_get result.0.seen p ≡ Some record { amount = first; closes = None })) }
         { open_as(rt, turn, one, first) },
         || -> (Pass<Tally>, Option<u64>)
             requires { IsOf turn.now two × (two.held ≡ None) }
-            ensures { IsOf turn.entry.now result.0 × (result.0.held ≡ None) × IfSome result.1 (λ p. IsOpen (λ m. m.closes) result.0.seen result.0.own p × (slice_get result.0.seen p ≡ Some record { amount = second; closes = None })) }
+            ensures { IsOf turn.entry.now result.0 × (result.0.held ≡ None)
+                × IfSome result.1 (λ p. IsOpen (λ m. m.closes) result.0.seen result.0.own p
+                × (slice_get result.0.seen p ≡ Some record { amount = second; closes = None })) }
         { open_as(rt, turn, two, second) },
     );
     turn.join(&mut pass, other);
