@@ -1,0 +1,4 @@
+pub mod Closing
+pub mod Lists
+pub mod Owning
+pub mod Steps

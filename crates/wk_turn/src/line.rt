@@ -1,0 +1,155 @@
+//! What a seat does at the table: it takes its turn and gives it back, makes another seat, and takes another in.
+ghost use Rattle.std.specs.Prelude.{◌≡◌, ℕ, List, [], ◌∷◌, ◌++◌, length, true, false, IfSome};
+ghost use mathlib.Core.List.{IsPrefix};
+ghost use Rattle.atomic_table.specs.Seated.{TableId};
+ghost use Rattle.wk_turn.specs.Journal.{added, ClosesOwn, AreOwn};
+ghost use Rattle.wk_turn.specs.Line.{Finds, joined, newcomer, staged};
+
+use crate::board::{Board, FRONT, Place, SEATS, SERVING, Stage, TICKET, Top};
+use crate::plays::{Copy, Count, Draw, End, Glue, HandOn, Look, Mark, Tell};
+use crate::storied::Storied;
+use crossbeam_utils::Backoff;
+use std::snapshot::Snapshot;
+use std::sync::Wait;
+
+// Counts one more seat. False where the word can count no more.
+fn count_seat<S: Storied>(top: &Top<S>, place: &mut Place<S>) -> bool
+    requires table { (place.old.table_id ≡ top.now.table_id) × (top.now.table_id.words ≡ 4) }
+    requires bare { place.old.me.0.seats ≡ 0 }
+    ensures seat { (place.new.table_id ≡ place.old.table_id) × (place.new.id ≡ place.old.id) }
+    ensures counted { result ≡ true → place.new.me ≡ (record place.old.me.0 { seats = 1 }, place.old.me.1) }
+    ensures full { result ≡ false → place.new.me ≡ place.old.me }
+{
+    'counting: for _ in 0..u64::MAX {
+        let seats = top.peek(SEATS);
+        if seats == u64::MAX {
+            return false;
+        }
+        if top.compare_exchange::<Count>(place, SEATS, seats, seats + 1) == seats {
+            return true;
+        }
+    }
+    false
+}
+
+/// A new seat that has seen as much, and made nothing. None where no more seats can be counted.
+pub(crate) fn split_seat<S: Storied>(top: &Top<S>, place: &mut Place<S>) -> Option<Place<S>>
+    requires table { (place.old.table_id ≡ top.now.table_id) × (top.now.table_id.words ≡ 4) }
+    requires bare { place.old.me.0.seats ≡ 0 }
+    ensures seat { (place.new.table_id ≡ place.old.table_id) × (place.new.id ≡ place.old.id)
+        × (place.new.me ≡ place.old.me) }
+    ensures new { IfSome result (λ p. (p.table_id ≡ place.old.table_id)
+        × (p.me ≡ (newcomer place.old.me.0.start place.old.me.0.seen, []))) }
+{
+    if !count_seat(top, place) {
+        return None;
+    }
+    Some(top.split_seat::<Copy>(place))
+}
+
+/// Takes in another seat. What both have seen are beginnings of what is then seen.
+pub(crate) fn merge_seats<S: Storied>(top: &Top<S>, place: &mut Place<S>, other: Place<S>)
+    requires table { (place.old.table_id ≡ top.now.table_id) × (other.table_id ≡ top.now.table_id)
+        × (top.now.table_id.words ≡ 4) }
+    requires idle { (place.old.me.0.stage ≡ Stage.Idle) × (other.me.0.stage ≡ Stage.Idle)
+        × (other.me.1 ≡ []) × (other.me.0.seats ≡ 0) }
+    ensures seat { (place.new.table_id ≡ place.old.table_id) × (place.new.id ≡ place.old.id)
+        × (place.new.me ≡ (joined place.old.me.0 other.me.0, place.old.me.1)) }
+    ensures told { let v = joined place.old.me.0 other.me.0 in
+        IsPrefix v.one v.seen × IsPrefix v.two v.seen × AreOwn S.closes v.seen v.own_one
+        × AreOwn S.closes v.seen v.own_two × AreOwn S.closes v.seen v.own }
+{
+    top.join_seat::<Glue>(place, other);
+    top.load::<Tell>(place, SEATS);
+}
+
+// Lets another thread go first. A short wait spins or yields, and a long one sleeps until a number is served.
+fn rest<S: Storied, R: Wait>(rt: &R, top: &Top<S>, backoff: &Backoff, serving: u64)
+    requires { top.now.table_id.words ≡ 4 }
+{
+    if backoff.is_completed() {
+        top.park(rt, SERVING, (serving & 0xffff_ffff) as u32);
+    } else {
+        backoff.snooze();
+    }
+}
+
+/// Draws a number, waits until it is served, and takes the state.
+pub(crate) fn take_turn<S: Storied, R: Wait>(rt: &R, top: &Top<S>, place: &mut Place<S>) -> S
+    requires table { (place.old.table_id ≡ top.now.table_id) × (top.now.table_id.words ≡ 4)
+        × (top.now.table_id.slots ≡ 1) }
+    requires idle { (place.old.me.0.stage ≡ Stage.Idle) × (place.old.me.1 ≡ []) }
+    ensures seat { (place.new.table_id ≡ place.old.table_id) × (place.new.id ≡ place.old.id) }
+    ensures turn { (n : ℕ)
+        × (place.new.me ≡ staged place.old.me (Stage.Holds n (S.journal result)) ((0, None) ∷ [])) }
+    ensures finds { Finds S.start S.journal S.closes place.old.me.0 result }
+{
+    let number = top.fetch_add::<Draw>(place, TICKET, 1);
+    let backoff = Backoff::new();
+    'waiting: for _ in rt.forever() {
+        let serving = top.load::<Look>(place, SERVING);
+        if serving == number {
+            return top.exchange(place, 0, None).unwrap();
+        }
+        rest(rt, top, &backoff, serving);
+    }
+    unreachable!()
+}
+
+// Wakes those who sleep, if anybody is in line. Who draws after this look finds the number served, and doesn't sleep.
+fn wake<S: Storied>(top: &Top<S>, serving: u64)
+    requires { top.now.table_id.words ≡ 4 }
+{
+    if top.peek(TICKET) != serving {
+        top.wake_all(SERVING);
+    }
+}
+
+/// Puts the state into the slot, marks how long its journal is, and gives the slot back as the next number is served.
+pub(crate) fn give_turn<S: Storied>(
+    top: &Top<S>,
+    place: &mut Place<S>,
+    state: S,
+    point: u64,
+    before: &Snapshot<S>,
+)
+    requires table { (place.old.table_id ≡ top.now.table_id) × (top.now.table_id.words ≡ 4)
+        × (top.now.table_id.slots ≡ 1) }
+    requires turn { ((n : ℕ) × (place.old.me.0.stage ≡ Stage.Holds n (S.journal before.now.value)))
+        × (place.old.me.1 ≡ (0, None) ∷ []) }
+    requires state { (place.old.me.0.start ≡ Some (S.start state))
+        × IsPrefix (S.journal before.now.value) (S.journal state)
+        × (point ≡ length (S.journal state)) }
+    requires closes { ClosesOwn S.closes (S.journal before.now.value) (S.journal state)
+        place.old.me.0.own }
+    ensures seat { (place.new.table_id ≡ place.old.table_id) × (place.new.id ≡ place.old.id) }
+    ensures idle { let own = place.old.me.0.own ++ added (S.journal before.now.value) (S.journal state) in
+        place.new.me ≡ (
+          record place.old.me.0
+              { seen = S.journal state; own = own; own_one = []; own_two = []; stage = Stage.Idle },
+          [],
+        ) }
+    ensures seen { IsPrefix place.old.me.0.seen (S.journal state) }
+    ensures own { AreOwn S.closes (S.journal state)
+        (place.old.me.0.own ++ added (S.journal before.now.value) (S.journal state)) }
+{
+    let nothing = top.exchange(place, 0, Some(state));
+    let None = nothing else { unreachable!() };
+    top.fetch_max::<Mark>(place, FRONT, point);
+    let served = top.fetch_add::<HandOn>(place, SERVING, 1);
+    wake(top, served.wrapping_add(1));
+}
+
+/// Gives the slot back empty, and closes the table.
+pub(crate) fn end<S: Storied>(board: Board<S>, mut place: Place<S>)
+    requires table { (place.table_id ≡ board.shared.table_id) × (board.shared.table_id.words ≡ 4)
+        × (board.shared.table_id.slots ≡ 1) }
+    requires turn { ((n : ℕ) × (at : List S.Entry) × (place.me.0.stage ≡ Stage.Holds n at))
+        × (place.me.1 ≡ (0, None) ∷ []) }
+{
+    board.shared.load::<End>(&mut place, SEATS);
+    let mut closed = board.close_with(place);
+    let nothing = closed.take(0);
+    let None = nothing else { unreachable!() };
+    closed.free();
+}
