@@ -1,5 +1,5 @@
 -- Texts in Normalization Form C, cut and joined where a character parts them.
-use Rattle.std.proofs.Common.{◌≡◌, ℕ, Bool, true, false, not, ◌&&◌, ◌||◌, ◌==◌, if◌then◌else◌, List, [], ◌∷◌, ◌++◌, refl, sym, ap, ap₂, subst, ◌∙◌, inl, inr, append_assoc, eqb-true, eq-eqb}
+use Rattle.std.proofs.Common.{◌≡◌, ℕ, Bool, true, false, not, ◌==◌, List, [], ◌∷◌, ◌++◌, refl, sym, ap, ap₂, subst, ◌∙◌, inl, inr, append_assoc, eqb-true, eq-eqb}
 use Rattle.std.proofs.lemmas.Bool.{cases_Bool, and_parts, and_from, not-true, not-false, not_from_false, or_cases, false_from_ne_true}
 use Rattle.std.proofs.lemmas.List.{append-nil}
 use Rattle.std.specs.List.{list_all}
@@ -69,8 +69,8 @@ fixed-with_spaces_from pre (c ∷ cs) without fixed = elim (cases_Bool (c == 95)
   | inr other ↦
       let longer = subst IsFixed (sym (append_assoc pre (c ∷ []) cs)) fixed in
       rw other (
-        subst IsFixed (append_assoc pre (c ∷ []) (with_spaces cs))
-        (fixed-with_spaces_from (pre ++ c ∷ []) cs (list_all-push _ pre c without (not_from_false _ other)) longer)
+      subst IsFixed (append_assoc pre (c ∷ []) (with_spaces cs))
+      (fixed-with_spaces_from (pre ++ c ∷ []) cs (list_all-push _ pre c without (not_from_false _ other)) longer)
       )
 ]
 

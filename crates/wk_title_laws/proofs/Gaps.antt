@@ -1,7 +1,6 @@
 -- Texts without spaces, with single underscores and none at the ends.
-use Rattle.std.proofs.Common.{◌≡◌, ℕ, suc, ◌+◌, ◌<◌, Bool, true, false, not, ◌&&◌, ◌||◌, ◌==◌, ◌⊎◌, if◌then◌else◌, List, [], ◌∷◌, ◌++◌, length, drop, refl, sym, ap, ap₂, subst, ◌∙◌, inl, inr, arith, eqb-true, one-add}
-use Rattle.std.proofs.lemmas.Bool.{cases_Bool, and_parts, and_from, not-true, not_from_false, or_parts, or_right, or_from}
-use Rattle.std.specs.List.{list_all, prefix_len}
+use Rattle.std.proofs.Common.{◌≡◌, ℕ, Bool, true, false, not, ◌&&◌, ◌==◌, ◌⊎◌, if◌then◌else◌, List, [], ◌∷◌, ◌++◌, refl, sym, ap, ap₂, subst, ◌∙◌, inl, inr, eqb-true, one-add}
+use Rattle.std.proofs.lemmas.Bool.{cases_Bool, and_parts, and_from, not-true, or_parts, or_right, or_from}
 use Rattle.wk_text_rules.specs.Titles.{is_underscore, with_spaces, squeezed, without_leading_underscores}
 use Rattle.wk_title.proofs.Squeeze.{is_space, squeezed_from, squeezed-from_start}
 use Rattle.wk_title_laws.proofs.Fixed.{lacks_spaces}
@@ -70,7 +69,7 @@ kept-underscore c cs underscore later =
 kept-other : (c : ℕ) (cs : List ℕ) → (c == 95) ≡ false → KeptBySqueezing cs → KeptBySqueezing (c ∷ cs)
 kept-other c cs other later =
     let parts_of = λ (after : Bool) (h : gaps_ok after (c ∷ cs) ≡ true).
-        let rest : (not (c == 32) && gaps_ok true cs) ≡ true = rw other at h in and_parts (not (c == 32)) (gaps_ok true cs) rest in
+    let rest : (not (c == 32) && gaps_ok true cs) ≡ true = rw other at h in and_parts (not (c == 32)) (gaps_ok true cs) rest in
     let no_space = λ (after : Bool) (h : gaps_ok after (c ∷ cs) ≡ true). or_from (c == 32) (c == 95) (not-true _ (parts_of after h).0) other in
     record {
       within = λ h. let space = no_space true h in rw space (ap (λ l. c ∷ l) (later.within (parts_of true h).1));

@@ -1,9 +1,8 @@
 -- What Normalization Form C keeps: no special character comes from another one, and space, colon and underscore
 -- part a text.
-use Rattle.std.proofs.Common.{◌≡◌, ℕ, ◌+◌, ◌-◌, ◌/◌, ◌%◌, ◌<◌, ◌≤◌, ◌⊎◌, Bool, true, false, not, ◌&&◌, ◌==◌, nat_lt, List, [], ◌∷◌, ◌++◌, Some, None, refl, subst, sym, ap, ◌∙◌, arith, inl, inr}
+use Rattle.std.proofs.Common.{◌≡◌, ℕ, ◌+◌, ◌-◌, ◌/◌, ◌%◌, ◌<◌, ◌≤◌, ◌⊎◌, Bool, true, false, not, ◌&&◌, nat_lt, List, [], ◌∷◌, ◌++◌, Some, None, refl, subst, sym, ap, ◌∙◌, arith, inl, inr}
 use Rattle.std.proofs.lemmas.Bool.{cases_Bool, cases_eq, and_parts, and_from, not-true, not_from_false, true_from_ne_false}
 use Rattle.std.proofs.lemmas.Bool.Decides.{nat_tests}
-use borrow.Author.Tests.{ltb-true}
 use Rattle.std.specs.List.{list_all}
 use Rattle.ucd_normal.specs.declared.forms.Form.TheVariants.{Nfd, Nfc}
 use Rattle.ucd_normal.specs.CanonicalCombiningClass.{canonical_combining_class as ccc}
@@ -21,8 +20,7 @@ use Rattle.unicode_normalization.proofs.FormsLemmas.{normalize-Nfc, normalize-as
 use Rattle.unicode_normalization.proofs.HangulLemmas.{is_syllable-true, decompose_hangul-two, decompose_hangul-three, compose_hangul-some}
 use Rattle.unicode_normalization.proofs.KeptLemmas.{list_all-normalize, nfc-alone}
 use Rattle.unicode_normalization.proofs.TableFacts.{by_rows, pick, full, is_final}
-use Rattle.wk_text_rules.specs.Titles.{is_direction_mark}
-use Rattle.wk_title_laws.proofs.Tables.{is_special, avoids_special, decomposes_apart, pairs_of_space, pairs_of_colon, pairs_of_underscore}
+use Rattle.wk_title_laws.proofs.Tables.{is_special, decomposes_apart, pairs_of_space, pairs_of_colon, pairs_of_underscore}
 
 -- ---- characters far from the special ones
 

@@ -1,17 +1,17 @@
 -- What the key of a title is like.
-use Rattle.std.proofs.Common.{◌≡◌, ℕ, ℤ, pos, ◌<◌, ◌≤◌, ◌+◌, Bool, true, false, not, ◌&&◌, ◌||◌, ◌==◌, nat_lt, List, [], ◌∷◌, ◌++◌, length, get_or, drop, filter, chars, Option, Some, None, refl, sym, ap, subst, ◌∙◌, inl, inr, arith, eqb-true, lt-ltb}
+use Rattle.std.proofs.Common.{◌≡◌, ℕ, ℤ, pos, ◌<◌, ◌≤◌, Bool, true, false, not, ◌&&◌, ◌==◌, List, [], ◌∷◌, ◌++◌, get_or, filter, chars, Option, Some, None, refl, sym, ap, subst, ◌∙◌, inl, inr, arith, eqb-true, lt-ltb}
 use Rattle.std.proofs.lemmas.Bool.{cases_Bool, cases_lt, and_parts, and_from, and_cases, not-true, not-false, not_from_false, or_parts, or_from, or_right, false_from_ne_true}
 use Rattle.std.proofs.lemmas.Bool.Decides.{nat_tests}
 use borrow.Author.Tests.{ltb-true}
 use Rattle.std.proofs.lemmas.List.Sums.{split_at_first, passes_at_first}
 use Rattle.std.proofs.lemmas.Str.Ascii.{uppercase_is, uppercase_ascii, uppercase-uppercase, lowercase-uppercase}
-use Rattle.std.specs.Char.{is_ascii, to_ascii_lowercase, to_ascii_uppercase}
+use Rattle.std.specs.Char.{to_ascii_uppercase}
 use Rattle.std.specs.List.{list_all, list_any, before_first, after_first, position_or_len, take_while}
 use Rattle.std.specs.Option.{option_and_then}
 use Rattle.std.specs.Ordering.{int_eq}
 use Rattle.unicode_normalization.specs.Forms.{nfc}
 use Rattle.unicode_normalization.proofs.FormsLemmas.{nfc_idem}
-use Rattle.wk_text_rules.specs.Titles.{is_colon, is_underscore, is_direction_mark, is_namespace, namespace_called, to_nfc, without_fragment, squeezed, without_leading_underscores, without_trailing_underscores, prefix_of, after_leading_colon, after_namespace, capitalized, is_legal_key}
+use Rattle.wk_text_rules.specs.Titles.{is_colon, is_direction_mark, is_namespace, namespace_called, to_nfc, without_fragment, squeezed, without_leading_underscores, without_trailing_underscores, prefix_of, after_leading_colon, after_namespace, capitalized, is_legal_key}
 use Rattle.wk_text_rules.proofs.TitleLemmas.{to_nfc-is}
 use Rattle.wk_title.proofs.Colons.{list_any-by_position}
 use Rattle.wk_title.proofs.NormalLemmas.{legal_parts}
@@ -19,7 +19,7 @@ use Rattle.wk_title.proofs.Squeeze.{is_space, squeezed_from, squeezed-from_start
 use Rattle.wk_title.specs.Placed.{placed_key}
 use Rattle.wk_title_laws.proofs.Tables.{is_special}
 use Rattle.wk_title_laws.proofs.Kept.{nfc_keeps, parts_colon, parts_underscore, nfc-parted, nfc-begins}
-use Rattle.wk_title_laws.proofs.Fixed.{IsFixed, lacks, lacks_spaces, fixed-nil, fixed_cut, fixed-squeezed}
+use Rattle.wk_title_laws.proofs.Fixed.{IsFixed, lacks, fixed-nil, fixed_cut, fixed-squeezed}
 use Rattle.wk_title_laws.proofs.Gaps.{gaps_ok, IsLoose, loose-squeezed, gaps_ok-rest, gaps_ok-back, loose-without_leading, without_leading-yes, without_leading-no}
 use Rattle.wk_title_laws.proofs.Lists.{passes_filter, kept_by_filter, passes_take_while, list_all-back, list_all-both}
 use Rattle.wk_title_laws.proofs.Names.{is_plain, called_namespace}
@@ -51,7 +51,7 @@ plain-without_fragment cs =
     let no_mark = λ (c : ℕ). not (is_direction_mark c) in
     let kept = take_while no_fragment cs in
     plain-to_nfc (filter no_mark kept) (
-      list_all-both no_fragment no_mark (filter no_mark kept) (kept_by_filter no_mark no_fragment kept (passes_take_while no_fragment cs)) (passes_filter no_mark kept)
+    list_all-both no_fragment no_mark (filter no_mark kept) (kept_by_filter no_mark no_fragment kept (passes_take_while no_fragment cs)) (passes_filter no_mark kept)
     )
 
 plain-squeezed_from : (cs : List ℕ) (started after_space : Bool) → list_all is_plain cs ≡ true → list_all is_plain (squeezed_from started after_space cs) ≡ true
@@ -120,7 +120,7 @@ asked_good ns (c ∷ cs) known good = elim (cases_Bool (58 == c)) [
   | inl colon ↦
       let same : c ≡ 58 = sym (eqb-true 58 c colon) in
       subst (λ x. IsAsked (after_leading_colon (ns, x ∷ cs))) (sym same) (
-        record { namespace = refl; good = good_after [] cs refl (subst (λ x. IsGood (x ∷ cs)) same good) }
+      record { namespace = refl; good = good_after [] cs refl (subst (λ x. IsGood (x ∷ cs)) same good) }
       )
   | inr other ↦
       let stays : after_leading_colon (ns, c ∷ cs) ≡ (ns, c ∷ cs) = rw other refl in
@@ -213,8 +213,8 @@ raised_key ns c rest placed gaps small legal =
     let no_space = or_from (c == 32) (c == 95) (not-true _ gap_rest.0) no_underscore in
     let no_space_x = space_capital c no_space in
     let no_colon : (c == 58) ≡ false = false_from_ne_true _ (λ colon.
-      let same : c ≡ 58 = eqb-true c 58 colon in
-      absurd (first_colon rest (subst (λ y. is_legal_key (nfc (to_ascii_uppercase y ∷ rest)) ≡ true) same legal))) in
+    let same : c ≡ 58 = eqb-true c 58 colon in
+    absurd (first_colon rest (subst (λ y. is_legal_key (nfc (to_ascii_uppercase y ∷ rest)) ≡ true) same legal))) in
     let no_colon_x = colon_capital c no_colon in
     let plain_parts = and_parts (is_plain c) (list_all is_plain rest) good.plain in
     let raised : IsRaised c x = record {

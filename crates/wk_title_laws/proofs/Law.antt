@@ -1,11 +1,11 @@
 -- The shown form of a title names it.
-use Rattle.std.proofs.Common.{◌≡◌, ℕ, ℤ, pos, suc, ◌<◌, ◌≤◌, ◌+◌, Bool, true, false, not, ◌&&◌, ◌||◌, ◌==◌, nat_lt, List, [], ◌∷◌, ◌++◌, length, drop, map, filter, chars, encode_utf8, encode_utf8_all, if◌then◌else◌, Option, Some, None, refl, sym, ap, ap₂, subst, ◌∙◌, inl, inr, arith, eqb-true, append_assoc}
+use Rattle.std.proofs.Common.{◌≡◌, ℕ, ℤ, pos, suc, ◌+◌, Bool, true, false, not, ◌==◌, List, [], ◌∷◌, ◌++◌, length, drop, filter, chars, encode_utf8, encode_utf8_all, Option, Some, None, refl, sym, ap, ap₂, subst, ◌∙◌, inl, inr, arith, eqb-true, append_assoc}
 use Rattle.std.proofs.Math.Utf8.{scalar, scalars, low_scalar}
 use Rattle.std.proofs.Math.Bool.{Bool-set}
 use Rattle.std.proofs.Math.Logic.{∥∥₁_elim}
-use Rattle.std.proofs.lemmas.Bool.{cases_Bool, and_parts, and_from, not-true, not_from_false, cond-true, cond-false, false_from_ne_true}
+use Rattle.std.proofs.lemmas.Bool.{cases_Bool, and_parts, and_from, not-true, false_from_ne_true}
 use borrow.Author.Tests.{ltb-true}
-use Rattle.std.proofs.lemmas.List.{append-nil, map-append}
+use Rattle.std.proofs.lemmas.List.{map-append}
 use Rattle.std.proofs.lemmas.Str.{chars-encodes, encode_ascii, encodes-append, encodes_same}
 use Rattle.std.specs.Char.{is_ascii}
 use Rattle.std.specs.Cmp.Lexicographic.{bytes_decides}
@@ -13,18 +13,18 @@ use Rattle.std.specs.List.{list_all, after_first, position_or_len}
 use Rattle.std.specs.Option.{option_and_then}
 use Rattle.std.specs.Ordering.{int_eq}
 use Rattle.std.specs.Str.{IsUtf8, bytes_eq}
-use Rattle.wk_text_rules.specs.Titles.{PageTitle, title_eq, is_colon, is_direction_mark, is_namespace, namespace_name, namespace_called, underscored, with_spaces, to_nfc, without_fragment, squeezed, without_leading_underscores, without_trailing_underscores, prefix_of, after_leading_colon, after_namespace, capitalized, is_legal_key, normal, shown}
+use Rattle.wk_text_rules.specs.Titles.{PageTitle, title_eq, is_colon, is_direction_mark, is_namespace, namespace_name, namespace_called, underscored, with_spaces, to_nfc, without_fragment, squeezed, without_leading_underscores, without_trailing_underscores, prefix_of, after_leading_colon, after_namespace, is_legal_key, normal, shown}
 use Rattle.wk_text_rules.proofs.TitleLemmas.{to_nfc-is, nfc-ascii}
 use Rattle.wk_title.specs.Normal.{IsNormal}
 use Rattle.wk_title.specs.Placed.{placed_key}
-use Rattle.wk_title.specs.Shown.{with_space, shown_namespace}
+use Rattle.wk_title.specs.Shown.{with_space}
 use Rattle.wk_title.proofs.NormalLemmas.{title_from, placed_key_from, normal-Some, legal_parts}
 use Rattle.wk_title.proofs.SpacesLemmas.{with_spaces-encode, shown-parts, shown_named}
 use Rattle.wk_title_laws.proofs.Kept.{parts_colon}
 use Rattle.wk_title_laws.proofs.Fixed.{IsFixed, lacks, fixed_join, fixed-with_spaces}
 use Rattle.wk_title_laws.proofs.Gaps.{gaps_ok, gaps_ok-append, gaps_ok-weaker, squeezed-with_spaces, without_leading-kept}
 use Rattle.wk_title_laws.proofs.Keys.{IsKey, placed_by, after_namespace-by, key_is}
-use Rattle.wk_title_laws.proofs.Lists.{filter_all, take_while_all, take_while_at, list_all-weaker}
+use Rattle.wk_title_laws.proofs.Lists.{filter_all, take_while_all, list_all-weaker}
 use Rattle.wk_title_laws.proofs.Names.{is_plain, is_int, int_eq-true, int_eq-same, name_test, name_passes}
 use Rattle.wk_title_laws.proofs.Raised.{prefix_at}
 
@@ -98,9 +98,9 @@ in_main cs key ok legal =
     let plain = stays_plain (with_spaces cs) (fixed-with_spaces cs key.fixed) (plain-with_spaces cs key.plain) in
     let placed : (pos 0, cs) ≡ after_namespace (pos 0, cs) = sym (after_namespace-by (pos 0) cs ∙ ap (λ found. placed_by found (pos 0) cs) (key.uncalled refl)) in
     title_from text (pos 0) (pos 0) cs (
-      placed_key_from text (pos 0) (with_spaces cs) cs (pos 0, cs) (pos 0, cs) cs cs
-      (sym plain ∙ ap without_fragment (sym read)) (sym (squeezed-with_spaces cs key.gaps)) (no_colon_first cs legal) placed
-      (sym key.capital) (sym (to_nfc-is cs ∙ key.fixed))
+    placed_key_from text (pos 0) (with_spaces cs) cs (pos 0, cs) (pos 0, cs) cs cs
+    (sym plain ∙ ap without_fragment (sym read)) (sym (squeezed-with_spaces cs key.gaps)) (no_colon_first cs legal) placed
+    (sym key.capital) (sym (to_nfc-is cs ∙ key.fixed))
     ) legal
   where
     no_colon_first : (cs : List ℕ) → is_legal_key cs ≡ true → (pos 0, cs) ≡ after_leading_colon (pos 0, cs)
@@ -167,8 +167,8 @@ after_name ns cs name gaps =
     let whole = written ++ 58 ∷ cs in
     let found : option_and_then namespace_called (prefix_of whole) ≡ Some ns = ap (option_and_then namespace_called) (prefix_at written cs name.no_colon) ∙ name.called in
     sym (
-      after_namespace-by (pos 0) whole ∙ ap (λ o. placed_by o (pos 0) whole) found
-      ∙ ap (λ l. (ns, without_leading_underscores l)) (after_first_at written cs name.no_colon) ∙ ap (λ l. (ns, l)) (without_leading-kept cs gaps)
+    after_namespace-by (pos 0) whole ∙ ap (λ o. placed_by o (pos 0) whole) found
+    ∙ ap (λ l. (ns, without_leading_underscores l)) (after_first_at written cs name.no_colon) ∙ ap (λ l. (ns, l)) (without_leading-kept cs gaps)
     )
 
 named : (ns : ℤ) (cs : List ℕ) → HasName ns → IsKey ns cs → scalars cs ≡ true → is_legal_key cs ≡ true →
@@ -181,10 +181,10 @@ named ns cs name key ok legal =
     let form = front ++ 58 ∷ with_spaces cs in
     let colon_bytes : encode_utf8_all (58 ∷ with_spaces cs) ≡ 58 ∷ encode_utf8_all (with_spaces cs) = ap (λ l. l ++ encode_utf8_all (with_spaces cs)) (encode_ascii 58 (omega arith)) in
     let form_bytes : encode_utf8_all form ≡ front ++ 58 ∷ encode_utf8_all (with_spaces cs) =
-        encodes-append front (58 ∷ with_spaces cs) ∙ ap₂ (λ u v. u ++ v) (encodes-ascii front name.ascii) colon_bytes in
+    encodes-append front (58 ∷ with_spaces cs) ∙ ap₂ (λ u v. u ++ v) (encodes-ascii front name.ascii) colon_bytes in
     let bytes : text ≡ encode_utf8_all form =
-        shown-parts title ∙ ap₂ (λ u v. u ++ v) (shown_named ns front refl name.some) (with_spaces-encodes cs)
-        ∙ append_assoc front (58 ∷ []) (encode_utf8_all (with_spaces cs)) ∙ sym form_bytes in
+    shown-parts title ∙ ap₂ (λ u v. u ++ v) (shown_named ns front refl name.some) (with_spaces-encodes cs)
+    ∙ append_assoc front (58 ∷ []) (encode_utf8_all (with_spaces cs)) ∙ sym form_bytes in
     let form_scalars = scalars-append front (58 ∷ with_spaces cs) (scalars-ascii front name.ascii) (scalars-with_spaces cs ok) in
     let read = ap chars bytes ∙ chars-encodes form form_scalars in
     let fixed = fixed_join 58 parts_colon front (with_spaces cs) (nfc-ascii front name.ascii) (fixed-with_spaces cs key.fixed) in
@@ -193,9 +193,9 @@ named ns cs name key ok legal =
     let spaced : with_spaces (written ++ 58 ∷ cs) ≡ form = map-append with_space written (58 ∷ cs) ∙ ap (λ l. l ++ 58 ∷ with_spaces cs) name.spaced in
     let words = sym (ap squeezed (sym spaced) ∙ squeezed-with_spaces (written ++ 58 ∷ cs) gaps) in
     title_from text (pos 0) ns cs (
-      placed_key_from text (pos 0) form (written ++ 58 ∷ cs) (pos 0, written ++ 58 ∷ cs) (ns, cs) cs cs
-      (sym plain ∙ ap without_fragment (sym read)) words (first_of_name written cs name.no_colon name.gaps) (after_name ns cs name key.gaps)
-      (sym key.capital) (sym (to_nfc-is cs ∙ key.fixed))
+    placed_key_from text (pos 0) form (written ++ 58 ∷ cs) (pos 0, written ++ 58 ∷ cs) (ns, cs) cs cs
+    (sym plain ∙ ap without_fragment (sym read)) words (first_of_name written cs name.no_colon name.gaps) (after_name ns cs name key.gaps)
+    (sym key.capital) (sym (to_nfc-is cs ∙ key.fixed))
     ) legal
 
 -- ---- the law
@@ -239,7 +239,7 @@ is_title-same title = and_from _ _ (int_eq-same title.ns) ((bytes_decides title.
 pub normal_shown : (title : PageTitle) → IsUtf8 title.key → IsNormal title → normal (shown title) (pos 0) ≡ Some title
 normal_shown title utf8 some_text =
     is_title-true (normal (shown title) (pos 0)) title (
-      ∥∥₁_elim some_text (Bool-set _ _) (λ named.
-      let names = shown_names named.0 named.1 title utf8 named.2.default_is_namespace named.2.names in
-      ap (λ found. is_title found title) names ∙ is_title-same title)
+    ∥∥₁_elim some_text (Bool-set _ _) (λ named.
+    let names = shown_names named.0 named.1 title utf8 named.2.default_is_namespace named.2.names in
+    ap (λ found. is_title found title) names ∙ is_title-same title)
     )

@@ -1,6 +1,6 @@
 -- What stays of a text in Normalization Form C where its first letter of ASCII is made a capital.
-use Rattle.std.proofs.Common.{◌≡◌, ℕ, ℤ, ◌<◌, ◌≤◌, ◌+◌, Bool, true, false, not, ◌&&◌, ◌||◌, ◌==◌, nat_lt, List, [], ◌∷◌, ◌++◌, map, Option, Some, None, refl, sym, ap, ap₂, subst, ◌∙◌, inl, inr, arith, append_assoc, eqb-true}
-use Rattle.std.proofs.lemmas.Bool.{cases_Bool, and_parts, and_from, not-true, not_from_false, or_from, or_cases, or_right, cond-true, cond-false}
+use Rattle.std.proofs.Common.{◌≡◌, ℕ, ℤ, ◌<◌, true, false, not, ◌&&◌, ◌==◌, List, [], ◌∷◌, ◌++◌, map, Option, Some, None, refl, sym, ap, subst, ◌∙◌, inl, inr, arith, append_assoc, eqb-true}
+use Rattle.std.proofs.lemmas.Bool.{cases_Bool, and_parts, and_from, not-true, not_from_false, or_from, or_right, cond-true, cond-false}
 use Rattle.std.proofs.lemmas.Bool.Decides.{nat_tests}
 use borrow.Author.Tests.{ltb-true}
 use Rattle.std.proofs.lemmas.List.{append-nil}
@@ -8,7 +8,7 @@ use Rattle.std.proofs.lemmas.List.Sums.{AllPass-from_list_all}
 use Rattle.std.specs.Char.{is_ascii, to_ascii_lowercase}
 use Rattle.std.specs.List.{list_all, list_any, before_first}
 use Rattle.std.specs.Option.{option_and_then}
-use Rattle.ucd_normal.specs.declared.forms.Form.TheVariants.{Nfd, Nfc}
+use Rattle.ucd_normal.specs.declared.forms.Form.TheVariants.{Nfd}
 use Rattle.unicode_normalization.specs.Forms.{decomposed, nfd, nfc}
 use Rattle.unicode_normalization.proofs.ComposeLemmas.{list_all-push}
 use Rattle.unicode_normalization.proofs.FormsLemmas.{normalize-Nfd, decomposed-passing, normalize-ascii, nfd-nfc, nfc-nfd}
@@ -16,7 +16,7 @@ use Rattle.wk_text_rules.specs.Titles.{is_colon, is_underscore, prefix_of, names
 use Rattle.wk_text_rules.proofs.TitleLemmas.{nfc-ascii}
 use Rattle.wk_title.proofs.Squeeze.{is_space}
 use Rattle.wk_title_laws.proofs.Tables.{is_special}
-use Rattle.wk_title_laws.proofs.Kept.{nfc_keeps, Parts, parts_colon, parts_underscore, nfc-parted, BeginsLike, nfc-begins, starter-ascii, final-ascii}
+use Rattle.wk_title_laws.proofs.Kept.{nfc_keeps, parts_colon, parts_underscore, nfc-parted, nfc-begins, starter-ascii, final-ascii}
 use Rattle.wk_title_laws.proofs.Fixed.{IsFixed, lacks, lacks_spaces, nfc_lacks, fixed_cut, lacks_from}
 use Rattle.wk_title_laws.proofs.Gaps.{gaps_ok, gaps_ok-first_word}
 use Rattle.wk_title_laws.proofs.Lists.{take_while_at}
@@ -47,8 +47,8 @@ gaps-raised c x pre (d ∷ ds) small before after fixed gaps = elim (cases_Bool 
       let gaps_at : gaps_ok true (95 ∷ ds) ≡ true = subst (λ y. gaps_ok true (y ∷ ds) ≡ true) same gaps in
       let back = (fixed_cut 95 parts_underscore (c ∷ pre) ds (lacks_from 95 (c ∷ pre) refl before) fixed_at).1 in
       subst (λ y. gaps_ok false (nfc (x ∷ (pre ++ y ∷ ds))) ≡ true) (sym same) (
-        ap (gaps_ok false) (nfc-parted 95 parts_underscore (x ∷ pre) ds ∙ ap (λ l. nfc (x ∷ pre) ++ 95 ∷ l) back)
-        ∙ gaps_ok-nfc_word x pre (95 ∷ ds) small after ∙ gaps_at
+      ap (gaps_ok false) (nfc-parted 95 parts_underscore (x ∷ pre) ds ∙ ap (λ l. nfc (x ∷ pre) ++ 95 ∷ l) back)
+      ∙ gaps_ok-nfc_word x pre (95 ∷ ds) small after ∙ gaps_at
       )
   | inr other ↦
       let rest : (not (d == 32) && gaps_ok true ds) ≡ true = rw other at gaps in
@@ -56,8 +56,8 @@ gaps-raised c x pre (d ∷ ds) small before after fixed gaps = elim (cases_Bool 
       let no_space = not_from_false (is_space d) (or_from (d == 32) (d == 95) (not-true _ parts.0) other) in
       let longer = append_assoc pre (d ∷ []) ds in
       subst (λ l. gaps_ok false (nfc (x ∷ l)) ≡ true) longer (
-        gaps-raised c x (pre ++ d ∷ []) ds small (list_all-push (λ y. not (is_space y)) (c ∷ pre) d before no_space) (list_all-push (λ y. not (is_space y)) (x ∷ pre) d after no_space)
-        (subst (λ l. IsFixed (c ∷ l)) (sym longer) fixed) parts.1
+      gaps-raised c x (pre ++ d ∷ []) ds small (list_all-push (λ y. not (is_space y)) (c ∷ pre) d before no_space) (list_all-push (λ y. not (is_space y)) (x ∷ pre) d after no_space)
+      (subst (λ l. IsFixed (c ∷ l)) (sym longer) fixed) parts.1
       )
 ]
 
@@ -75,7 +75,7 @@ ascii_raised c x cs first small fixed ascii =
     let whole : nfc (x ∷ cs) ≡ x ∷ parts = sym (nfd-ascii (nfc (x ∷ cs)) ascii) ∙ nfd-nfc (x ∷ cs) ∙ nfd-first x cs small in
     let rest_ascii : list_all is_ascii parts ≡ true = (and_parts (is_ascii x) (list_all is_ascii parts) (ap (list_all is_ascii) (sym whole) ∙ ascii)).1 in
     let before : c ∷ cs ≡ c ∷ parts =
-        sym fixed ∙ sym (nfc-nfd (c ∷ cs)) ∙ ap nfc (nfd-first c cs (ltb-true c 128 first)) ∙ nfc-ascii (c ∷ parts) (and_from _ _ first rest_ascii) in
+    sym fixed ∙ sym (nfc-nfd (c ∷ cs)) ∙ ap nfc (nfd-first c cs (ltb-true c 128 first)) ∙ nfc-ascii (c ∷ parts) (and_from _ _ first rest_ascii) in
     let same : cs ≡ parts = cc in
     whole ∙ ap (λ l. x ∷ l) (sym same)
 
@@ -135,15 +135,15 @@ uncalled-raised c x pre (d ∷ ds) r before after fixed none = elim (cases_Bool 
       let front = (fixed_cut 58 parts_colon (c ∷ pre) ds before fixed_at).0 in
       let uncalled = ap (option_and_then namespace_called) (sym (prefix_at (c ∷ pre) ds before)) ∙ none_at in
       subst (λ y. IsUncalled (nfc (x ∷ (pre ++ y ∷ ds)))) (sym same) (
-        ap (λ l. option_and_then namespace_called (prefix_of l)) (nfc-parted 58 parts_colon (x ∷ pre) ds)
-        ∙ ap (option_and_then namespace_called) (prefix_at (nfc (x ∷ pre)) (nfc ds) (nfc_lacks 58 parts_colon (x ∷ pre) after))
-        ∙ called-raised c x pre r front uncalled _ refl
+      ap (λ l. option_and_then namespace_called (prefix_of l)) (nfc-parted 58 parts_colon (x ∷ pre) ds)
+      ∙ ap (option_and_then namespace_called) (prefix_at (nfc (x ∷ pre)) (nfc ds) (nfc_lacks 58 parts_colon (x ∷ pre) after))
+      ∙ called-raised c x pre r front uncalled _ refl
       )
   | inr other ↦
       let no_colon = not_from_false _ other in
       let longer = append_assoc pre (d ∷ []) ds in
       subst (λ l. IsUncalled (nfc (x ∷ l))) longer (
-        uncalled-raised c x (pre ++ d ∷ []) ds r (list_all-push (λ y. not (y == 58)) (c ∷ pre) d before no_colon) (list_all-push (λ y. not (y == 58)) (x ∷ pre) d after no_colon)
-        (subst (λ l. IsFixed (c ∷ l)) (sym longer) fixed) (subst (λ l. IsUncalled (c ∷ l)) (sym longer) none)
+      uncalled-raised c x (pre ++ d ∷ []) ds r (list_all-push (λ y. not (y == 58)) (c ∷ pre) d before no_colon) (list_all-push (λ y. not (y == 58)) (x ∷ pre) d after no_colon)
+      (subst (λ l. IsFixed (c ∷ l)) (sym longer) fixed) (subst (λ l. IsUncalled (c ∷ l)) (sym longer) none)
       )
 ]

@@ -1,7 +1,6 @@
 -- Facts about Unicode's tables that the law of titles stands on, each shown by a computation.
-use Rattle.std.proofs.Common.{◌≡◌, ℕ, Bool, true, false, not, ◌&&◌, ◌||◌, ◌==◌, nat_lt, List, [], ap, refl, ◌∙◌}
+use Rattle.std.proofs.Common.{◌≡◌, ℕ, Bool, true, false, not, ◌&&◌, ◌||◌, ◌==◌, nat_lt, [], ap, refl, ◌∙◌}
 use Rattle.std.specs.List.{list_all}
-use Rattle.ucd_table.proofs.Stepped.{Stepped}
 use Rattle.ucd_table.proofs.Facts.{tree_value, tree_of, tree_value-tree_of}
 use Rattle.ucd_table.proofs.RangedFacts.{points_ok, values_ok, Stepped-at_points}
 use Rattle.ucd_table.proofs.Computing.{tables}

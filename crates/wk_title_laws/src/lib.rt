@@ -10,8 +10,7 @@ use wk_title::Title;
 /// Where some text names a title whose key is UTF-8, the title's shown form names it too, with main as the default.
 pub fn shown_form_names_its_title()
     ensures { (text : List ℕ) (default_ns : ℤ) (title : PageTitle) → IsUtf8 title.key → is_namespace default_ns ≡ true → normal text default_ns ≡ Some title → normal (shown title) (pos 0) ≡ Some title }
-{
-}
+{}
 
 /// The shown form of a `Title` names it, with main as the default.
 pub fn shown_normalizes(title: &Title)
