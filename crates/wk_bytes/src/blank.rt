@@ -18,7 +18,8 @@ fn trim_start(bytes: &[u8]) -> &[u8]
     &bytes[start..]
 }
 
-fn trim_end(bytes: &[u8]) -> &[u8]
+/// The bytes without the blank bytes at the end. Takes no memory.
+pub fn trim_end(bytes: &[u8]) -> &[u8]
     ensures { result.now ≡ trimmed_end bytes.now }
 {
     let mut end = bytes.len();
@@ -33,4 +34,22 @@ pub fn trim(bytes: &[u8]) -> &[u8]
     ensures { result.now ≡ trimmed bytes.now }
 {
     trim_end(trim_start(bytes))
+}
+
+#[cfg(test)]
+mod tests {
+    use super::*;
+
+    #[test]
+    fn trims_four_blank_bytes_only(rt: HostRuntime) {
+        for (bytes, trimmed) in [
+            (" \t\r\n a b\n\t", "a b"),
+            ("\u{c}a\u{b}", "\u{c}a\u{b}"),
+            ("\u{a0}", "\u{a0}"),
+            (" \n", ""),
+            ("", ""),
+        ] {
+            assert_eq!(rt; trim(bytes.as_bytes()), trimmed.as_bytes(), "at {bytes:?}");
+        }
+    }
 }

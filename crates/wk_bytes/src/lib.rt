@@ -2,9 +2,11 @@
 #![tactic(auto)]
 
 mod blank;
+mod lines;
 mod number;
 mod text;
 
-pub use blank::trim;
+pub use blank::{trim, trim_end};
+pub use lines::{Line, LineCutter};
 pub use number::decimal;
 pub use text::Text;

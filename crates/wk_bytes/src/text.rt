@@ -1,6 +1,5 @@
 //! Text that is shared and doesn't change.
-ghost use Rattle.std.specs.Prelude.{◌≡◌, ℕ, ◌^◌, ◌<◌, ◌↔◌, [], length, IsTrue, IfOk};
-ghost use Rattle.std.specs.Prelude.{Some, nat_eq, refl};
+ghost use Rattle.std.specs.Prelude.{◌≡◌, ◌^◌, ◌<◌, ◌↔◌, [], length, IsTrue, IfOk, Some, nat_eq, refl};
 ghost use Rattle.std.specs.Str.{IsUtf8};
 ghost use Rattle.std.specs.Ordering.{nat_cmp};
 ghost use Rattle.std.specs.Hash as fed;
@@ -27,7 +26,6 @@ pub struct Text {
 
 impl Model for Text {
     ghost use Rattle.std.specs.Prelude.{ℕ, ◌^◌, ◌<◌, List, length};
-    ghost use Rattle.std.specs.Str.{IsUtf8};
     ghost use Rattle.std.specs.String.{string_bytes};
     ghost use Rattle.std.specs.Arc.{arc_value};
 
@@ -134,5 +132,34 @@ impl Hash for Text {
 impl fmt::Debug for Text {
     fn fmt<W: fmt::Write>(&self, f: &mut fmt::Formatter<W>) -> fmt::Result {
         fmt::Debug::fmt(&self.as_str(), f)
+    }
+}
+
+#[cfg(test)]
+mod tests {
+    use super::*;
+    use std::test::Fail;
+    use std::thread;
+
+    #[test]
+    fn is_shared_between_threads(rt: HostRuntime) -> Result<(), Fail> {
+        let text = Text::new(rt.alloc(), "Zürich")?;
+        let other = text.share()?;
+        let (mine, theirs) = thread::join(&rt, || text.len(), move || other);
+        assert_eq!(rt; mine, 7);
+        assert_eq!(rt; theirs.as_str(), "Zürich");
+        assert_eq!(rt; theirs, text);
+        Ok(())
+    }
+
+    #[test]
+    fn is_ordered_and_printed_as_its_bytes(rt: HostRuntime) -> Result<(), Fail> {
+        let alloc = rt.alloc();
+        let a = Text::new(alloc, "a\"b")?;
+        let z = Text::new(alloc, "Z")?;
+        assert!(rt; z < a);
+        assert!(rt; !a.is_empty());
+        assert_eq!(rt; format!(in alloc; "{a:?}")?.as_str(), "\"a\\\"b\"");
+        Ok(())
     }
 }

@@ -6,5 +6,4 @@ ghost use Rattle.wk_text_rules.specs.Titles.{normal, shown};
 pub fn namespaces()
     ensures other { normal (codes "") (pos 0) ≡ None }
     ensures fragment { normal (codes " talk : foo  bar#x") (pos 0) ≡ Some (record { ns = pos 1; key = codes "Foo_bar" }) }
-{
-}
+{}

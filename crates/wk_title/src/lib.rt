@@ -10,6 +10,7 @@ mod rules;
 mod tests;
 mod title;
 
+pub use characters::to_nfc;
 pub use namespace::{is_namespace, namespace_name};
 pub use rules::{normalize, shown};
 pub use title::{Title, TitleRefusal, order_is_by_namespace_then_key};

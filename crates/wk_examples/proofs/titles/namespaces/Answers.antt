@@ -1,6 +1,5 @@
 use Rattle.std.proofs.Common.{refl}
 use Rattle.wk_text_rules.specs.Computing.{computing}
-use Rattle.unicode_normalization.proofs.Computing.{unicode_normalization}
 use Rattle.wk_examples.proofs.titles.namespaces.Goals as goal
 
 pub returns-clause-fragment : goal.returns-clause-fragment

@@ -1,0 +1,2 @@
+mod ReadFront
+mod TakenBytes

@@ -1,0 +1,11 @@
+-- What a write took follows what was taken before it.
+use Rattle.std.proofs.Common.{arith}
+use Rattle.wk_base.proofs.TakenBytes.{Appends-more}
+use Rattle.wk_base.proofs.writing.write_all.Goals as goal
+
+pub writes-preserved : goal.writes-preserved
+writes-preserved g c = record {
+  in_range = omega (arith, c.in_ok-at.ensures.count.1);
+  taken = Appends-more _ _ _ _ _ _ c.writes.invariant.taken c.in_ok-at.ensures.bytes;
+  never_falls = omega (arith, c.write.ensures.never_falls);
+}

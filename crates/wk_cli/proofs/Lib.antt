@@ -1,0 +1,4 @@
+pub mod EditLines
+pub mod Reading
+pub mod Refusals
+pub mod RunSteps

@@ -1,0 +1,6 @@
+use Rattle.wk_bytes.specs.Line.{line_in}
+use Rattle.wk_cli.proofs.RunSteps.{nothing_first, all_first, all_answered}
+use Rattle.wk_cli.proofs.run.Run.serve_line.Goals as goal
+
+pub returns-in-Err-clause-err : goal.returns-in-Err-clause-err
+returns-in-Err-clause-err g c = nothing_first _ _ _ _ _ c.in-Err.ensures.err.1

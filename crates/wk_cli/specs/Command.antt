@@ -1,0 +1,22 @@
+-- The words of the program, and its statuses (own).
+use Rattle.std.specs.Prelude.{◌≡◌, ℕ, Bool, false, List, [], ◌∷◌, bytes_eq, codes, String, string_bytes, Option}
+use Rattle.std.specs.declared.alloc.Global.{Global}
+
+-- the program's name, and `script`
+abbrev pub is_script_command : List (String Global) → Bool
+is_script_command (name ∷ command ∷ []) = bytes_eq (string_bytes command) (codes "script")
+is_script_command words = false
+
+-- the statuses that come, and those of a run that was cut short
+abbrev pub statuses : List ℕ
+statuses = 0 ∷ 1 ∷ 2 ∷ 3 ∷ 4 ∷ 9 ∷ []
+
+abbrev pub cut_statuses : List ℕ
+cut_statuses = 1 ∷ 3 ∷ 4 ∷ 9 ∷ []
+
+-- nothing was read, no moment taken and nothing written
+pub record IsUntouched (rest later_rest left later taken more_taken : Option (List ℕ)) (points : List ℕ) : Type 0 where
+  pub input : later_rest ≡ rest
+  pub clock : later ≡ left
+  pub output : more_taken ≡ taken
+  pub nothing : points ≡ []

@@ -1,0 +1,6 @@
+pub mod Command
+pub mod Lines
+pub mod Refusals
+pub mod Runs
+pub mod Shown
+pub mod Stop

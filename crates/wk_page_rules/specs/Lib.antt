@@ -1,0 +1,4 @@
+pub mod Computing
+pub mod Kept
+pub mod History
+pub mod Verdict

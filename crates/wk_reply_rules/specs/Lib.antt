@@ -1,0 +1,3 @@
+pub mod EditLine
+pub mod Replies
+pub mod Script

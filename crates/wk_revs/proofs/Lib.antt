@@ -1,0 +1,2 @@
+pub mod BlankEnds
+pub mod PageLaws

@@ -1,0 +1,5 @@
+pub mod Edit
+pub mod Revs
+pub mod Verdict
+pub use Rattle.wk_page_rules.specs.History
+pub use Rattle.wk_page_rules.specs.Kept

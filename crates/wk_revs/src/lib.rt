@@ -1,0 +1,17 @@
+//! The revisions and pages of a wiki, and the verdict on an edit of them.
+#![tactic(auto)]
+
+mod edit;
+mod kept_text;
+mod pages;
+mod revisions;
+mod revs;
+#[cfg(test)]
+mod tests;
+mod verdict;
+
+pub use edit::{Edit, Limits};
+pub use kept_text::kept;
+pub use revs::Revs;
+pub use verdict::{SaveRefusal, Verdict};
+pub use wk_page_rules::Limit;

@@ -1,0 +1,213 @@
+ghost use Rattle.std.specs.Prelude.{◌≤◌};
+ghost use Rattle.wk_revs.specs.Revs.{max_pages};
+
+use crate::{Edit, Limit, Limits, Revs, SaveRefusal, Verdict, kept};
+use std::alloc::Global;
+use std::test::Fail;
+use wk_memory::Memory;
+
+/// What came of an edit that was judged, and saved where it could be.
+#[derive(Debug, Drop, PartialEq)]
+enum Outcome {
+    Saved(u64),
+    Same,
+    Refused(SaveRefusal),
+}
+
+fn edit(alloc: Global, title: &str, body: Option<&str>, base: Option<u64>) -> Result<Edit, Memory> {
+    let title = String::from_str(alloc, title)?;
+    let body = match body {
+        Some(text) => Some(String::from_str(alloc, text)?),
+        None => None,
+    };
+    Ok(Edit {
+        title,
+        body,
+        base,
+        create_only: false,
+        no_create: false,
+    })
+}
+
+fn save(
+    alloc: Global,
+    revs: &mut Revs,
+    edit: &Edit,
+    limits: &Limits,
+    now: u64,
+) -> Result<Outcome, Memory>
+    requires { limits.now.pages ≤ max_pages }
+{
+    revs.make_room(1)?;
+    match revs.judge(alloc, edit, limits)? {
+        Verdict::Accept(title, text) => Ok(Outcome::Saved(revs.add(title, text, now))),
+        Verdict::NoChange(_) => Ok(Outcome::Same),
+        Verdict::Refuse(refusal) => Ok(Outcome::Refused(refusal)),
+    }
+}
+
+fn conflict(current: u64) -> Outcome {
+    Outcome::Refused(SaveRefusal::EditConflict { current })
+}
+
+#[test]
+fn edits_conflict_exactly_where_their_base_is_not_current(rt: HostRuntime) -> Result<(), Fail> {
+    let alloc = rt.alloc();
+    let mut revs = Revs::new(alloc);
+    for (title, body, base, want) in [
+        ("a_b", Some("1"), None, Outcome::Saved(1)),
+        ("A b", Some("2\r\n"), Some(1), Outcome::Saved(2)),
+        ("A b", Some("3"), Some(1), conflict(2)),
+        ("A b", Some("2"), None, Outcome::Same),
+        ("A b", Some("2"), Some(1), conflict(2)),
+        ("B", Some("b"), Some(0), Outcome::Saved(3)),
+        ("B", Some("c"), Some(0), conflict(3)),
+        ("A b", None, Some(2), Outcome::Saved(4)),
+        (
+            "A b",
+            None,
+            None,
+            Outcome::Refused(SaveRefusal::MissingTitle),
+        ),
+        ("A b", Some("4"), Some(4), conflict(0)),
+        ("A b", Some("4"), Some(0), Outcome::Saved(5)),
+        (
+            "Special:X",
+            Some("5"),
+            None,
+            Outcome::Refused(SaveRefusal::InvalidTitle),
+        ),
+    ] {
+        let edit = edit(alloc, title, body, base)?;
+        let got = save(alloc, &mut revs, &edit, &Limits::FULL, 7)?;
+        assert_eq!(rt; got, want, "{title} {body:?} {base:?}");
+    }
+    Ok(())
+}
+
+/// An edit with a text of so many bytes.
+fn edit_of_size(
+    alloc: Global,
+    title: &str,
+    bytes: usize,
+    base: Option<u64>,
+) -> Result<Edit, Memory> {
+    let body = "x".repeat(alloc, bytes)?;
+    edit(alloc, title, Some(body.as_str()), base)
+}
+
+#[test]
+fn the_first_refusal_that_applies_is_given(rt: HostRuntime) -> Result<(), Fail> {
+    let alloc = rt.alloc();
+    let mut revs = Revs::new(alloc);
+    let one = Limits {
+        pages: 1,
+        revisions: 1,
+        text: 1,
+        journal: 0,
+    };
+    let two = Limits {
+        revisions: 2,
+        ..one
+    };
+    let three = Limits { text: 3, ..two };
+    for (title, bytes, base, create_only, no_create, limits, want) in [
+        ("A", 1, None, true, false, one, Outcome::Saved(1)),
+        (
+            "|",
+            2_097_153,
+            Some(9),
+            true,
+            false,
+            one,
+            Outcome::Refused(SaveRefusal::InvalidTitle),
+        ),
+        (
+            "A",
+            2_097_153,
+            Some(9),
+            true,
+            false,
+            one,
+            Outcome::Refused(SaveRefusal::ContentTooBig),
+        ),
+        (
+            "A",
+            1,
+            Some(9),
+            true,
+            false,
+            one,
+            Outcome::Refused(SaveRefusal::ArticleExists),
+        ),
+        (
+            "B",
+            1,
+            Some(9),
+            false,
+            true,
+            one,
+            Outcome::Refused(SaveRefusal::MissingTitle),
+        ),
+        ("A", 1, Some(9), false, true, one, conflict(1)),
+        ("A", 1, Some(1), false, true, one, Outcome::Same),
+        (
+            "B",
+            2,
+            Some(0),
+            true,
+            false,
+            one,
+            Outcome::Refused(SaveRefusal::WikiFull(Limit::Pages)),
+        ),
+        (
+            "A",
+            2,
+            Some(1),
+            false,
+            true,
+            one,
+            Outcome::Refused(SaveRefusal::WikiFull(Limit::Revisions)),
+        ),
+        (
+            "A",
+            2,
+            Some(1),
+            false,
+            true,
+            two,
+            Outcome::Refused(SaveRefusal::WikiFull(Limit::Text)),
+        ),
+        ("A", 2, Some(1), false, true, three, Outcome::Saved(2)),
+        (
+            "B",
+            2_097_152,
+            None,
+            false,
+            false,
+            Limits::FULL,
+            Outcome::Saved(3),
+        ),
+    ] {
+        let mut edit = edit_of_size(alloc, title, bytes, base)?;
+        edit.create_only = create_only;
+        edit.no_create = no_create;
+        assert!(rt; limits.pages <= 1_000_000);
+        let got = save(alloc, &mut revs, &edit, &limits, 7)?;
+        assert_eq!(rt; got, want, "{title} {bytes} {base:?}");
+    }
+    Ok(())
+}
+
+#[test]
+fn a_kept_text_has_newlines_alone_and_no_blank_end(rt: HostRuntime) -> Result<(), Fail> {
+    for (text, want) in [
+        ("a\r\n\r\rb\n\t \r", "a\n\n\nb"),
+        ("e\u{301}\n", "\u{e9}"),
+        (" \r\n", ""),
+    ] {
+        let kept = kept(rt.alloc(), text)?;
+        assert_eq!(rt; kept.as_str(), want, "{text:?}");
+    }
+    Ok(())
+}

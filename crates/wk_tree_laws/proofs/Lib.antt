@@ -1,0 +1,15 @@
+pub mod AtomLemmas
+pub mod CutLemmas
+pub mod ListLemmas
+pub mod OnePassLemmas
+pub mod PieceLemmas
+pub mod PlaceLemmas
+pub mod ReductionLemmas
+pub mod SelectionLemmas
+pub mod ShapeLemmas
+pub mod SpanLemmas
+pub mod StepLemmas
+pub mod TextAtomLemmas
+pub mod TextShapeLemmas
+pub mod TextTreeLemmas
+pub mod TreeLemmas
