@@ -1,0 +1,10 @@
+pub mod Fixed
+pub mod Gaps
+pub mod Kept
+pub mod Keys
+pub mod Law
+pub mod Lists
+pub mod Names
+pub mod Raised
+pub mod Tables
+pub mod Trims
