@@ -4,3 +4,6 @@ pub mod Pages
 pub mod Spelled
 pub mod Stores
 pub mod Wikis
+pub mod Saves
+pub mod Answers
+pub mod Edits
