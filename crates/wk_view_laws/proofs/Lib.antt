@@ -3,6 +3,7 @@ pub mod ExpandCosts
 pub mod OrderLemmas
 pub mod PlanLemmas
 pub mod RedirectLemmas
+pub mod RoundLemmas
 pub mod RowLemmas
 pub mod SeenLemmas
 pub mod TitleLemmas

@@ -146,7 +146,7 @@ agrees-itself a (asks title kind more) before h = go (ask a title kind) refl (λ
 -- ---- the same end over another source
 
 -- where a source is asked what another one answered, with the later reads known to agree, it answers the same
-answers_alike : {A : Type 0} (a b : Source) (title : PageTitle) (kind : Kind) (p : Plan A) (before : List Read) (answer : Answer) → Agrees a before → ask a title kind ≡ Some answer → Agrees b (reads_of (run a p (noted before (record { title = title; kind = kind; answer = answer })))) → ask b title kind ≡ Some answer
+pub answers_alike : {A : Type 0} (a b : Source) (title : PageTitle) (kind : Kind) (p : Plan A) (before : List Read) (answer : Answer) → Agrees a before → ask a title kind ≡ Some answer → Agrees b (reads_of (run a p (noted before (record { title = title; kind = kind; answer = answer })))) → ask b title kind ≡ Some answer
 answers_alike a b title kind p before answer agrees e later =
     let r : Read = record { title = title; kind = kind; answer = answer } in
     let noted_b : Agrees b (noted before r) = agrees-run b a p (noted before r) later in

@@ -45,14 +45,14 @@ rows-missing pages page e = rw (e, title_eq-same page) refl
 
 -- ---- how many reads there are
 
-length-noted : (before : List Read) (r : Read) → length (noted before r) ≤ suc (length before)
+pub length-noted : (before : List Read) (r : Read) → length (noted before r) ≤ suc (length before)
 length-noted before r = elim (cases_Bool (list_any (is_read_of r.title r.kind) before)) [
   | inl there ↦ rw there (omega arith)
   | inr missing ↦ rw (missing, length-append) (omega arith)
 ]
 
 -- what was counted so far is at most the node budget
-paid-most : {A : Type 0} (p : Plan (A × Progress)) (base : ℕ) (tested : List PageTitle) → EndsPaid base tested p → base ≤ most_nodes
+pub paid-most : {A : Type 0} (p : Plan (A × Progress)) (base : ℕ) (tested : List PageTitle) → EndsPaid base tested p → base ≤ most_nodes
 paid-most (gives (x, progress)) base tested h = omega (arith, h.0, h.1.limits.nodes)
 paid-most (asks title kind more) base tested h =
     let later : suc base ≤ most_nodes = paid-most (more (existence false)) (suc base) (tested_with title kind tested) (h.1 (existence false)) in

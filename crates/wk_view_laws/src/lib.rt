@@ -13,13 +13,14 @@ ghost use Rattle.wk_view_rules.specs.Frames.{Frame};
 ghost use Rattle.wk_view_rules.specs.Plans.{Plan, and_then, done, need, run, reads_of, IsDone, NeedsOrReads};
 ghost use Rattle.wk_view_rules.specs.Rows.{rows, no_rows, names_text, names_both, titles_read};
 ghost use Rattle.wk_view_rules.specs.Views.{Expanded, view, reads, shown_text};
-ghost use Rattle.wk_view_rules.specs.Worlds.{World, PageText, Source, Read, Seen, of_world, of_seen, is_read_of, Agrees, IsSeen};
+ghost use Rattle.wk_view_rules.specs.Worlds.{World, PageText, Source, Answer, Read, Seen, of_world, of_seen, ask, is_read_of, Agrees, IsSeen};
 ghost use Rattle.wk_view_rules.specs.declared.Kind.{Kind};
 ghost use Rattle.wk_view_rules.specs.declared.Kind.TheVariants.{Include, Exists};
 ghost use Rattle.wk_view_laws.specs.Changes.{DifferOnlyAt};
 ghost use Rattle.wk_view_laws.specs.Inclusions.{MeetsRedirect, redirect_charged, redirect_noted};
 ghost use Rattle.wk_view_laws.specs.Limits.{IsWithinLimits};
 ghost use Rattle.wk_view_laws.specs.Plans.{goes_on};
+ghost use Rattle.wk_view_laws.specs.Rounds.{rounds};
 ghost use Rattle.wk_view_laws.specs.Titles.{RowsAreInOrder, RowsHavePageTitles};
 
 /// An expansion that is done over one source is the same over each source that gives its reads the same answers.
@@ -47,6 +48,21 @@ pub fn needed_by_the_reads_alone()
     ensures plan { (a b : Source) (p : Plan Expanded) (wanted : PageTitle) (kind : Kind) (seen : List Read)
         → run a p [] ≡ need wanted kind seen → Agrees b seen
         → NeedsOrReads wanted kind seen (run b p []) }
+{}
+
+/// What a source needs it doesn't answer: of a list of answers, the pair isn't in the list.
+pub fn needs_are_unanswered()
+    ensures view { (a : Source) (page wanted : PageTitle) (kind : Kind) (seen : List Read)
+        → view a page ≡ need wanted kind seen → ask a wanted kind ≡ None }
+    ensures text { (a : Source) (page wanted : PageTitle) (text : List ℕ) (kind : Kind) (seen : List Read)
+        → shown_text a page text ≡ need wanted kind seen → ask a wanted kind ≡ None }
+{}
+
+/// A view that begins with nothing seen, and is given the answer that it needs in each round, is done after at most
+/// 1,000,001 rounds, whatever the answers are.
+pub fn rounds_come_to_an_end()
+    ensures { (answers : ℕ → PageTitle → Kind → Answer) (page : PageTitle)
+        → IsDone (view (of_seen (rounds answers page 1000001)) page) }
 {}
 
 /// A plan behind another is met where the first one ended: with its value and its reads.
