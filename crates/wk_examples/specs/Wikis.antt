@@ -254,7 +254,7 @@ restart_1 = record {
 abbrev pub restart_2 : State
 restart_2 = with_refreshes restart_1 (held 1 1 2 ∷ [])
 
--- after the restart
+-- after the restart and the claim behind it
 abbrev pub restart_3 : State
 restart_3 = with_refreshes restart_1 (held 1 1 1 ∷ [])
 

@@ -110,10 +110,11 @@ pub fn covered_pages()
     ensures queued { is_covered three 3 no_links ≡ true }
     ensures claimed { is_covered (claimed_by three 9) 7 no_links ≡ true }
     ensures below_the_page { is_covered two_fans 4 (includes title_t) ≡ true }
-    ensures cursor_at_the_page { is_covered two_fans 3 (tests title_t) ≡ true }
+    ensures cursor_at_the_page { is_covered (fan_moved (fan_set no_jobs title_t Text) 4) 4 (includes title_t)
+        ≡ false }
     ensures not_reached { is_covered (fan_moved (fan_set no_jobs title_t Text) 3) 4 (tests title_t)
         ≡ false }
-    ensures served_already { is_covered (fan_moved (fan_set no_jobs title_t Text) 4) 4 (includes title_t)
+    ensures served_already { is_covered (fan_moved (fan_set no_jobs title_t Text) 4) 3 (includes title_t)
         ≡ false }
 {}
 

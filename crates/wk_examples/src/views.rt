@@ -1,7 +1,10 @@
 //! What texts and pages expand to, and what is read. Worlds are written as `specs/Pages.antt` says.
 ghost use Rattle.std.specs.Prelude.{◌≡◌, codes, ◌∷◌, [], ◌++◌, pos, Some, length, replicate};
 ghost use Rattle.wk_view_rules.specs.declared.Kind.TheVariants.{View, Include, Exists};
-ghost use Rattle.wk_view_rules.specs.Plans.{done, need};
+ghost use Rattle.wk_text_rules.specs.Marked.{all_plain};
+ghost use Rattle.wk_view_rules.specs.Expansions.{argument_within_limit, charged, give, inclusion_within_limit, no_progress, with_argument, with_include, with_nodes};
+ghost use Rattle.wk_view_rules.specs.Plans.{done, gives, need};
+ghost use Rattle.wk_view_rules.specs.Texts.{argument_error, link_text, node_error};
 ghost use Rattle.wk_view_rules.specs.Views.{view, shown_text};
 ghost use Rattle.wk_view_rules.specs.Worlds.{of_seen, page};
 ghost use Rattle.wk_examples.specs.Pages.{given, given_counters, given_reads, viewed, viewed_reads, pages, only, api, titled, chain_of_templates, a_hundred_and_one, existence_tests, in_arguments, times};
@@ -189,7 +192,7 @@ pub fn switches()
         ≡ (Include, codes "Template:C", 0) ∷ (Include, codes "Template:E", 0) ∷ [] }
 {}
 
-/// `#ifexist`: what is read, and at most a hundred titles.
+/// `#ifexist`: what it gives, what is read, and which tests count.
 pub fn existence()
     ensures there { given (only (codes "Q") (codes "")) (codes "{{#ifexist:Q|y|n}}") ≡ codes "y" }
     ensures missing { given (pages []) (codes "{{#ifexist:Q|y|n}}") ≡ codes "n" }
@@ -214,6 +217,28 @@ pub fn a_hundred_tests()
         ≡ replicate 100 121 ++ codes "ny" }
     ensures reads { length
         (given_reads a_hundred_and_one (existence_tests 101 ++ codes "{{#ifexist:A1|y|n}}")) ≡ 100 }
+{}
+
+/// What just reaches a limit passes, and what would go above it doesn't: a million nodes, and 2,097,152 bytes.
+pub fn limits_are_reached_and_not_passed()
+    ensures last_node { charged 1 (give []) (with_nodes 999999 no_progress)
+        ≡ gives ([], with_nodes 1000000 no_progress) }
+    ensures no_node_left { charged 1 (give []) (with_nodes 1000000 no_progress)
+        ≡ gives (node_error, with_nodes 1000000 no_progress) }
+    ensures too_few_nodes_left { charged 2 (give []) (with_nodes 999999 no_progress)
+        ≡ gives (node_error, with_nodes 1000000 no_progress) }
+    ensures last_byte_of_arguments { argument_within_limit (all_plain (codes "a"))
+        (with_argument 2097151 no_progress)
+        ≡ gives (all_plain (codes "a"), with_argument 2097152 no_progress) }
+    ensures too_many_bytes_of_arguments { argument_within_limit (all_plain (codes "ab"))
+        (with_argument 2097151 no_progress)
+        ≡ gives (argument_error, with_argument 2097151 no_progress) }
+    ensures last_byte_of_inclusions { inclusion_within_limit api (all_plain (codes "a"))
+        (with_include 2097151 no_progress)
+        ≡ gives (all_plain (codes "a"), with_include 2097152 no_progress) }
+    ensures too_many_bytes_of_inclusions { inclusion_within_limit api (all_plain (codes "ab"))
+        (with_include 2097151 no_progress)
+        ≡ gives (link_text api, with_include 2097151 no_progress) }
 {}
 
 /// A template as it is used: a box with names, conditions and a switch.

@@ -1,4 +1,4 @@
--- Which pages a job will see to (own).
+-- Which pages a job covers, so that their link rows may wait for it (own).
 use Rattle.std.specs.Prelude.{ℕ, Bool, ◌&&◌, ◌||◌, nat_lt}
 use Rattle.std.specs.List.{list_any}
 use Rattle.wk_table_rules.specs.Changes.{PageLinks}

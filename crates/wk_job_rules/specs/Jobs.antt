@@ -22,7 +22,7 @@ pub record FanEntry : Type 0 where
   pub number : ℕ
   pub title : PageTitle
   pub reach : Reach
-  -- the number of the last page that was served, 0 where none was
+  -- the number of the last page that was served since the job began, or began anew; 0 where none was
   pub cursor : ℕ
 
 -- the jobs of both kinds, each kind in its order, and the number of the next new job

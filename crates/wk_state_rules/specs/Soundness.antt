@@ -1,4 +1,4 @@
--- When link rows are sound: what is stored of each page is what its text gives now, or a job will see to it (own).
+-- When link rows are sound: what is stored of each page is what its text gives now, or a job covers it (own).
 use Rattle.std.specs.Prelude.{◌≡◌, ◌⊎◌, ℕ, IsTrue, Some}
 use Rattle.wk_page_rules.specs.History.{Page}
 use Rattle.wk_job_rules.specs.Covers.{is_covered}

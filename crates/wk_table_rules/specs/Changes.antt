@@ -13,7 +13,8 @@ pub record Member : Type 0 where
   pub sortkey : List ℕ
   pub prefix : List ℕ
 
--- the link rows of a page, in five lists, each in the order of its titles and each title once
+-- The link rows of a page, in five lists. They are written in the order of the lists; what fits the tables has each
+-- list in the order of its titles, and each title once.
 pub record PageLinks : Type 0 where
   -- the titles that the page includes
   pub templates : List PageTitle

@@ -131,7 +131,7 @@ is_good_redirect tables before row =
 -- ---- sixth: job numbers are at least 1, below a bound, and rise; each job is a refresh of a page, each page once,
 -- ---- with empty params, or a fan of a normal title, each title once, with a cursor of at most 1,000,000
 
--- With version 1 there is room below it for a refresh job of each page, which the step to version 2 adds.
+-- With version 1 there is room above it, below 2^63, for a refresh job of each page, which the step to version 2 adds.
 abbrev pub job_bound : ℕ → ℕ
 job_bound version = if version == 1 then 2 ^ 63 - max_pages else 2 ^ 63
 

@@ -25,7 +25,7 @@ abbrev pub reach_called : List ℕ → Option Reach
 reach_called word =
     if bytes_eq word (reach_word Text) then Some Text else if bytes_eq word (reach_word Both) then Some Both else None
 
--- how far a fan job reaches, and the number of the last page that it has served
+-- how far a fan job reaches, and the number of the last page that it has served since it began, or began anew
 pub record FanParams : Type 0 where
   pub reach : Reach
   pub cursor : ℕ

@@ -79,8 +79,8 @@ pub fn reads_are_answers()
         → Agrees a (reads_of (shown_text a page text)) }
 {}
 
-/// The reads of an expansion are answers that were seen: each pair of title and kind once, in the order of the
-/// first asking, and each answer in its kind's form.
+/// The reads of an expansion are answers that were seen: each pair of title and kind once, and each answer in its
+/// kind's form.
 pub fn reads_are_seen()
     ensures world { (pages : World) (page : PageTitle) → IsSeen (reads (of_world pages) page) }
     ensures seen { (seen : Seen) (page : PageTitle) → IsSeen seen
@@ -120,7 +120,8 @@ pub fn reads_are_a_million_and_one_at_most()
 {}
 
 /// An inclusion of a redirect reads the title and its target, and goes on with the target's own text, whatever that
-/// is. It reads nothing else where the text holds no node, so never where the target's own target leads.
+/// is. Where it has no further part and the text holds no node it reads nothing else, so never where the target's own
+/// target leads.
 pub fn redirects_are_followed_once()
     ensures goes_on { (pages : World) (inner : Frame → List Item → Expansion Output)
         (viewed : PageTitle) (frame : Frame) (title target : PageTitle)
@@ -138,8 +139,8 @@ pub fn redirects_are_followed_once()
         ≡ redirect_noted title target text target_text before }
 {}
 
-/// A page's rows name exactly the titles that are read for it: as text those that it includes, with existence those
-/// that it tests too.
+/// A page's rows name exactly the titles that are read to be included, and with existence also those that are read to
+/// be tested. The read of the page's own text names nothing.
 pub fn rows_name_what_is_read()
     ensures text { (pages : World) (page title : PageTitle)
         → names_text (rows pages page) title

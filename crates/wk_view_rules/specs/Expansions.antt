@@ -32,8 +32,8 @@ most_open = 200
 
 -- ---- counters
 
--- the nodes so far with what was charged for texts, the bytes of included texts, the bytes of arguments, and the
--- titles that were tested for existence
+-- the nodes so far with what was charged for texts, values and redirects, the bytes of what was included, the bytes of
+-- arguments, and the number of titles that were tested for existence
 pub record Counters : Type 0 where
   pub nodes : ℕ
   pub include : ℕ

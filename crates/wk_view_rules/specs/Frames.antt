@@ -39,6 +39,6 @@ bound (level ∷ frame) name = find (λ (b : Binding). bytes_eq b.name name) lev
 abbrev pub bound_to : Frame → List MarkedByte → Option Binding
 bound_to frame name = option_and_then (bound frame) (plain_text_of name)
 
--- the page is being included. The root doesn't count.
+-- The frame is of this page, or of one that the page includes. The root doesn't count.
 abbrev pub is_within : Frame → PageTitle → Bool
 is_within frame title = list_any (λ (level : Level). title_eq level.title title) frame

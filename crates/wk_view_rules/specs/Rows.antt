@@ -26,7 +26,7 @@ pub record PageRows : Type 0 where
   pub templates : List PageTitle
   -- the titles that the page tests for existence
   pub exists : List PageTitle
-  -- the titles that the page links to
+  -- the titles that the page links to, with those that it tests for existence
   pub links : List PageTitle
   -- the categories that the page is a member of
   pub members : List Member

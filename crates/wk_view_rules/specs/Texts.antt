@@ -1,4 +1,5 @@
--- The texts that an expansion gives in the place of what it doesn't expand (own), and the values of variables.
+-- The texts that an expansion gives where it doesn't go on or leaves out what it found (own), and the values of
+-- variables.
 use Rattle.std.specs.Prelude.{ℕ, List, ◌++◌, codes}
 use Rattle.wk_text_rules.specs.Marked.{MarkedByte, all_plain}
 use Rattle.wk_text_rules.specs.Titles.{PageTitle, namespace_name, shown, with_spaces}

@@ -36,7 +36,7 @@ variable_called title = elim (plain_text_of title) [
   | Some name ↦ option_map (λ entry. entry.1) (find (λ entry. bytes_eq entry.0 name) variables)
 ]
 
--- both plain, and the same letter
+-- both plain, and the same byte but for the case of ASCII letters
 abbrev pub same_plain_letter : MarkedByte → MarkedByte → Bool
 same_plain_letter (plain a) (plain b) = eq_ignore_ascii_case a b
 same_plain_letter (plain a) (sealed b) = false

@@ -47,7 +47,7 @@ pub enum Func {
 pub enum Word {
     /// A variable.
     Variable(Var),
-    /// A function, with the place in the title part at which its first operand begins.
+    /// A function, with the place in the trimmed title part at which its first operand begins.
     Function(Func, usize),
     /// A page.
     Page,
