@@ -234,7 +234,7 @@ append_nil [] = refl
 append_nil (x ∷ xs) = ap (λ ys. x ∷ ys) (append_nil xs)
 
 -- one more question, among the titles that were tested and among the reads
-tested-noted : (title : PageTitle) (kind : Kind) (answer : Answer) (before : List Read) → tested_with title kind (titles_read Exists before) ≡ titles_read Exists (noted before (record { title = title; kind = kind; answer = answer }))
+pub tested-noted : (title : PageTitle) (kind : Kind) (answer : Answer) (before : List Read) → tested_with title kind (titles_read Exists before) ≡ titles_read Exists (noted before (record { title = title; kind = kind; answer = answer }))
 tested-noted title View answer before = elim (cases_Bool (list_any (is_read_of title View) before)) [
   | inl there ↦ rw there refl
   | inr missing ↦ rw (missing, filter_map-append) (sym (append_nil (titles_read Exists before)))
