@@ -58,7 +58,8 @@ text_bytes h = sum_by (λ revision. length (unwrap_or revision.text [])) h.revis
 
 -- ---- what a save does
 
--- Nothing can be saved in a virtual namespace, and only a page that exists can be deleted.
+-- Nothing can be saved in a virtual namespace, and only a page that exists can be deleted. That the title is normal is
+-- for whoever hands it in: a `Title` is by its type.
 pub record CanSave (h : History) (title : PageTitle) (text : Option (List ℕ)) : Type 0 where
   pub real : is_virtual title ≡ false
   pub there : text ≡ None → current_revision h title ≢ 0

@@ -32,7 +32,7 @@ pub record MostHeld : Type 0 where
 abbrev pub max_text : ℕ
 max_text = 2097152
 
--- the number above which no job is numbered by a save or a fan
+-- the greatest number of the next job at which a save or a fan may still begin
 abbrev pub max_job : ℕ
 max_job = 2 ^ 62
 
@@ -101,7 +101,7 @@ judged h most edit = elim (real_title edit.title) [
 ]
 
 -- What the journal's room and the numbers of jobs decide, where a save would be accepted: the journal's length and
--- the tickets that are out are at the limit, or the next job's number is past the greatest.
+-- the tickets that are out are at the limit or above it, or the next job's number is past the greatest.
 abbrev pub is_journal_full : MostHeld → ℕ → ℕ → ℕ → Bool
 is_journal_full most journal tickets next_job = nat_le most.journal (journal + tickets) || nat_lt max_job next_job
 
