@@ -8,3 +8,6 @@ mod script;
 mod top;
 
 pub use top::{Finish, wiki_main};
+
+#[cfg(test)]
+mod tests;
