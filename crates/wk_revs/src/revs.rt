@@ -129,7 +129,7 @@ impl Revs {
         revisions::text_of_revision(&self.revisions, number)
     }
 
-    /// The first limit that a save of this title with a body of so many bytes would pass.
+    /// The first limit that a save of this body under this title would pass.
     fn limit_passed(&self, limits: &Limits, title: &Title, body: &Option<Text>) -> Option<Limit>
         ensures { result ≡ limit_passed self.now.history (most_held limits.now) title.now body.now }
     {
