@@ -1,5 +1,5 @@
 -- For a caller's proof of what `leave` asks, where it added nothing or one entry.
-use Rattle.std.proofs.Common.{◌≡◌, ◌≢◌, ℕ, ◌-◌, ◌<◌, ◌≤◌, List, [], ◌∷◌, ◌++◌, length, Option, Some, slice_get, refl, ap, sym, ◌∙◌, arith, inl, length-append}
+use Rattle.std.proofs.Common.{◌≡◌, ◌≢◌, ℕ, ◌-◌, ◌<◌, ◌≤◌, ◌⊎◌, List, [], ◌∷◌, ◌++◌, length, Option, Some, slice_get, refl, ap, sym, ◌∙◌, subst, arith, inl, ⊎_elim, length-append}
 use Rattle.std.specs.List.{range_with_len}
 use mathlib.Core.Logic.{dite}
 use native.Mathlib.Decide.{dec_le}
@@ -47,3 +47,12 @@ module _ {E : Type 0} (closes : E → Option ℕ) where
       let t = times-append p own (length log ∷ []) in let o = opened.0 in omega arith,
       λ q c. dite (dec_le (length log) q) (λ beyond. other (closed_last q p beyond c).1) (λ before. opened.1 q (closed_before q p (omega arith) c)),
     )
+
+  -- all that `leave` asks of the entries, where at most one was added, which closes, if any, what is open
+  pub leaves : (before log after : List E) (own places : List ℕ) (e : E) → before ≡ log → places ≡ own → (after ≡ log) ⊎ (after ≡ log ++ e ∷ [])
+      → ((p : ℕ) → closes e ≡ Some p → IsOpen closes log own p) → ClosesOwn closes before after places
+  leaves before log after own places e same mine outcome opened =
+      let asked : ClosesOwn closes log after own = ⊎_elim
+      (λ (none : after ≡ log). subst (λ (l : List E). ClosesOwn closes log l own) (sym none) (adds_none log own))
+      (λ (one : after ≡ log ++ e ∷ []). subst (λ (l : List E). ClosesOwn closes log l own) (sym one) (adds_one log e own opened)) outcome in
+      subst (λ (z : List E × List ℕ). ClosesOwn closes z.0 after z.1) (λ i. (sym same i, sym mine i)) asked
