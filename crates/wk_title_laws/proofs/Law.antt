@@ -243,3 +243,9 @@ normal_shown title utf8 some_text =
     let names = shown_names named.0 named.1 title utf8 named.2.default_is_namespace named.2.names in
     ap (λ found. is_title found title) names ∙ is_title-same title)
     )
+
+pub normal_namespace : (title : PageTitle) → IsNormal title → is_namespace title.ns ≡ true
+normal_namespace title some_text =
+    ∥∥₁_elim some_text (Bool-set _ _) (λ named.
+    let parts = normal-Some named.0 named.1 title named.2.names in
+    ap (λ t. is_namespace t.ns) parts.1 ∙ (key_is named.0 named.1 named.2.default_is_namespace parts.0).namespace)

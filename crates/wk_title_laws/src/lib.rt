@@ -1,4 +1,4 @@
-//! The law of titles: the shown form of a title names that title. Nothing here runs.
+//! The laws of titles. Nothing here runs.
 #![tactic(auto)]
 
 ghost use Rattle.std.specs.Prelude.{◌≡◌, ℕ, ℤ, pos, true, List, Some};
@@ -15,6 +15,13 @@ pub fn shown_form_names_its_title()
 /// The shown form of a `Title` names it, with main as the default.
 pub fn shown_normalizes(title: &Title)
     ensures { normal (shown title.now) (pos 0) ≡ Some title.now }
+{
+    let _key = title.key();
+}
+
+/// The namespace of a `Title` is one of the table's.
+pub fn namespace_is_in_the_table(title: &Title)
+    ensures { is_namespace title.now.ns ≡ true }
 {
     let _key = title.key();
 }
