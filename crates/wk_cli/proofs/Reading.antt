@@ -2,7 +2,7 @@
 use Rattle.std.proofs.Common.{◌≡◌, ℕ, ◌+◌, ◌^◌, ◌<◌, [], ◌++◌, ◌≤◌, List, length, true, false, refl, sym, ◌∙◌, ap, subst, append_assoc, length-append, arith}
 use Rattle.std.proofs.KnownBytes.{Consumes-nil, Consumes-trans}
 use Rattle.std.proofs.lemmas.List.{append-nil}
-use Rattle.std.specs.Prelude.{IsTrue, Option, Result, Some, None, Err}
+use Rattle.std.specs.Prelude.{Option, Result, Some, None, Err}
 use Rattle.wk_cli.specs.Stop.{IsWriting}
 use Rattle.wk_cli.specs.declared.run.Stop.{Stop}
 use Rattle.wk_cli.specs.declared.run.Stop.TheVariants.{Memory, ReadFault, WriteFault, Bound}
@@ -11,7 +11,7 @@ use Rattle.wk_bytes.specs.LineCutter.{Cutting, lines_to_come}
 use Rattle.wk_text_rules.specs.Lines.{lines}
 use Rattle.wk_reply_laws.proofs.Timeless.{alike_itself, replies_from}
 use Rattle.wk_reply_rules.specs.Script.{Script, most_line, new_script}
-use Rattle.wk_cli.specs.Runs.{Answers, AnswersFirst, Begins, IsCutRun, IsWholeRun}
+use Rattle.wk_cli.specs.Runs.{Answers, AnswersFirst, IsCutRun, IsWholeRun}
 use Rattle.wk_cli.proofs.RunSteps.{answers_join, answers_nothing, nothing_in_part, part_join}
 
 -- What was read, what was answered, and the lines that are still to come, whatever is read yet.

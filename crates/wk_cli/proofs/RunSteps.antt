@@ -8,7 +8,7 @@ use Rattle.std.specs.Prelude.{◌==◌, Bool, OnErr, Option, Result, Ok, Err, if
 use borrow.Author.Tests.{eqb-true}
 use Rattle.wk_base.specs.Clock.{Ticks}
 use Rattle.wk_base.specs.Writing.{AppendsPrefix}
-use Rattle.wk_page_rules.specs.History.{History, page_exists}
+use Rattle.wk_page_rules.specs.History.{page_exists}
 use Rattle.wk_page_rules.specs.Verdict.{Refusal, invalid_title, content_too_big, article_exists, missing_title, edit_conflict, wiki_full, journal_full, Verdict, refuse, no_change, accept}
 use Rattle.wk_reply_rules.specs.EditLine.{EditLine}
 use Rattle.wk_reply_rules.specs.Replies.{Reply, edit_reply, not_built, refusal_reply}

@@ -1,8 +1,8 @@
-use Rattle.std.proofs.Common.{◌≡◌, sym, ◌∙◌, ap, None, Some, false}
+use Rattle.std.proofs.Common.{sym, ◌∙◌, ap}
 use Rattle.std.specs.Option.{option_copied}
 use Rattle.std.specs.Prelude.{bytes_eq}
 use Rattle.wk_text_rules.specs.Decimal.{decimal_number}
-use Rattle.wk_reply_rules.specs.EditLine.{before_ampersand, from_ampersand, token_part}
+use Rattle.wk_reply_rules.specs.EditLine.{token_part}
 use Rattle.wk_cli.proofs.EditLines.{edit_lines}
 use Rattle.wk_cli.proofs.edit_line.base_of.Goals as goal
 

@@ -1,5 +1,4 @@
 use Rattle.std.proofs.Common.{sym, ◌∙◌}
-use Rattle.std.proofs.lemmas.Bool.{not-false}
 use Rattle.wk_cli.proofs.EditLines.{title_ascii, text_ascii}
 use Rattle.wk_cli.proofs.edit_line.checked.Goals as goal
 

@@ -1,7 +1,7 @@
-use Rattle.std.proofs.Common.{◌≡◌, sym, ◌∙◌, ap, None, Some, codes}
+use Rattle.std.proofs.Common.{sym, ◌∙◌, ap, codes}
 use Rattle.std.specs.Option.{option_copied, option_map}
 use Rattle.wk_cli.specs.Lines.{cut_parts}
-use Rattle.wk_reply_rules.specs.EditLine.{EditLine, after, base_of, from_ampersand}
+use Rattle.wk_reply_rules.specs.EditLine.{after, base_of}
 use Rattle.wk_cli.proofs.EditLines.{edit_lines}
 use Rattle.wk_cli.proofs.edit_line.cut_line.Goals as goal
 

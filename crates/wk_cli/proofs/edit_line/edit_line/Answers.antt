@@ -1,4 +1,4 @@
-use Rattle.std.proofs.Common.{◌≡◌, sym, ◌∙◌, ap, None, Some}
+use Rattle.std.proofs.Common.{sym, ◌∙◌, ap}
 use Rattle.std.specs.Option.{option_map}
 use Rattle.wk_cli.specs.Lines.{cut_parts, parts_of}
 use Rattle.wk_cli.proofs.EditLines.{edit_whole}

@@ -1,10 +1,4 @@
-use Rattle.std.proofs.Common.{◌≡◌, ℕ, ◌-◌, ◌^◌, [], ◌++◌, ◌≤◌, List, length}
-use Rattle.std.specs.Prelude.{Option}
-use Rattle.std.specs.Io.KnownBytes.{Consumes}
-use Rattle.wk_bytes.specs.LineCutter.{lines_to_come}
-use Rattle.wk_text_rules.specs.Lines.{lines}
-use Rattle.wk_reply_rules.specs.Script.{most_line, new_script}
-use Rattle.wk_cli.specs.Runs.{Answers}
+use Rattle.std.proofs.Common.{◌-◌, ◌^◌}
 use Rattle.wk_cli.proofs.Reading.{HasRead}
 use Rattle.wk_cli.proofs.run.Run.serve_all.Given as goal
 

@@ -1,5 +1,4 @@
-use Rattle.wk_bytes.specs.Line.{line_in}
-use Rattle.wk_cli.proofs.RunSteps.{nothing_first, all_first, all_answered}
+use Rattle.wk_cli.proofs.RunSteps.{nothing_first}
 use Rattle.wk_cli.proofs.run.Run.serve_line.Goals as goal
 
 pub returns-in-Err-clause-err : goal.returns-in-Err-clause-err

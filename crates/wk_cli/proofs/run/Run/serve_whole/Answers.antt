@@ -1,4 +1,4 @@
-use Rattle.std.proofs.Common.{◌≡◌, ◌≤◌, ◌++◌, [], refl, sym, ◌∙◌, ap, subst, arith}
+use Rattle.std.proofs.Common.{◌++◌, [], refl, sym, ap, subst, arith}
 use Rattle.wk_bytes.specs.Line.{line_in}
 use Rattle.wk_cli.specs.Runs.{AnswersFirst}
 use Rattle.wk_cli.proofs.RunSteps.{answers_join, answers_nothing, first_join, first_of_more, on_err, split_again}
