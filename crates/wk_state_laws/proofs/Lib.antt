@@ -1,1 +1,3 @@
 pub mod Histories
+pub mod Saves
+pub mod JobsAlone

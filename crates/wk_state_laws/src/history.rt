@@ -1,10 +1,13 @@
 //! Laws of the revisions: only saves make them, and none is ever lost.
-ghost use Rattle.std.specs.Prelude.{◌≡◌, List, Option, Some, ℕ};
+ghost use Rattle.std.specs.Prelude.{◌≡◌, List, Option, Some, flat_map, ℕ};
 ghost use Rattle.wk_text_rules.specs.Titles.{PageTitle};
 ghost use Rattle.wk_page_rules.specs.History.{saved};
+ghost use Rattle.wk_table_rules.specs.Rows.{StoreTables};
 ghost use Rattle.wk_state_rules.specs.States.{State};
-ghost use Rattle.wk_state_rules.specs.Events.{Save, Claim, Done, Back, Fan, step_by};
-ghost use Rattle.wk_state_rules.specs.Lives.{reopened};
+ghost use Rattle.wk_state_rules.specs.Events.{Event, Save, Claim, Done, Back, Fan, step_by};
+ghost use Rattle.wk_state_rules.specs.Tables.{state_of};
+ghost use Rattle.wk_state_rules.specs.Lives.{reopened, replay_from, Lives, LivesOfStore};
+ghost use Rattle.wk_state_laws.specs.Saves.{Continues, after_saves, saves};
 
 /// Only a save changes the revisions and the pages: it does what `saved` says, and each other event and a restart keep
 /// them as they were.
@@ -21,4 +24,40 @@ pub fn only_saves_change_the_history()
     ensures fanned { (most : ℕ) (state next : State) (journal : ℕ)
         → step_by most state journal Fan ≡ Some next → next.history ≡ state.history }
     ensures reopened { (state : State) → (reopened state).history ≡ state.history }
+{}
+
+/// The revisions and the pages are one history of saves: those of the start, and then what the saves of the journals
+/// make of them, in their order, over every restart.
+pub fn revisions_are_one_history_of_saves()
+    ensures replayed { (most : ℕ) (start last : State) (journal : ℕ) (events : List Event)
+        → replay_from most start journal events ≡ Some last
+        → last.history ≡ after_saves start.history (saves events) }
+    ensures lived { (start last : State) (journals : List (List Event))
+        → Lives start journals last → last.history ≡ after_saves start.history (flat_map saves journals) }
+    ensures lived_from_store { (tables : StoreTables) (last : State) (journals : List (List Event))
+        → LivesOfStore tables journals last
+        → last.history ≡ after_saves (state_of tables).history (flat_map saves journals) }
+{}
+
+/// No revision is lost or changed, and each save makes one: the old revisions stand first, and behind them one for
+/// each save, with its text and its moment.
+pub fn revisions_are_kept()
+    ensures replayed { (most : ℕ) (start last : State) (journal : ℕ) (events : List Event)
+        → replay_from most start journal events ≡ Some last → Continues start.history (saves events) last.history }
+    ensures lived { (start last : State) (journals : List (List Event))
+        → Lives start journals last → Continues start.history (flat_map saves journals) last.history }
+    ensures lived_from_store { (tables : StoreTables) (last : State) (journals : List (List Event))
+        → LivesOfStore tables journals last
+        → Continues (state_of tables).history (flat_map saves journals) last.history }
+{}
+
+/// A claim, a refresh that is given back, a fan's turn and a restart change the jobs alone.
+pub fn claims_and_returns_change_the_jobs_alone()
+    ensures claimed { (most : ℕ) (state next : State) (journal : ℕ)
+        → step_by most state journal Claim ≡ Some next → next ≡ record state { jobs = next.jobs } }
+    ensures given_back { (most : ℕ) (state next : State) (journal ticket : ℕ)
+        → step_by most state journal (Back ticket) ≡ Some next → next ≡ record state { jobs = next.jobs } }
+    ensures fanned { (most : ℕ) (state next : State) (journal : ℕ)
+        → step_by most state journal Fan ≡ Some next → next ≡ record state { jobs = next.jobs } }
+    ensures reopened { (state : State) → reopened state ≡ record state { jobs = (reopened state).jobs } }
 {}
