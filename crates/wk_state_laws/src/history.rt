@@ -1,12 +1,15 @@
-//! Laws of the revisions: only saves make them, and none is ever lost.
+//! Laws of the revisions: only saves make them, none is ever lost, and an edit of a base that isn't current is a conflict.
 ghost use Rattle.std.specs.Prelude.{◌≡◌, List, Option, Some, flat_map, ℕ};
 ghost use Rattle.wk_text_rules.specs.Titles.{PageTitle};
-ghost use Rattle.wk_page_rules.specs.History.{saved};
+ghost use Rattle.wk_page_rules.specs.History.{History, saved};
+ghost use Rattle.wk_page_rules.specs.Verdict.{EditAsked, MostHeld, edit_conflict, judged, refuse, verdict};
 ghost use Rattle.wk_table_rules.specs.Rows.{StoreTables};
 ghost use Rattle.wk_state_rules.specs.States.{State};
 ghost use Rattle.wk_state_rules.specs.Events.{Event, Save, Claim, Done, Back, Fan, step_by};
 ghost use Rattle.wk_state_rules.specs.Tables.{state_of};
 ghost use Rattle.wk_state_rules.specs.Lives.{reopened, replay_from, Lives, LivesOfStore};
+ghost use Rattle.wk_state_rules.specs.Verdicts.{verdict_in};
+ghost use Rattle.wk_state_laws.specs.Conflicts.{IsInConflict};
 ghost use Rattle.wk_state_laws.specs.Saves.{Continues, after_saves, saves};
 
 /// Only a save changes the revisions and the pages: it does what `saved` says, and each other event and a restart keep
@@ -60,4 +63,25 @@ pub fn claims_and_returns_change_the_jobs_alone()
     ensures fanned { (most : ℕ) (state next : State) (journal : ℕ)
         → step_by most state journal Fan ≡ Some next → next ≡ record state { jobs = next.jobs } }
     ensures reopened { (state : State) → reopened state ≡ record state { jobs = (reopened state).jobs } }
+{}
+
+/// An edit is refused as a conflict, with the page's current revision, exactly where it names a base that isn't that
+/// revision (0 where the page is missing), and no refusal applies that comes before.
+pub fn a_conflict_is_a_base_that_is_not_current()
+    ensures judged_conflict { (h : History) (most : MostHeld) (edit : EditAsked) (current : ℕ)
+        → IsInConflict h edit current → judged h most edit ≡ refuse (edit_conflict current) }
+    ensures judged_only_so { (h : History) (most : MostHeld) (edit : EditAsked) (current : ℕ)
+        → judged h most edit ≡ refuse (edit_conflict current) → IsInConflict h edit current }
+    ensures verdict_conflict { (h : History) (most : MostHeld) (journal tickets next_job : ℕ) (edit : EditAsked) (current : ℕ)
+        → IsInConflict h edit current
+        → verdict h most journal tickets next_job edit ≡ refuse (edit_conflict current) }
+    ensures verdict_only_so { (h : History) (most : MostHeld) (journal tickets next_job : ℕ) (edit : EditAsked) (current : ℕ)
+        → verdict h most journal tickets next_job edit ≡ refuse (edit_conflict current)
+        → IsInConflict h edit current }
+    ensures state_conflict { (most : MostHeld) (state : State) (journal : ℕ) (edit : EditAsked) (current : ℕ)
+        → IsInConflict state.history edit current
+        → verdict_in most state journal edit ≡ refuse (edit_conflict current) }
+    ensures state_only_so { (most : MostHeld) (state : State) (journal : ℕ) (edit : EditAsked) (current : ℕ)
+        → verdict_in most state journal edit ≡ refuse (edit_conflict current)
+        → IsInConflict state.history edit current }
 {}
