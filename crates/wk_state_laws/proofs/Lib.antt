@@ -1,0 +1,4 @@
+pub mod Histories
+pub mod Saves
+pub mod JobsAlone
+pub mod Conflicts

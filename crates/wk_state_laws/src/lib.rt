@@ -1,0 +1,5 @@
+//! Laws of a wiki's states: what its events, its restarts and its lives keep, and what they change.
+//! Nothing here runs.
+#![tactic(auto)]
+
+pub mod history;
