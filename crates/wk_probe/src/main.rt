@@ -1,0 +1,41 @@
+//! The program `wk_probe`, for whoever works on the engine: it shows how the engine reads a text. Each line of standard
+//! input asks by a JSON object, and each answer is a line of compact JSON on standard output. An empty line has none.
+//!
+//! - `{"op":"norm","text":T,"ns":N}` asks which title the text T names where the namespace with the number N is the
+//!   default. The answer is `{"key":K,"ns":N,"shown":S}`, or `null` where it names none.
+//! - `{"op":"kept","text":T}` asks what is kept of the text T. The answer is a string.
+//!
+//! Other members are ignored, and of members with one name the last counts. A line that is none of these forms is
+//! answered with `{"error":"..."}`, which says what is wrong, and the next line goes on. The program takes no words.
+//!
+//! The status is 0 at the end of input, 1 where memory ran out, 3 where a read failed, 4 where a write failed, and 9
+//! where 2^40 bytes were read. Where it isn't 0 a message stands on standard error.
+#![tactic(auto)]
+
+mod answers;
+mod run;
+
+use run::{Stop, serve_all};
+use std::io;
+use std::process::ExitCode;
+use wk_base::{ReadSource, WriteSink};
+
+/// The status with which the program ends.
+fn status_of(stop: Stop) -> u8 {
+    match stop {
+        Stop::Memory => 1,
+        Stop::ReadFault => 3,
+        Stop::WriteFault => 4,
+        Stop::Bound => 9,
+    }
+}
+
+fn main(rt: HostRuntime) -> io::Result<ExitCode> {
+    let mut input = ReadSource::new(rt.reader());
+    let mut output = WriteSink::new(io::writer(&rt));
+    let Err(stop) = serve_all(rt.alloc(), &mut input, &mut output) else {
+        return Ok(ExitCode::from(0));
+    };
+    eprintln!(rt; "wk_probe: {stop}")?;
+    Ok(ExitCode::from(status_of(stop)))
+}
