@@ -1,0 +1,4 @@
+//! Laws of the states of a wiki. Nothing here runs.
+#![tactic(auto)]
+
+pub mod soundness;
