@@ -1,10 +1,15 @@
 //! Soundness: the link rows of each page are current, or a job covers the page.
-ghost use Rattle.std.specs.Prelude.{◌≡◌, ℕ, [], Some};
+ghost use Rattle.std.specs.Prelude.{◌≡◌, ◌≢◌, ℕ, [], Some};
 ghost use Rattle.wk_page_rules.specs.History.{Page};
-ghost use Rattle.wk_state_rules.specs.States.{State, no_state, page_at};
-ghost use Rattle.wk_state_rules.specs.Events.{Claim, Back, step_by};
-ghost use Rattle.wk_state_rules.specs.Lives.{reopened};
+ghost use Rattle.wk_table_rules.specs.Rows.{StoreTables};
+ghost use Rattle.wk_job_rules.specs.Jobs.{page_held_by};
+ghost use Rattle.wk_job_rules.specs.Covers.{is_covered};
+ghost use Rattle.wk_state_rules.specs.States.{State, no_state, page_at, stored_at};
+ghost use Rattle.wk_state_rules.specs.Events.{Claim, Done, Back, step_by};
+ghost use Rattle.wk_state_rules.specs.Lives.{reopened, opened};
+ghost use Rattle.wk_state_rules.specs.Tables.{state_of};
 ghost use Rattle.wk_state_rules.specs.Soundness.{IsSound, IsCurrent};
+ghost use Rattle.wk_state_laws.specs.WellFormed.{IsWellFormed};
 
 /// A wiki in which nothing was ever saved is sound.
 pub fn an_empty_wiki_is_sound()
@@ -24,4 +29,28 @@ pub fn soundness_is_kept_while_no_row_changes()
     ensures given_back { (most : ℕ) (state next : State) (journal ticket : ℕ)
         → step_by most state journal (Back ticket) ≡ Some next → IsSound state → IsSound next }
     ensures reopened { (state : State) → IsSound state → IsSound (reopened state) }
+{}
+
+/// A store of version 1 is opened as a sound wiki, whatever its rows are; and any store is where its rows stand for a
+/// sound wiki.
+pub fn a_store_is_opened_as_a_sound_wiki()
+    ensures first_version { (tables : StoreTables) → tables.version ≡ 1 → IsSound (opened tables) }
+    ensures sound_rows { (tables : StoreTables) → IsSound (state_of tables) → IsSound (opened tables) }
+{}
+
+/// A refresh that is done makes its page current, changes neither the stored link rows nor the jobs of another page,
+/// and keeps a wiki sound.
+pub fn a_refresh_makes_its_page_current()
+    ensures current { (most : ℕ) (state next : State) (journal ticket number : ℕ) (page : Page)
+        → IsWellFormed state → page_held_by state.jobs ticket ≡ Some number → page_at state.history number ≡ Some page
+        → step_by most state journal (Done ticket) ≡ Some next → IsCurrent next number page }
+    ensures other_rows { (most : ℕ) (state next : State) (journal ticket held number : ℕ)
+        → IsWellFormed state → page_held_by state.jobs ticket ≡ Some held → number ≢ held
+        → step_by most state journal (Done ticket) ≡ Some next → stored_at next number ≡ stored_at state number }
+    ensures other_cover { (most : ℕ) (state next : State) (journal ticket held number : ℕ)
+        → IsWellFormed state → page_held_by state.jobs ticket ≡ Some held → number ≢ held
+        → step_by most state journal (Done ticket) ≡ Some next
+        → is_covered next.jobs number (stored_at next number) ≡ is_covered state.jobs number (stored_at state number) }
+    ensures sound { (most : ℕ) (state next : State) (journal ticket : ℕ)
+        → IsWellFormed state → step_by most state journal (Done ticket) ≡ Some next → IsSound state → IsSound next }
 {}
