@@ -1,3 +1,5 @@
 pub mod Sound
 pub mod Opened
 pub mod Refreshed
+pub mod Served
+pub mod Fanned

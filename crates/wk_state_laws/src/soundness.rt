@@ -5,7 +5,7 @@ ghost use Rattle.wk_table_rules.specs.Rows.{StoreTables};
 ghost use Rattle.wk_job_rules.specs.Jobs.{page_held_by};
 ghost use Rattle.wk_job_rules.specs.Covers.{is_covered};
 ghost use Rattle.wk_state_rules.specs.States.{State, no_state, page_at, stored_at};
-ghost use Rattle.wk_state_rules.specs.Events.{Claim, Done, Back, step_by};
+ghost use Rattle.wk_state_rules.specs.Events.{Claim, Done, Back, Fan, step_by};
 ghost use Rattle.wk_state_rules.specs.Lives.{reopened, opened};
 ghost use Rattle.wk_state_rules.specs.Tables.{state_of};
 ghost use Rattle.wk_state_rules.specs.Soundness.{IsSound, IsCurrent};
@@ -53,4 +53,10 @@ pub fn a_refresh_makes_its_page_current()
         → is_covered next.jobs number (stored_at next number) ≡ is_covered state.jobs number (stored_at state number) }
     ensures sound { (most : ℕ) (state next : State) (journal ticket : ℕ)
         → IsWellFormed state → step_by most state journal (Done ticket) ≡ Some next → IsSound state → IsSound next }
+{}
+
+/// A fan keeps a wiki sound: each page that its job covered before has a refresh job then, or the job still covers it.
+pub fn a_fan_keeps_soundness()
+    ensures { (most : ℕ) (state next : State) (journal : ℕ)
+        → step_by most state journal Fan ≡ Some next → IsSound state → IsSound next }
 {}
