@@ -17,7 +17,7 @@ use Rattle.wk_state_rules.specs.Soundness.{IsSound}
 use Rattle.wk_state_laws.proofs.Opened.{page-within, all-keeps, all-queues}
 use Rattle.wk_state_laws.proofs.Served.{found, uses, users-is, is-found, is-served, some-first}
 
-fans-queued : (lists : JobLists) (page : ℕ) → (refresh_queued lists page).fans ≡ lists.fans
+pub fans-queued : (lists : JobLists) (page : ℕ) → (refresh_queued lists page).fans ≡ lists.fans
 fans-queued lists page = elim (cases_Bool (has_refresh lists page)) [ inl there ↦ rw there refl | inr none ↦ rw none refl ]
 
 pub fans-all_queued : (lists : JobLists) (pages : List ℕ) → (all_queued lists pages).fans ≡ lists.fans

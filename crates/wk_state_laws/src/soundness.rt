@@ -1,11 +1,12 @@
 //! Soundness: the link rows of each page are current, or a job covers the page.
-ghost use Rattle.std.specs.Prelude.{◌≡◌, ◌≢◌, ℕ, [], Some};
+ghost use Rattle.std.specs.Prelude.{◌≡◌, ◌≢◌, ℕ, List, [], Option, Some};
+ghost use Rattle.wk_text_rules.specs.Titles.{PageTitle};
 ghost use Rattle.wk_page_rules.specs.History.{Page};
 ghost use Rattle.wk_table_rules.specs.Rows.{StoreTables};
 ghost use Rattle.wk_job_rules.specs.Jobs.{page_held_by};
 ghost use Rattle.wk_job_rules.specs.Covers.{is_covered};
 ghost use Rattle.wk_state_rules.specs.States.{State, no_state, page_at, stored_at};
-ghost use Rattle.wk_state_rules.specs.Events.{Claim, Done, Back, Fan, step_by};
+ghost use Rattle.wk_state_rules.specs.Events.{Save, Claim, Done, Back, Fan, step_by};
 ghost use Rattle.wk_state_rules.specs.Lives.{reopened, opened};
 ghost use Rattle.wk_state_rules.specs.Tables.{state_of};
 ghost use Rattle.wk_state_rules.specs.Soundness.{IsSound, IsCurrent};
@@ -59,4 +60,11 @@ pub fn a_refresh_makes_its_page_current()
 pub fn a_fan_keeps_soundness()
     ensures { (most : ℕ) (state next : State) (journal : ℕ)
         → step_by most state journal Fan ≡ Some next → IsSound state → IsSound next }
+{}
+
+/// A save keeps a wiki sound: its own page has a refresh job then, the fan job of its title covers each page whose
+/// link rows may change, and those of all others stay as they are.
+pub fn a_save_keeps_soundness()
+    ensures { (most : ℕ) (state next : State) (journal : ℕ) (title : PageTitle) (text : Option (List ℕ)) (moment : ℕ)
+        → IsWellFormed state → step_by most state journal (Save title text moment) ≡ Some next → IsSound state → IsSound next }
 {}
