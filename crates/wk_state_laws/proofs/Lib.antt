@@ -5,3 +5,5 @@ pub mod Served
 pub mod Fanned
 pub mod Saves
 pub mod Saved
+pub mod Formed
+pub mod Always

@@ -163,7 +163,7 @@ revision-own : (h : History) (title : PageTitle) (text : Option (List ℕ)) (mom
 unfolding saved
 revision-own h title text moment = number-own h.pages title (cond (is_some text) (next_revision h) 0)
 
-pages-saved : (h : History) (title : PageTitle) (text : Option (List ℕ)) (moment : ℕ) → (saved h title text moment).pages ≡ with_current h.pages title (cond (is_some text) (next_revision h) 0)
+pub pages-saved : (h : History) (title : PageTitle) (text : Option (List ℕ)) (moment : ℕ) → (saved h title text moment).pages ≡ with_current h.pages title (cond (is_some text) (next_revision h) 0)
 unfolding saved
 pages-saved h title text moment = refl
 

@@ -41,7 +41,7 @@ same_covers : (before after : JobLists) → ((page : ℕ) → has_refresh after 
 same_covers before after refreshes fans page links covered = rw (refreshes page, fans) covered
 
 -- what an option gives, where it gives something
-given : {X Y : Type 0} (P : Y → Type 0) (f : X → Y) (o : Option X) (y : Y) → option_map f o ≡ Some y → ((x : X) → P (f x)) → P y
+pub given : {X Y : Type 0} (P : Y → Type 0) (f : X → Y) (o : Option X) (y : Y) → option_map f o ≡ Some y → ((x : X) → P (f x)) → P y
 given P f None y there all = absurd cc
 given P f (Some x) y there all = let same : f x ≡ y = cc in rw (← same) (all x)
 

@@ -6,8 +6,8 @@ ghost use Rattle.wk_table_rules.specs.Rows.{StoreTables};
 ghost use Rattle.wk_job_rules.specs.Jobs.{page_held_by};
 ghost use Rattle.wk_job_rules.specs.Covers.{is_covered};
 ghost use Rattle.wk_state_rules.specs.States.{State, no_state, page_at, stored_at};
-ghost use Rattle.wk_state_rules.specs.Events.{Save, Claim, Done, Back, Fan, step_by};
-ghost use Rattle.wk_state_rules.specs.Lives.{reopened, opened};
+ghost use Rattle.wk_state_rules.specs.Events.{Event, Save, Claim, Done, Back, Fan, step_by};
+ghost use Rattle.wk_state_rules.specs.Lives.{replay_by, reopened, opened, Lives};
 ghost use Rattle.wk_state_rules.specs.Tables.{state_of};
 ghost use Rattle.wk_state_rules.specs.Soundness.{IsSound, IsCurrent};
 ghost use Rattle.wk_state_laws.specs.WellFormed.{IsWellFormed};
@@ -67,4 +67,19 @@ pub fn a_fan_keeps_soundness()
 pub fn a_save_keeps_soundness()
     ensures { (most : ℕ) (state next : State) (journal : ℕ) (title : PageTitle) (text : Option (List ℕ)) (moment : ℕ)
         → IsWellFormed state → step_by most state journal (Save title text moment) ≡ Some next → IsSound state → IsSound next }
+{}
+
+/// What these laws ask of a wiki besides soundness holds of an empty one, and each event and each restart keep it.
+pub fn a_wiki_is_well_formed()
+    ensures none { IsWellFormed no_state }
+    ensures stepped { (most : ℕ) (state next : State) (journal : ℕ) (event : Event)
+        → step_by most state journal event ≡ Some next → IsWellFormed state → IsWellFormed next }
+    ensures reopened { (state : State) → IsWellFormed state → IsWellFormed (reopened state) }
+{}
+
+/// A journal keeps a wiki sound; so a wiki that began empty is sound at every moment of each of its lives.
+pub fn a_wiki_is_sound_at_all_times()
+    ensures journal { (most : ℕ) (start last : State) (events : List Event)
+        → IsWellFormed start → IsSound start → replay_by most start events ≡ Some last → IsSound last }
+    ensures lives { (journals : List (List Event)) (last : State) → Lives no_state journals last → IsSound last }
 {}
