@@ -2,3 +2,12 @@ pub mod Histories
 pub mod Saves
 pub mod JobsAlone
 pub mod Conflicts
+pub mod Sound
+pub mod Opened
+pub mod Refreshed
+pub mod Served
+pub mod Fanned
+pub mod SavedHistory
+pub mod Saved
+pub mod Formed
+pub mod Always

@@ -3,3 +3,4 @@
 #![tactic(auto)]
 
 pub mod history;
+pub mod soundness;

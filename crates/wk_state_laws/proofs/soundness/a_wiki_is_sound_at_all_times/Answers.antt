@@ -1,0 +1,8 @@
+use Rattle.wk_state_laws.proofs.Always.{IsSound-lives, IsSound-replayed}
+use Rattle.wk_state_laws.proofs.soundness.a_wiki_is_sound_at_all_times.Goals as goal
+
+pub returns-clause-journal : goal.returns-clause-journal
+returns-clause-journal c = IsSound-replayed
+
+pub returns-clause-lives : goal.returns-clause-lives
+returns-clause-lives c = IsSound-lives
