@@ -1,10 +1,11 @@
 -- A wiki is sound after each event of each of its lives.
 use Rattle.std.proofs.Common.{◌≡◌, ℕ, ◌+◌, List, [], ◌∷◌, Some, subst}
 use Rattle.std.proofs.lemmas.Option.{option_and_then_some}
+use Rattle.wk_table_rules.specs.Rows.{StoreTables}
 use Rattle.wk_job_rules.specs.Steps.{fan_pages}
 use Rattle.wk_state_rules.specs.States.{State, no_state}
 use Rattle.wk_state_rules.specs.Events.{Event, Save, Claim, Done, Back, Fan, step_by}
-use Rattle.wk_state_rules.specs.Lives.{replay_from, replay_by, replay, reopened, last_state, Lives}
+use Rattle.wk_state_rules.specs.Lives.{replay_from, replay_by, replay, reopened, opened, last_state, Lives, LivesOfStore}
 use Rattle.wk_state_rules.specs.Soundness.{IsSound}
 use Rattle.wk_state_laws.specs.WellFormed.{IsWellFormed}
 use Rattle.wk_state_laws.proofs.Sound.{IsSound-none, IsSound-claimed, IsSound-given_back, IsSound-reopened}
@@ -42,3 +43,9 @@ both-lives start last (journal ∷ journals) both done =
 
 pub IsSound-lives : (journals : List (List Event)) (last : State) → Lives no_state journals last → IsSound last
 IsSound-lives journals last lives = (both-lives no_state last journals (IsWellFormed-none, IsSound-none) lives).1
+
+pub IsSound-lives_of_store : (tables : StoreTables) (journals : List (List Event)) (last : State) → IsWellFormed (opened tables) → IsSound (opened tables) → LivesOfStore tables journals last → IsSound last
+IsSound-lives_of_store tables [] last formed sound lives = let same : opened tables ≡ last = cc in subst IsSound same sound
+IsSound-lives_of_store tables (journal ∷ journals) last formed sound lives =
+    option_and_then_some (λ ended. last_state ended journals) (replay (opened tables) journal) last lives
+    (λ ended replayed later. (both-lives ended last journals (both-from fan_pages (opened tables) ended 0 journal (formed, sound) replayed) later).1)

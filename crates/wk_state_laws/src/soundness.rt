@@ -7,7 +7,7 @@ ghost use Rattle.wk_job_rules.specs.Jobs.{page_held_by};
 ghost use Rattle.wk_job_rules.specs.Covers.{is_covered};
 ghost use Rattle.wk_state_rules.specs.States.{State, no_state, page_at, stored_at};
 ghost use Rattle.wk_state_rules.specs.Events.{Event, Save, Claim, Done, Back, Fan, step_by};
-ghost use Rattle.wk_state_rules.specs.Lives.{replay_by, reopened, opened, Lives};
+ghost use Rattle.wk_state_rules.specs.Lives.{replay_by, reopened, opened, Lives, LivesOfStore};
 ghost use Rattle.wk_state_rules.specs.Tables.{state_of};
 ghost use Rattle.wk_state_rules.specs.Soundness.{IsSound, IsCurrent};
 ghost use Rattle.wk_state_laws.specs.WellFormed.{IsWellFormed};
@@ -77,9 +77,12 @@ pub fn a_wiki_is_well_formed()
     ensures reopened { (state : State) → IsWellFormed state → IsWellFormed (reopened state) }
 {}
 
-/// A journal keeps a wiki sound; so a wiki that began empty is sound at every moment of each of its lives.
+/// A journal keeps a wiki sound; so a wiki that began empty is sound at every moment of each of its lives, and one that
+/// was opened over a store is where it was opened sound and well formed.
 pub fn a_wiki_is_sound_at_all_times()
     ensures journal { (most : ℕ) (start last : State) (events : List Event)
         → IsWellFormed start → IsSound start → replay_by most start events ≡ Some last → IsSound last }
     ensures lives { (journals : List (List Event)) (last : State) → Lives no_state journals last → IsSound last }
+    ensures lives_of_a_store { (tables : StoreTables) (journals : List (List Event)) (last : State)
+        → IsWellFormed (opened tables) → IsSound (opened tables) → LivesOfStore tables journals last → IsSound last }
 {}
