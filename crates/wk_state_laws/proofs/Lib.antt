@@ -7,7 +7,9 @@ pub mod Opened
 pub mod Refreshed
 pub mod Served
 pub mod Fanned
+pub mod FanServes
 pub mod SavedHistory
+pub mod HonestReads
 pub mod Saved
 pub mod Formed
 pub mod Always

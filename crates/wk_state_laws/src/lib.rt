@@ -2,5 +2,6 @@
 //! Nothing here runs.
 #![tactic(auto)]
 
+pub mod fans;
 pub mod history;
 pub mod soundness;
