@@ -5,7 +5,7 @@ ghost use Rattle.wk_text_rules.specs.Numerals.{same_text, same_output};
 
 /// Numerals of one value, written in other ways.
 pub fn equal_numbers()
-    ensures sign_and_zeros { same_text (codes "+01.0") (codes "1e0") ≡ true }
+    ensures sign_and_zeros { same_text (codes "+001.0") (codes "1e0") ≡ true }
     ensures zero_has_no_sign { same_text (codes "-0") (codes "0") ≡ true }
     ensures point_first { same_text (codes ".50") (codes "0.5") ≡ true }
     ensures exponent_down { same_text (codes "1e-2") (codes "0.01") ≡ true }

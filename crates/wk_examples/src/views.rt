@@ -148,7 +148,7 @@ pub fn conditions()
     ensures not_blank { given (pages []) (codes "{{#IF:x| t = u | e }}") ≡ codes "t = u" }
     ensures no_operand { given (pages []) (codes "({{#if:x}})({{#if:}})({{#if:|t}})")
         ≡ codes "()()()" }
-    ensures equal_numbers { given (pages []) (codes "{{#ifeq:+01.0|1e0|s|d}}") ≡ codes "s" }
+    ensures equal_numbers { given (pages []) (codes "{{#ifeq:+001.0|1e0|s|d}}") ≡ codes "s" }
     ensures equal_to_nothing { given (pages []) (codes "{{#ifeq:|||d}}{{#ifeq:a|A|s|d}}")
         ≡ codes "d" }
     ensures no_error { given (pages []) (codes "{{#iferror:a}}") ≡ codes "a" }
