@@ -1,0 +1,3 @@
+pub mod Spans
+pub use Rattle.wk_tree_rules.specs.Atoms
+pub use Rattle.wk_tree_rules.specs.Selection

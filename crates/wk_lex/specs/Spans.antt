@@ -1,0 +1,49 @@
+-- Atoms as places in a text.
+use Rattle.std.specs.Prelude.{◌≡◌, ℕ, ◌+◌, ◌<◌, ◌≤◌, ◌⊎◌, List, [], ◌∷◌, length, take, drop, replicate}
+use Rattle.wk_text_rules.specs.Shapes.{Span}
+use Rattle.wk_tree_rules.specs.declared.AtomKind.{AtomKind}
+use Rattle.wk_tree_rules.specs.declared.AtomKind.TheVariants.{LineComment, Comment, Sealed, Ignored, Tag, Open, Close, Bar, Equals, Byte}
+use Rattle.wk_lex.specs.declared.atom.Atom.{Atom}
+
+-- the bytes that an atom covers in a text
+abbrev pub source_in : List ℕ → Atom → List ℕ
+source_in text atom = take atom.len (drop atom.start text)
+
+-- the atom with its source, as the definition of atoms has it
+abbrev pub span_of : List ℕ → Atom → Span AtomKind ℕ
+span_of text atom = record { kind = atom.kind; start = atom.start; source = source_in text atom }
+
+-- each atom starts where the one before it ends; the first starts at a place, and the last ends at one
+abbrev pub IsRow : ℕ → ℕ → List Atom → Type 0
+IsRow start end [] = start ≡ end
+IsRow start end (atom ∷ atoms) = (atom.start ≡ start) × (0 < atom.len) × IsRow (start + atom.len) end atoms
+
+-- an atom has a byte, and ends at the end of a text of so many bytes or before
+pub record IsWithin (most : ℕ) (atom : Atom) : Type 0 where
+  pub some : 0 < atom.len
+  pub bounded : atom.start + atom.len ≤ most
+
+-- two or more of one mark, and nothing else
+pub record IsRunOf (mark : ℕ) (source : List ℕ) : Type 0 where
+  pub long : 2 ≤ length source
+  pub marks : source ≡ replicate (length source) mark
+
+-- a run of one of two marks
+abbrev pub IsRunOfEither : ℕ → ℕ → List ℕ → Type 0
+IsRunOfEither brace bracket source = IsRunOf brace source ⊎ IsRunOf bracket source
+
+-- what the source of an atom is where its kind is of marks: a run of one mark that opens, or of one that closes
+abbrev pub IsRunByKind : AtomKind → List ℕ → Type 0
+IsRunByKind LineComment source = Unit {0}
+IsRunByKind Comment source = Unit {0}
+IsRunByKind Sealed source = Unit {0}
+IsRunByKind Ignored source = Unit {0}
+IsRunByKind Tag source = Unit {0}
+IsRunByKind Open source = IsRunOfEither 123 91 source
+IsRunByKind Close source = IsRunOfEither 125 93 source
+IsRunByKind Bar source = Unit {0}
+IsRunByKind Equals source = Unit {0}
+IsRunByKind Byte source = Unit {0}
+
+abbrev pub IsRunWhereMarks : List ℕ → Atom → Type 0
+IsRunWhereMarks text atom = IsRunByKind atom.kind (source_in text atom)
