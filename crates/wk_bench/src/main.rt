@@ -1,30 +1,40 @@
 //! The program `wk_bench`, for whoever works on the engine: it makes its own inputs, does the work and prints counts.
-//! Its words are a case, a size and a number of times or threads. Without words it runs each case once at a small size.
+//! Its words are a case, what it is about, a size, and a number of times or threads. Without words it runs each case
+//! once at a small size.
 #![tactic(auto)]
 
-ghost use Rattle.std.specs.Prelude.{◌<◌, ◌≤◌, IfSome};
-
+mod cases;
+mod reading;
+mod texts;
 mod turns;
 
+use cases::{Case, Reading, Turns, USAGE, chosen};
+use std::alloc::Global;
 use std::process::ExitCode;
 use std::rt::Env;
+use std::sync::Wait;
+use std::thread::Threads;
 use std::{env, io};
-
-const USAGE: &str = "wk_bench turns N T, with N from 0 to 10000000 and T from 1 to 64";
-
-/// N turns in all, on T threads.
-#[derive(Clone, Copy)]
-struct Case {
-    turns: u64,
-    threads: u64,
-    ghost hires: { 0 < threads },
-}
+use texts::Sort;
+use wk_memory::Memory;
 
 /// What is run without words.
-const SMALL: Case = Case {
-    turns: 400,
-    threads: 4,
-};
+const SMALL: [Case; 3] = [
+    Case::Turns(Turns {
+        turns: 400,
+        threads: 4,
+    }),
+    Case::Select(Reading {
+        sort: Sort::Ordinary,
+        size: 4096,
+        rounds: 1,
+    }),
+    Case::Atoms(Reading {
+        sort: Sort::Ordinary,
+        size: 4096,
+        rounds: 1,
+    }),
+];
 
 /// The words after the program's name.
 fn words(rt: &(impl Env + AllocGlobal)) -> io::Result<Vec<String>> {
@@ -35,52 +45,74 @@ fn words(rt: &(impl Env + AllocGlobal)) -> io::Result<Vec<String>> {
     Ok(words)
 }
 
-/// The number, where the word is one between these.
-fn number(word: &str, least: u64, most: u64) -> Option<u64>
-    ensures { IfSome result (λ n. (least ≤ n) × (n ≤ most)) }
-{
-    let Ok(number) = word.parse::<u64>() else {
-        return None;
-    };
-    if least <= number && number <= most {
-        Some(number)
-    } else {
-        None
+/// Does the work. The name of the case and of what it counts, and the count.
+fn worked<R: Threads + Wait + Sync>(
+    rt: &R,
+    alloc: Global,
+    case: Case,
+) -> Result<(&'static str, u64), Memory> {
+    match case {
+        Case::Turns(Turns { turns, threads }) => Ok((
+            "turns: entries",
+            turns::run(rt, alloc, turns, threads)?,
+        )),
+        Case::Select(Reading { sort, size, rounds }) => {
+            Ok((
+                "select: bytes",
+                reading::selected(alloc, sort, size, rounds)?,
+            ))
+        }
+        Case::Atoms(Reading { sort, size, rounds }) => Ok((
+            "atoms: atoms",
+            reading::atoms(alloc, sort, size, rounds)?,
+        )),
     }
 }
 
-/// The case that the words name. None where they name none.
-fn chosen(words: &[String]) -> Option<Case> {
-    if words.is_empty() {
-        return Some(SMALL);
-    }
-    if words.len() != 3 || words[0].as_str() != "turns" {
-        return None;
-    }
-    let turns = number(&words[1], 0, 10_000_000)?;
-    let threads = number(&words[2], 1, 64)?;
-    Some(Case { turns, threads })
-}
-
-/// The case that the command line asks for. None too where a word isn't UTF-8.
-fn asked(rt: &(impl Env + AllocGlobal)) -> io::Result<Option<Case>> {
+/// The words, or None where one isn't UTF-8.
+fn asked(rt: &(impl Env + AllocGlobal)) -> io::Result<Option<Vec<String>>> {
     match words(rt) {
-        Ok(words) => Ok(chosen(words.as_slice())),
+        Ok(words) => Ok(Some(words)),
         Err(error) if error.kind() == io::ErrorKind::InvalidData => Ok(None),
         Err(error) => Err(error),
     }
 }
 
-fn main(rt: HostRuntime) -> io::Result<ExitCode> {
-    let Some(case) = asked(&rt)? else {
-        eprintln!(rt; "wk_bench: no such case or number; {USAGE}")?;
-        return Ok(ExitCode::from(2));
+/// The cases that the words ask for: those at a small size where there are none. None where they name no case.
+fn all_chosen(alloc: Global, words: Option<Vec<String>>) -> Result<Option<Vec<Case>>, Memory> {
+    let mut cases = Vec::new(alloc);
+    let Some(words) = words else {
+        return Ok(None);
     };
-    let Case { turns, threads } = case;
-    let Ok(entries) = turns::run(&rt, rt.alloc(), turns, threads) else {
+    if words.is_empty() {
+        for case in SMALL {
+            cases.push(case)?;
+        }
+        return Ok(Some(cases));
+    }
+    let Some(case) = chosen(&words) else {
+        return Ok(None);
+    };
+    cases.push(case)?;
+    Ok(Some(cases))
+}
+
+fn main(rt: HostRuntime) -> io::Result<ExitCode> {
+    let words = asked(&rt)?;
+    let Ok(cases) = all_chosen(rt.alloc(), words) else {
         eprintln!(rt; "wk_bench: out of memory")?;
         return Ok(ExitCode::from(1));
     };
-    println!(rt; "turns {turns} threads {threads} entries {entries}")?;
+    let Some(cases) = cases else {
+        eprintln!(rt; "wk_bench: no such case or number; {USAGE}")?;
+        return Ok(ExitCode::from(2));
+    };
+    for case in cases {
+        let Ok((counted, count)) = worked(&rt, rt.alloc(), case) else {
+            eprintln!(rt; "wk_bench: out of memory")?;
+            return Ok(ExitCode::from(1));
+        };
+        println!(rt; "{counted} {count}")?;
+    }
     Ok(ExitCode::from(0))
 }

@@ -4,6 +4,11 @@
 //! - `{"op":"norm","text":T,"ns":N}` asks which title the text T names where the namespace with the number N is the
 //!   default. The answer is `{"key":K,"ns":N,"shown":S}`, or `null` where it names none.
 //! - `{"op":"kept","text":T}` asks what is kept of the text T. The answer is a string.
+//! - `{"op":"select","mode":M,"text":T}`, where M is `view` or `include`, asks what of the text T is read in that mode.
+//!   The answer is a string.
+//! - `{"op":"atoms","mode":M,"text":T}` asks for the atoms of what is read. The answer is a list of
+//!   `[kind,start,length]`, with places and lengths in bytes. The kinds are `line_comment`, `comment`, `sealed`,
+//!   `ignored`, `tag`, `open`, `close`, `bar`, `equals` and `bytes`, which joins neighbouring single bytes.
 //!
 //! Other members are ignored, and of members with one name the last counts. A line that is none of these forms is
 //! answered with `{"error":"..."}`, which says what is wrong, and the next line goes on. The program takes no words.
@@ -13,7 +18,11 @@
 #![tactic(auto)]
 
 mod answers;
+mod atoms;
+mod members;
+mod refusal;
 mod run;
+mod titles;
 
 use run::{Stop, serve_all};
 use std::io;

@@ -1,0 +1,80 @@
+//! The words of a case.
+ghost use Rattle.std.specs.Prelude.{◌<◌, ◌≤◌, IfSome};
+
+use crate::texts::{Sort, sort_named};
+
+/// What is done.
+#[derive(Clone, Copy)]
+pub enum Case {
+    /// So many turns in all, on so many threads.
+    Turns(Turns),
+    /// What is included of a text is selected.
+    Select(Reading),
+    /// A text is cut into its atoms.
+    Atoms(Reading),
+}
+
+/// N turns in all, on T threads.
+#[derive(Clone, Copy)]
+pub struct Turns {
+    pub turns: u64,
+    pub threads: u64,
+    ghost hires: { 0 < threads },
+}
+
+/// A text of a sort, its bytes, and how many times it is read.
+#[derive(Clone, Copy)]
+pub struct Reading {
+    pub sort: Sort,
+    pub size: usize,
+    pub rounds: u64,
+}
+
+pub const USAGE: &str = "wk_bench turns N T, with N from 0 to 10000000 and T from 1 to 64; or \
+wk_bench select|atoms SORT SIZE ROUNDS, with SIZE from 0 to 16777216 and ROUNDS from 1 to 1000000";
+
+/// The number, where the word is one between these.
+fn number(word: &str, least: u64, most: u64) -> Option<u64>
+    ensures { IfSome result (λ n. (least ≤ n) × (n ≤ most)) }
+{
+    let Ok(number) = word.parse::<u64>() else {
+        return None;
+    };
+    if least <= number && number <= most {
+        Some(number)
+    } else {
+        None
+    }
+}
+
+/// The case of turns that the words behind its name ask for.
+fn turns_asked(words: &[String]) -> Option<Turns> {
+    if words.len() != 2 {
+        return None;
+    }
+    let turns = number(&words[0], 0, 10_000_000)?;
+    let threads = number(&words[1], 1, 64)?;
+    Some(Turns { turns, threads })
+}
+
+/// The text that the words behind a case's name ask for.
+fn reading_asked(words: &[String]) -> Option<Reading> {
+    if words.len() != 3 {
+        return None;
+    }
+    let sort = sort_named(&words[0])?;
+    let size = number(&words[1], 0, 16_777_216)? as usize;
+    let rounds = number(&words[2], 1, 1_000_000)?;
+    Some(Reading { sort, size, rounds })
+}
+
+/// The case that the words name. None where they name none.
+pub fn chosen(words: &[String]) -> Option<Case> {
+    let (name, others) = words.split_first()?;
+    match name.as_str() {
+        "turns" => Some(Case::Turns(turns_asked(others)?)),
+        "select" => Some(Case::Select(reading_asked(others)?)),
+        "atoms" => Some(Case::Atoms(reading_asked(others)?)),
+        _ => None,
+    }
+}

@@ -1,0 +1,33 @@
+//! How texts are read: what is selected of them, and their atoms.
+
+use crate::texts::{Sort, text};
+use std::alloc::Global;
+use wk_lex::{Mode, lex, select};
+use wk_memory::Memory;
+
+/// Selects what is included of a text of the sort, so many times. The bytes that were selected in all.
+pub fn selected(alloc: Global, sort: Sort, size: usize, rounds: u64) -> Result<u64, Memory> {
+    let text = text(alloc, sort, size)?;
+    let mut bytes = 0u64;
+    for _ in 0..rounds {
+        let length = match select(alloc, Mode::Include, &text)? {
+            Some(parts) => parts.len(),
+            None => text.len(),
+        };
+        bytes = bytes.saturating_add(length as u64);
+    }
+    Ok(bytes)
+}
+
+/// Cuts a text of the sort into its atoms, so many times. The atoms in all.
+pub fn atoms(alloc: Global, sort: Sort, size: usize, rounds: u64) -> Result<u64, Memory> {
+    let text = text(alloc, sort, size)?;
+    let mut count = 0u64;
+    for _ in 0..rounds {
+        if (text.len() as u64) < 1 << 32 {
+            let atoms = lex(alloc, Mode::View, &text)?;
+            count = count.saturating_add(atoms.len() as u64);
+        }
+    }
+    Ok(count)
+}

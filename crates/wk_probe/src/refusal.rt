@@ -1,0 +1,63 @@
+//! Why a line has no answer of its own.
+
+use std::alloc::AllocError;
+use wk_memory::Memory;
+
+/// Why a line has no answer of its own.
+#[derive(Clone, Copy, Debug, PartialEq, Eq)]
+pub enum Refusal {
+    /// Memory ran out.
+    Memory,
+    /// The line has more bytes than the limit.
+    TooLong,
+    /// The bytes aren't UTF-8.
+    NotUtf8,
+    /// The text isn't JSON.
+    NotJson,
+    /// The value isn't an object.
+    NotObject,
+    /// No string is the member `op`.
+    NoOp,
+    /// The member `op` is none that the program knows.
+    UnknownOp,
+    /// No string is the member `text`.
+    NoText,
+    /// No integer is the member `ns`.
+    NoNamespace,
+    /// The member `ns` is no namespace's number.
+    UnknownNamespace,
+    /// Neither `view` nor `include` is the member `mode`.
+    NoMode,
+    /// The text has 2^32 bytes or more.
+    TextTooLong,
+}
+
+impl From<Memory> for Refusal {
+    fn from(_: Memory) -> Refusal {
+        Refusal::Memory
+    }
+}
+
+impl From<AllocError> for Refusal {
+    fn from(_: AllocError) -> Refusal {
+        Refusal::Memory
+    }
+}
+
+/// What is wrong, in words.
+pub fn said(refusal: Refusal) -> &'static str {
+    match refusal {
+        Refusal::Memory => "out of memory",
+        Refusal::TooLong => "the line has more than 8388608 bytes",
+        Refusal::NotUtf8 => "the line is not UTF-8",
+        Refusal::NotJson => "the line is not JSON",
+        Refusal::NotObject => "the line is not a JSON object",
+        Refusal::NoOp => "op is missing or not a string",
+        Refusal::UnknownOp => "op is not known",
+        Refusal::NoText => "text is missing or not a string",
+        Refusal::NoNamespace => "ns is missing or not an integer",
+        Refusal::UnknownNamespace => "ns is not the number of a namespace",
+        Refusal::NoMode => "mode is neither view nor include",
+        Refusal::TextTooLong => "text has 4294967296 bytes or more",
+    }
+}

@@ -1,0 +1,42 @@
+//! Which title a text names, and what is kept of a text.
+
+use crate::members::{number_of, text_of};
+use crate::refusal::Refusal;
+use serde_json::{Value, json};
+use std::alloc::Global;
+use wk_memory::Memory;
+use wk_revs::kept;
+use wk_title::{Title, TitleRefusal, is_namespace, normalize, shown};
+
+/// A title as it is answered.
+fn title_value(alloc: Global, title: &Title) -> Result<Value, Memory> {
+    let mut text = String::new(alloc);
+    shown(title, &mut text)?;
+    let ns = i64::from(title.ns());
+    Ok(json!(in alloc; {"key": title.key(), "ns": ns, "shown": &text})?)
+}
+
+/// Which title the text names.
+pub fn norm(alloc: Global, request: &Value) -> Result<Value, Refusal> {
+    let text = text_of(request)?;
+    let Some(number) = number_of(request, "ns") else {
+        return Err(Refusal::NoNamespace);
+    };
+    let Ok(ns) = i8::try_from(number) else {
+        return Err(Refusal::UnknownNamespace);
+    };
+    if !is_namespace(ns) {
+        return Err(Refusal::UnknownNamespace);
+    }
+    match normalize(alloc, text, ns) {
+        Ok(title) => Ok(title_value(alloc, &title)?),
+        Err(TitleRefusal::Illegal) => Ok(Value::Null),
+        Err(TitleRefusal::Memory) => Err(Refusal::Memory),
+    }
+}
+
+/// What is kept of the text.
+pub fn kept_value(alloc: Global, request: &Value) -> Result<Value, Refusal> {
+    let text = text_of(request)?;
+    Ok(Value::String(kept(alloc, text)?))
+}
