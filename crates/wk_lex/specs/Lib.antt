@@ -1,3 +1,6 @@
+pub mod Parts
+pub mod Places
+pub mod Selections
 pub mod Spans
 pub use Rattle.wk_tree_rules.specs.Atoms
 pub use Rattle.wk_tree_rules.specs.Selection

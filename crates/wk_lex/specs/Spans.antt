@@ -3,6 +3,9 @@ use Rattle.std.specs.Prelude.{◌≡◌, ℕ, ◌+◌, ◌<◌, ◌≤◌, ◌�
 use Rattle.wk_text_rules.specs.Shapes.{Span}
 use Rattle.wk_tree_rules.specs.declared.AtomKind.{AtomKind}
 use Rattle.wk_tree_rules.specs.declared.AtomKind.TheVariants.{LineComment, Comment, Sealed, Ignored, Tag, Open, Close, Bar, Equals, Byte}
+use Rattle.wk_tree_rules.specs.Atoms.{atom_at}
+use Rattle.wk_tree_rules.specs.declared.Mode.{Mode}
+use Rattle.wk_lex.specs.Places.{byte_before}
 use Rattle.wk_lex.specs.declared.atom.Atom.{Atom}
 
 -- the bytes that an atom covers in a text
@@ -47,3 +50,8 @@ IsRunByKind Byte source = Unit {0}
 
 abbrev pub IsRunWhereMarks : List ℕ → Atom → Type 0
 IsRunWhereMarks text atom = IsRunByKind atom.kind (source_in text atom)
+
+-- the kind of the atom that begins at a place, and the place behind it
+pub record IsAtomAt (mode : Mode) (text : List ℕ) (at : ℕ) (found : AtomKind × ℕ) : Type 0 where
+  pub fits : atom_at mode (byte_before at text) (drop at text) ≡ (found.0, drop found.1 text)
+  pub within : (at < found.1) × (found.1 ≤ length text)

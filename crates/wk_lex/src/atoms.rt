@@ -1,13 +1,54 @@
 //! The atoms of a text.
-ghost use Rattle.std.specs.Prelude.{◌≡◌, ◌<◌, ◌^◌, length, map, IfOk};
+ghost use Rattle.std.specs.Prelude.{◌≡◌, ◌<◌, ◌≤◌, ◌^◌, length, map, IfOk};
 ghost use Rattle.std.specs.List.{All};
 ghost use Rattle.wk_tree_rules.specs.Atoms.{atoms};
-ghost use Rattle.wk_lex.specs.Spans.{span_of, IsRow, IsWithin, IsRunWhereMarks};
+ghost use Rattle.wk_lex.specs.Spans.{span_of, IsAtomAt, IsRow, IsWithin, IsRunWhereMarks};
 
 use crate::Atom;
+use crate::comment::{comment, whole_line_of_comments};
+use crate::marks::{closing_run, opening_run};
+use crate::places::word_at;
+use crate::tags::Tags;
 use std::alloc::Global;
 use wk_memory::Memory;
-use wk_tree_rules::Mode;
+use wk_tree_rules::{AtomKind, Mode};
+
+/// The kind of the atom that begins at the place, and the place behind it.
+fn atom_at(tags: &mut Tags, mode: Mode, at: usize) -> (AtomKind, usize)
+    requires { at < length tags.old }
+    ensures atom { IsAtomAt mode tags.old at result }
+    ensures text { tags.new ≡ tags.old }
+{
+    let text = tags.text;
+    if let Some(end) = whole_line_of_comments(text, at) {
+        return (AtomKind::LineComment, end);
+    }
+    if let Some(end) = comment(text, at) {
+        return (AtomKind::Comment, end);
+    }
+    if let Some(end) = tags.sealed_element(at) {
+        return (AtomKind::Sealed, end);
+    }
+    if let Some(end) = tags.ignored_element(mode, at) {
+        return (AtomKind::Ignored, end);
+    }
+    if let Some(end) = tags.silent_tag(mode, at) {
+        return (AtomKind::Tag, end);
+    }
+    if let Some(end) = opening_run(text, at) {
+        return (AtomKind::Open, end);
+    }
+    if let Some(end) = closing_run(text, at) {
+        return (AtomKind::Close, end);
+    }
+    if let Some(end) = word_at(text, at, b"|") {
+        return (AtomKind::Bar, end);
+    }
+    if let Some(end) = word_at(text, at, b"=") {
+        return (AtomKind::Equals, end);
+    }
+    (AtomKind::Byte, at + 1)
+}
 
 /// The atoms of a text that was selected, from its start to its end. Linear in the text.
 pub fn lex(alloc: Global, mode: Mode, selected: &[u8]) -> Result<Vec<Atom>, Memory>
@@ -18,5 +59,18 @@ pub fn lex(alloc: Global, mode: Mode, selected: &[u8]) -> Result<Vec<Atom>, Memo
     ensures within { IfOk result (λ found. All (IsWithin (length selected.now)) found.items) }
     ensures runs { IfOk result (λ found. All (IsRunWhereMarks selected.now) found.items) }
 {
-    Err(Memory)
+    let mut tags = Tags::new(selected);
+    let mut found = Vec::new(alloc);
+    let mut at = 0;
+    while at < selected.len() {
+        let (kind, end) = atom_at(&mut tags, mode, at);
+        let atom = Atom {
+            kind,
+            start: at as u32,
+            len: (end - at) as u32,
+        };
+        found.push(atom)?;
+        at = end;
+    }
+    Ok(found)
 }

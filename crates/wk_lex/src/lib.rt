@@ -3,7 +3,13 @@
 
 mod atom;
 mod atoms;
+mod comment;
+mod elements;
+mod ends;
+mod marks;
+mod places;
 mod selection;
+mod tags;
 
 pub use atom::Atom;
 pub use atoms::lex;

@@ -1,0 +1,6 @@
+pub mod AtomSteps
+pub mod ElementLemmas
+pub mod NameLemmas
+pub mod PartSteps
+pub mod PlaceLemmas
+pub mod SpanSteps
