@@ -47,44 +47,58 @@ fn atom_value(alloc: Global, kind: AtomKind, start: u32, len: u64) -> Result<Val
     Ok(json!(in alloc; [kind_word(kind), start, len])?)
 }
 
-/// How many of the atoms, from their start, are single bytes.
-fn bytes_at_front(atoms: &[Atom]) -> usize
-    ensures { result ≤ length atoms.now }
-{
-    let mut count = 0;
-    for atom in atoms {
-        if atom.kind != AtomKind::Byte {
-            return count;
-        }
-        count += 1;
-    }
-    count
-}
-
 /// Adds an entry to an answer that is a list.
 fn add(entries: &mut Vec<Value>, entry: Value) -> Result<(), Memory> {
     entries.push(entry)?;
     Ok(())
 }
 
-/// The atoms of the text that is read, with neighbouring single bytes joined.
+/// Adds the single bytes that wait to be joined, from a place and so many, if there are any.
+fn add_bytes(
+    alloc: Global,
+    entries: &mut Vec<Value>,
+    bytes: Option<(u32, u64)>,
+) -> Result<(), Memory> {
+    let Some((start, len)) = bytes else {
+        return Ok(());
+    };
+    add(entries, atom_value(alloc, AtomKind::Byte, start, len)?)
+}
+
+/// The bytes that wait, with one more at a place.
+fn with_byte(bytes: Option<(u32, u64)>, start: u32) -> Option<(u32, u64)> {
+    match bytes {
+        Some((first, len)) => Some((first, len.saturating_add(1))),
+        None => Some((start, 1)),
+    }
+}
+
+/// The atoms as an answer, with neighbouring single bytes joined.
+fn entries_of(alloc: Global, atoms: &[Atom]) -> Result<Value, Memory> {
+    let mut entries = Vec::new(alloc);
+    let mut bytes = None;
+    for atom in atoms {
+        if atom.kind == AtomKind::Byte {
+            bytes = with_byte(bytes, atom.start);
+        } else {
+            add_bytes(alloc, &mut entries, bytes)?;
+            bytes = None;
+            add(
+                &mut entries,
+                atom_value(alloc, atom.kind, atom.start, u64::from(atom.len))?,
+            )?;
+        }
+    }
+    add_bytes(alloc, &mut entries, bytes)?;
+    Ok(Value::Array(entries))
+}
+
+/// The atoms of the text that is read.
 pub fn atoms_value(alloc: Global, request: &Value) -> Result<Value, Refusal> {
     let text = selected(alloc, request)?;
     if text.len() as u64 >= 1 << 32 {
         return Err(Refusal::TextTooLong);
     }
     let atoms = lex(alloc, mode_of(request)?, &text)?;
-    let mut entries = Vec::new(alloc);
-    let mut rest = atoms.as_slice();
-    while let Some(atom) = rest.first() {
-        let bytes = bytes_at_front(rest);
-        if bytes == 0 {
-            add(&mut entries, atom_value(alloc, atom.kind, atom.start, atom.len as u64)?)?;
-            rest = &rest[1..];
-        } else {
-            add(&mut entries, atom_value(alloc, AtomKind::Byte, atom.start, bytes as u64)?)?;
-            rest = &rest[bytes..];
-        }
-    }
-    Ok(Value::Array(entries))
+    Ok(entries_of(alloc, &atoms)?)
 }
