@@ -3,4 +3,5 @@ pub mod ElementLemmas
 pub mod NameLemmas
 pub mod PartSteps
 pub mod PlaceLemmas
+pub mod PlainLemmas
 pub mod SpanSteps

@@ -49,14 +49,16 @@ module _ {K : Type 0} (begins : Option ℕ → List ℕ → K × List ℕ) where
       let last : before_at begins (Some x) more xs ≡ byte_before end text = before-is text more at (omega arith) ∙ ap (λ k. byte_before k text) (let again : suc (at + more) ≡ end = omega arith in again) in
       let rest : drop more xs ≡ drop end text = drop-drop more (suc at) text ∙ ap (λ k. drop k text) place in
       let size : suc more ≡ end - at = omega arith in
+      let behind : spans_from begins (suc at) (Some x) more xs ≡ spans_from begins end (byte_before end text) 0 (drop end text) =
+      skip
+      ∙ ap (λ n. spans_from begins n (before_at begins (Some x) more xs) 0 (drop more xs)) place
+      ∙ ap (λ b. spans_from begins end b 0 (drop more xs)) last
+      ∙ ap (λ t. spans_from begins end (byte_before end text) 0 t) rest in
       ap (λ t. spans_from begins at before 0 t) whole
       ∙ first-span at before x xs more e_more
       ∙ ap₂ (λ (s : Span K ℕ) r. s ∷ r)
       (ap (λ t. record { kind = (begins before t).0; start = at; source = take (suc more) t }) (sym whole) ∙ ap (λ n. record { kind = (begins before (drop at text)).0; start = at; source = take n (drop at text) }) size)
-      (skip
-      ∙ ap (λ n. spans_from begins n (before_at begins (Some x) more xs) 0 (drop more xs)) place
-      ∙ ap (λ b. spans_from begins end b 0 (drop more xs)) last
-      ∙ ap (λ t. spans_from begins end (byte_before end text) 0 t) rest)
+      behind
 
   pub spans_at-end : (text : List ℕ) (at : ℕ) → drop at text ≡ [] → spans_at text at ≡ []
   unfolding spans_from

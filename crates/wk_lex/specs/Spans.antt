@@ -1,5 +1,5 @@
 -- Atoms as places in a text.
-use Rattle.std.specs.Prelude.{◌≡◌, ℕ, ◌+◌, ◌<◌, ◌≤◌, ◌⊎◌, List, [], ◌∷◌, length, take, drop, replicate}
+use Rattle.std.specs.Prelude.{◌≡◌, ◌≢◌, ℕ, ◌+◌, ◌<◌, ◌≤◌, ◌⊎◌, List, [], ◌∷◌, length, take, drop, replicate}
 use Rattle.wk_text_rules.specs.Shapes.{Span}
 use Rattle.wk_tree_rules.specs.declared.AtomKind.{AtomKind}
 use Rattle.wk_tree_rules.specs.declared.AtomKind.TheVariants.{LineComment, Comment, Sealed, Ignored, Tag, Open, Close, Bar, Equals, Byte}
@@ -55,3 +55,13 @@ IsRunWhereMarks text atom = IsRunByKind atom.kind (source_in text atom)
 pub record IsAtomAt (mode : Mode) (text : List ℕ) (at : ℕ) (found : AtomKind × ℕ) : Type 0 where
   pub fits : atom_at mode (byte_before at text) (drop at text) ≡ (found.0, drop found.1 text)
   pub within : (at < found.1) × (found.1 ≤ length text)
+
+-- a byte that no atom begins with, but a line of comments and the atom that is the byte alone
+pub record IsPlain (byte : ℕ) : Type 0 where
+  pub angle : byte ≢ 60
+  pub open_brace : byte ≢ 123
+  pub open_bracket : byte ≢ 91
+  pub close_brace : byte ≢ 125
+  pub close_bracket : byte ≢ 93
+  pub bar : byte ≢ 124
+  pub equals : byte ≢ 61

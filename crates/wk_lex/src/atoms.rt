@@ -1,8 +1,9 @@
 //! The atoms of a text.
 ghost use Rattle.std.specs.Prelude.{◌≡◌, ◌<◌, ◌≤◌, ◌^◌, length, map, IfOk};
+ghost use Rattle.std.specs.Bool.{OnTrue};
 ghost use Rattle.std.specs.List.{All};
 ghost use Rattle.wk_tree_rules.specs.Atoms.{atoms};
-ghost use Rattle.wk_lex.specs.Spans.{span_of, IsAtomAt, IsRow, IsWithin, IsRunWhereMarks};
+ghost use Rattle.wk_lex.specs.Spans.{span_of, IsAtomAt, IsPlain, IsRow, IsWithin, IsRunWhereMarks};
 
 use crate::Atom;
 use crate::comment::{comment, whole_line_of_comments};
@@ -13,6 +14,13 @@ use std::alloc::Global;
 use wk_memory::Memory;
 use wk_tree_rules::{AtomKind, Mode};
 
+/// Whether no atom but a line of comments or a single byte begins with the byte.
+fn is_plain(byte: u8) -> bool
+    ensures { OnTrue result (IsPlain byte) }
+{
+    !matches!(byte, b'<' | b'{' | b'[' | b'}' | b']' | b'|' | b'=')
+}
+
 /// The kind of the atom that begins at the place, and the place behind it.
 fn atom_at(tags: &mut Tags, mode: Mode, at: usize) -> (AtomKind, usize)
     requires { at < length tags.old }
@@ -22,6 +30,10 @@ fn atom_at(tags: &mut Tags, mode: Mode, at: usize) -> (AtomKind, usize)
     let text = tags.text;
     if let Some(end) = whole_line_of_comments(text, at) {
         return (AtomKind::LineComment, end);
+    }
+    // Most bytes are plain, and nothing else is looked for there.
+    if is_plain(text[at]) {
+        return (AtomKind::Byte, at + 1);
     }
     if let Some(end) = comment(text, at) {
         return (AtomKind::Comment, end);

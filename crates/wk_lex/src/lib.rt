@@ -15,3 +15,6 @@ pub use atom::Atom;
 pub use atoms::lex;
 pub use selection::select;
 pub use wk_tree_rules::{AtomKind, Mode};
+
+#[cfg(test)]
+mod tests;
