@@ -1,0 +1,10 @@
+//! When two texts are equal: as exact numbers where both are numerals, and else byte by byte.
+#![tactic(auto)]
+
+mod comparison;
+mod numeral;
+mod parts;
+#[cfg(test)]
+mod tests;
+
+pub use comparison::same;
