@@ -12,6 +12,10 @@ pub enum Case {
     Select(Reading),
     /// A text is cut into its atoms.
     Atoms(Reading),
+    /// Two numerals of so many bytes are compared so many times.
+    Same { size: usize, rounds: u64 },
+    /// A short output is appended to another so many times.
+    Append { times: u64 },
 }
 
 /// N turns in all, on T threads.
@@ -31,7 +35,8 @@ pub struct Reading {
 }
 
 pub const USAGE: &str = "wk_bench turns N T, with N from 0 to 10000000 and T from 1 to 64; or \
-wk_bench select|atoms SORT SIZE ROUNDS, with SIZE from 0 to 16777216 and ROUNDS from 1 to 1000000";
+wk_bench select|atoms SORT SIZE ROUNDS, wk_bench same SIZE ROUNDS, or wk_bench append TIMES, \
+with SIZE from 0 to 16777216, and ROUNDS and TIMES from 1 to 1000000";
 
 /// The number, where the word is one between these.
 fn number(word: &str, least: u64, most: u64) -> Option<u64>
@@ -68,6 +73,25 @@ fn reading_asked(words: &[String]) -> Option<Reading> {
     Some(Reading { sort, size, rounds })
 }
 
+/// The numerals that the words behind a case's name ask for.
+fn same_asked(words: &[String]) -> Option<Case> {
+    if words.len() != 2 {
+        return None;
+    }
+    let size = number(&words[0], 1, 16_777_216)? as usize;
+    let rounds = number(&words[1], 1, 1_000_000)?;
+    Some(Case::Same { size, rounds })
+}
+
+/// How often the words behind a case's name ask to append.
+fn append_asked(words: &[String]) -> Option<Case> {
+    if words.len() != 1 {
+        return None;
+    }
+    let times = number(&words[0], 1, 1_000_000)?;
+    Some(Case::Append { times })
+}
+
 /// The case that the words name. None where they name none.
 pub fn chosen(words: &[String]) -> Option<Case> {
     let (name, others) = words.split_first()?;
@@ -75,6 +99,8 @@ pub fn chosen(words: &[String]) -> Option<Case> {
         "turns" => Some(Case::Turns(turns_asked(others)?)),
         "select" => Some(Case::Select(reading_asked(others)?)),
         "atoms" => Some(Case::Atoms(reading_asked(others)?)),
+        "same" => same_asked(others),
+        "append" => append_asked(others),
         _ => None,
     }
 }

@@ -7,6 +7,7 @@ mod cases;
 mod reading;
 mod texts;
 mod turns;
+mod values;
 
 use cases::{Case, Reading, Turns, USAGE, chosen};
 use std::alloc::Global;
@@ -19,7 +20,7 @@ use texts::Sort;
 use wk_memory::Memory;
 
 /// What is run without words.
-const SMALL: [Case; 3] = [
+const SMALL: [Case; 5] = [
     Case::Turns(Turns {
         turns: 400,
         threads: 4,
@@ -34,6 +35,11 @@ const SMALL: [Case; 3] = [
         size: 4096,
         rounds: 1,
     }),
+    Case::Same {
+        size: 1024,
+        rounds: 1,
+    },
+    Case::Append { times: 100 },
 ];
 
 /// The words after the program's name.
@@ -66,6 +72,8 @@ fn worked<R: Threads + Wait + Sync>(
             "atoms: atoms",
             reading::atoms(alloc, sort, size, rounds)?,
         )),
+        Case::Same { size, rounds } => Ok(("same: equal", values::compared(alloc, size, rounds)?)),
+        Case::Append { times } => Ok(("append: bytes", values::appended(alloc, times)?)),
     }
 }
 

@@ -2,6 +2,7 @@
 
 use crate::atoms::{atoms_value, select_value};
 use crate::members::{read, string_of};
+use crate::numerals::same_value;
 use crate::refusal::{Refusal, said};
 use crate::titles::{kept_value, norm};
 use serde_json::{Value, json};
@@ -20,6 +21,7 @@ fn answer(alloc: Global, bytes: &[u8]) -> Result<Value, Refusal> {
         Some("kept") => kept_value(alloc, &request),
         Some("select") => select_value(alloc, &request),
         Some("atoms") => atoms_value(alloc, &request),
+        Some("same") => same_value(&request),
         Some(_) => Err(Refusal::UnknownOp),
         None => Err(Refusal::NoOp),
     }

@@ -9,6 +9,8 @@
 //! - `{"op":"atoms","mode":M,"text":T}` asks for the atoms of what is read. The answer is a list of
 //!   `[kind,start,length]`, with places and lengths in bytes. The kinds are `line_comment`, `comment`, `sealed`,
 //!   `ignored`, `tag`, `open`, `close`, `bar`, `equals` and `bytes`, which joins neighbouring single bytes.
+//! - `{"op":"same","a":A,"b":B}` asks whether the texts A and B are equal to `#ifeq`: as numbers where both are
+//!   numerals, else byte by byte. The answer is `true` or `false`.
 //!
 //! Other members are ignored, and of members with one name the last counts. A line that is none of these forms is
 //! answered with `{"error":"..."}`, which says what is wrong, and the next line goes on. The program takes no words.
@@ -20,6 +22,7 @@
 mod answers;
 mod atoms;
 mod members;
+mod numerals;
 mod refusal;
 mod run;
 mod titles;

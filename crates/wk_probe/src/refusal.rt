@@ -30,6 +30,8 @@ pub enum Refusal {
     NoMode,
     /// The text has 2^32 bytes or more.
     TextTooLong,
+    /// The members `a` and `b` aren't both strings.
+    NoOperand,
 }
 
 impl From<Memory> for Refusal {
@@ -59,5 +61,6 @@ pub fn said(refusal: Refusal) -> &'static str {
         Refusal::UnknownNamespace => "ns is not the number of a namespace",
         Refusal::NoMode => "mode is neither view nor include",
         Refusal::TextTooLong => "text has 4294967296 bytes or more",
+        Refusal::NoOperand => "a or b is missing or not a string",
     }
 }
