@@ -10,7 +10,7 @@ pub fn selected(alloc: Global, sort: Sort, size: usize, rounds: u64) -> Result<u
     let text = text(alloc, sort, size)?;
     let mut bytes = 0u64;
     for _ in 0..rounds {
-        let length = match select(alloc, Mode::Include, &text)? {
+        let length = match select(alloc, Mode::Include, text.as_bytes())? {
             Some(parts) => parts.len(),
             None => text.len(),
         };
@@ -25,7 +25,7 @@ pub fn atoms(alloc: Global, sort: Sort, size: usize, rounds: u64) -> Result<u64,
     let mut count = 0u64;
     for _ in 0..rounds {
         if (text.len() as u64) < 1 << 32 {
-            let atoms = lex(alloc, Mode::View, &text)?;
+            let atoms = lex(alloc, Mode::View, text.as_bytes())?;
             count = count.saturating_add(atoms.len() as u64);
         }
     }

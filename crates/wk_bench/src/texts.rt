@@ -30,10 +30,16 @@ pub enum Sort {
     Closing,
     /// Brackets and braces that cross.
     Crossing,
+    /// Opening brackets.
+    OpenLinks,
+    /// Links whose labels never end.
+    Labels,
+    /// A link with one label that never ends.
+    LongLabel,
 }
 
 /// Each sort and its word.
-const SORTS: [(&str, Sort); 12] = [
+const SORTS: [(&str, Sort); 15] = [
     ("ordinary", Sort::Ordinary),
     ("angles", Sort::Angles),
     ("open_comment", Sort::OpenComment),
@@ -46,6 +52,9 @@ const SORTS: [(&str, Sort); 12] = [
     ("links", Sort::Links),
     ("closing", Sort::Closing),
     ("crossing", Sort::Crossing),
+    ("open_links", Sort::OpenLinks),
+    ("labels", Sort::Labels),
+    ("long_label", Sort::LongLabel),
 ];
 
 /// The sort with this word, if there is one.
@@ -68,44 +77,49 @@ It has <nowiki>[[canals]]</nowiki> and a [[list of museums|number of museums]].\
 == History ==\nThe town grew around a hill at the [[Old Rhine|Rhine]] &amp; was a \
 [[Category:Cities]] by 1266.{{cite|title=Holland|page=12}}\n";
 
-/// What a text of the sort repeats in its first half, and in its second half.
-fn patterns(sort: Sort) -> (&'static str, &'static str) {
+/// A line of comments that isn't one in the end.
+const COMMENTS: &str = "\n<!--a--> <!--b--><!--c-->x";
+
+/// What a text of the sort begins with, what it repeats in its first half, and what in its second half. All is ASCII.
+fn patterns(sort: Sort) -> (&'static str, &'static str, &'static str) {
     match sort {
-        Sort::Ordinary => (ORDINARY, ORDINARY),
-        Sort::Angles => ("<", "<"),
-        Sort::OpenComment => ("<!-- a - b ", "-> c --"),
-        Sort::Comments => (
-            "\n<!--a--> <!--b--><!--c-->x",
-            "\n<!--a--> <!--b--><!--c-->x",
-        ),
-        Sort::Elements => ("<nowiki>", "<nowiki>"),
-        Sort::OpenTags => ("<nowiki ", "<pre "),
-        Sort::Parts => ("<onlyinclude>", "<onlyinclude>"),
-        Sort::Braces => ("{", "{"),
-        Sort::Calls => ("{{a|", "{{a|"),
-        Sort::Links => ("[[a|", "]]"),
-        Sort::Closing => ("}}]]", "}}}a]]]"),
-        Sort::Crossing => ("{{[[a|", "}}]]"),
+        Sort::Ordinary => ("", ORDINARY, ORDINARY),
+        Sort::Angles => ("", "<", "<"),
+        Sort::OpenComment => ("<!--", " a - b ", "-> c --"),
+        Sort::Comments => ("", COMMENTS, COMMENTS),
+        Sort::Elements => ("", "<nowiki>", "<nowiki>"),
+        Sort::OpenTags => ("", "<nowiki ", "<pre "),
+        Sort::Parts => ("", "<onlyinclude>", "<onlyinclude>"),
+        Sort::Braces => ("", "{", "{"),
+        Sort::Calls => ("", "{{a|", "{{a|"),
+        Sort::Links => ("", "[[a|", "]]"),
+        Sort::Closing => ("", "}}]]", "}}}a]]]"),
+        Sort::Crossing => ("", "{{[[a|", "}}]]"),
+        Sort::OpenLinks => ("", "[[", "[["),
+        Sort::Labels => ("", "[[a|", "[[a|b]"),
+        Sort::LongLabel => ("[[a|", "a label ", "a label ] "),
     }
 }
 
-/// Makes the text longer by so many bytes, which are the pattern again and again.
-fn lengthen(text: &mut Vec<u8>, pattern: &str, more: usize) -> Result<(), Memory> {
+/// Makes the text longer by so many characters, which are the pattern again and again.
+fn lengthen(text: &mut String, pattern: &str, more: usize) -> Result<(), Memory> {
     let bytes = pattern.as_bytes();
     if bytes.is_empty() {
         return Ok(());
     }
     for at in 0..more {
-        text.push(bytes[at % bytes.len()])?;
+        text.push(char::from(bytes[at % bytes.len()]))?;
     }
     Ok(())
 }
 
-/// A text of the sort that has `size` bytes.
-pub fn text(alloc: Global, sort: Sort, size: usize) -> Result<Vec<u8>, Memory> {
-    let (first, second) = patterns(sort);
-    let mut text = Vec::new(alloc);
-    lengthen(&mut text, first, size / 2)?;
-    lengthen(&mut text, second, size - size / 2)?;
+/// A text of the sort that has `size` bytes, and a few more where it is shorter than what the sort begins with.
+pub fn text(alloc: Global, sort: Sort, size: usize) -> Result<String, Memory> {
+    let (head, first, second) = patterns(sort);
+    let mut text = String::new(alloc);
+    text.push_str(head)?;
+    let rest = size.saturating_sub(head.len());
+    lengthen(&mut text, first, rest / 2)?;
+    lengthen(&mut text, second, rest - rest / 2)?;
     Ok(text)
 }
