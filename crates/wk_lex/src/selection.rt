@@ -9,6 +9,11 @@ use std::alloc::Global;
 use wk_memory::Memory;
 use wk_tree_rules::Mode;
 
+/// The lengths of the two tags.
+const TAG_LEN: usize = b"<onlyinclude>".len();
+
+const END_TAG_LEN: usize = b"</onlyinclude>".len();
+
 /// The place at which the first part from a place on begins, and the place of its end tag. Where an end tag isn't
 /// found there is none further on, and so no part.
 fn next_part(text: &[u8], from: usize) -> Option<(usize, usize)>
@@ -16,7 +21,7 @@ fn next_part(text: &[u8], from: usize) -> Option<(usize, usize)>
     ensures { IsNextPart text.now from result }
 {
     let tag = nearest(text, from, b"<onlyinclude>")?;
-    let start = tag + 13;
+    let start = tag + TAG_LEN;
     let end = nearest(text, start, b"</onlyinclude>")?;
     Some((start, end))
 }
@@ -29,7 +34,7 @@ fn joined_parts(alloc: Global, text: &[u8]) -> Result<Vec<u8>, Memory>
     let mut at = 0;
     while let Some((start, end)) = next_part(text, at) {
         joined.extend_from_slice(&text[start..end])?;
-        at = end + 14;
+        at = end + END_TAG_LEN;
     }
     Ok(joined)
 }
