@@ -1,0 +1,4 @@
+pub mod ErrorLaws
+pub mod PlainLaws
+pub mod RunLaws
+pub mod TrimLaws
