@@ -8,6 +8,7 @@ pub mod Refreshed
 pub mod Served
 pub mod Fanned
 pub mod FanServes
+pub mod FanRuns
 pub mod SavedHistory
 pub mod HonestReads
 pub mod Saved

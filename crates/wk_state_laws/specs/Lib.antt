@@ -1,3 +1,4 @@
 pub mod Saves
 pub mod Conflicts
 pub mod WellFormed
+pub mod FanRuns
