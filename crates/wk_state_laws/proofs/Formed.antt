@@ -24,7 +24,7 @@ use Rattle.wk_state_laws.proofs.Sound.{given}
 use Rattle.wk_state_laws.proofs.SavedHistory.{Stands, text-kept, text-own}
 use Rattle.wk_state_laws.proofs.Saved.{pages-saved}
 
-abbrev Within : ℕ → ℕ → Type 0
+abbrev pub Within : ℕ → ℕ → Type 0
 Within pages page = (1 ≤ page) × (page ≤ pages)
 
 pub IsWellFormed-none : IsWellFormed no_state
@@ -38,10 +38,10 @@ IsWellFormed-none = record {
 
 -- ---- jobs alone
 
-formed-jobs : (state : State) (lists : JobLists) → IsWellFormed state → All (Within (length state.history.pages)) (pages_of lists) → IsWellFormed (with_jobs state lists)
+pub formed-jobs : (state : State) (lists : JobLists) → IsWellFormed state → All (Within (length state.history.pages)) (pages_of lists) → IsWellFormed (with_jobs state lists)
 formed-jobs state lists formed all = record { stored = formed.stored; jobs = all; titles = formed.titles; texts = formed.texts }
 
-queued-within : (P : ℕ → Type 0) (lists : JobLists) (page : ℕ) → P page → AllByRecursion P (pages_of lists) → AllByRecursion P (pages_of (refresh_queued lists page))
+pub queued-within : (P : ℕ → Type 0) (lists : JobLists) (page : ℕ) → P page → AllByRecursion P (pages_of lists) → AllByRecursion P (pages_of (refresh_queued lists page))
 queued-within P lists page holds all = elim (cases_Bool (has_refresh lists page)) [
   | inl there ↦ rw there all
   | inr none ↦ rw (pages-queued lists page none) (push (pages_of lists) all)
@@ -51,7 +51,7 @@ queued-within P lists page holds all = elim (cases_Bool (has_refresh lists page)
     push [] every = (holds, tt)
     push (first ∷ pages) every = (every.0, push pages every.1)
 
-all_queued-within : (P : ℕ → Type 0) (lists : JobLists) (pages : List ℕ) → AllByRecursion P pages → AllByRecursion P (pages_of lists) → AllByRecursion P (pages_of (all_queued lists pages))
+pub all_queued-within : (P : ℕ → Type 0) (lists : JobLists) (pages : List ℕ) → AllByRecursion P pages → AllByRecursion P (pages_of lists) → AllByRecursion P (pages_of (all_queued lists pages))
 all_queued-within P lists [] holds all = all
 all_queued-within P lists (page ∷ pages) holds all = all_queued-within P (refresh_queued lists page) pages holds.1 (queued-within P lists page holds.0 all)
 

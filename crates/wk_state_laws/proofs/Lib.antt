@@ -14,3 +14,4 @@ pub mod HonestReads
 pub mod Saved
 pub mod Formed
 pub mod Always
+pub mod GoodOpened
