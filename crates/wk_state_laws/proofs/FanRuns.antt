@@ -206,7 +206,7 @@ taken-all zero (x ∷ ns) within = absurd (omega (arith, within))
 taken-all (suc n) [] within = refl
 taken-all (suc n) (x ∷ ns) within = ap (λ ms. x ∷ ms) (taken-all n ns (omega (arith, within)))
 
-found-few : (p : ℕ × PageLinks → Bool) (a : ℕ) (stored : List PageLinks) → length (found p a stored) ≤ length stored
+pub found-few : (p : ℕ × PageLinks → Bool) (a : ℕ) (stored : List PageLinks) → length (found p a stored) ≤ length stored
 found-few p a [] = omega arith
 found-few p a (x ∷ stored) = let few = found-few p (a + 1) stored in elim (cases_Bool (p (a, x))) [
   | inl fits ↦ rw fits (omega (arith, few))

@@ -15,3 +15,9 @@ pub mod Saved
 pub mod Formed
 pub mod Always
 pub mod GoodOpened
+pub mod TableLinks
+pub mod TableJobs
+pub mod TableHistory
+pub mod Kept
+pub mod ReadBack
+pub mod Reached
