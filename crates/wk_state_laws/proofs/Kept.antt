@@ -119,7 +119,7 @@ IsKept-none = record {
 
 -- ---- jobs alone
 
-kept-jobs : (state : State) (lists : JobLists) → IsKept state → IsWellFormed (with_jobs state lists) → IsNumbered lists → IsOneAPage lists → IsOneATitle lists → IsInOrder lists → lists.next ≤ 2 ^ 63 → AllByRecursion (FanFits max_pages) lists.fans
+pub kept-jobs : (state : State) (lists : JobLists) → IsKept state → IsWellFormed (with_jobs state lists) → IsNumbered lists → IsOneAPage lists → IsOneATitle lists → IsInOrder lists → lists.next ≤ 2 ^ 63 → AllByRecursion (FanFits max_pages) lists.fans
     → IsKept (with_jobs state lists)
 kept-jobs state lists keeps formed numbered one_page one_title in_order next fans = record {
   formed = formed;
@@ -133,7 +133,7 @@ kept-jobs state lists keeps formed numbered one_page one_title in_order next fan
   fans = fans;
 }
 
-greatest-within : (most start : ℕ) (numbers : List ℕ) → start < most → AllByRecursion (λ n. (1 ≤ n) × (n < most)) numbers → fold max start numbers < most
+pub greatest-within : (most start : ℕ) (numbers : List ℕ) → start < most → AllByRecursion (λ n. (1 ≤ n) × (n < most)) numbers → fold max start numbers < most
 greatest-within most start [] low all = low
 greatest-within most start (n ∷ numbers) low all = greatest-within most (max start n) numbers (let below = all.0.1 in omega (arith, low, below)) all.1
 
@@ -250,7 +250,7 @@ IsKept-refreshed state page keeps formed normals =
 next-queued : (lists : JobLists) (page : ℕ) → (refresh_queued lists page).next ≤ lists.next + 1
 next-queued lists page = elim (cases_Bool (has_refresh lists page)) [ inl there ↦ rw there (omega arith) | inr none ↦ rw none (omega arith) ]
 
-next-all_queued : (lists : JobLists) (pages : List ℕ) → (all_queued lists pages).next ≤ lists.next + length pages
+pub next-all_queued : (lists : JobLists) (pages : List ℕ) → (all_queued lists pages).next ≤ lists.next + length pages
 next-all_queued lists [] = omega arith
 next-all_queued lists (page ∷ pages) =
     let first = next-queued lists page in

@@ -20,4 +20,6 @@ pub mod TableJobs
 pub mod TableHistory
 pub mod Kept
 pub mod ReadBack
+pub mod GoodStores
+pub mod GoodJobs
 pub mod Reached

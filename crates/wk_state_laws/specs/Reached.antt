@@ -4,11 +4,12 @@ use Rattle.std.specs.Prelude.{◌≡◌, ℕ, ◌≤◌, All, IfSome, true, fals
 use Rattle.wk_text_rules.specs.Titles.{PageTitle}
 use Rattle.wk_page_rules.specs.Verdict.{EditAsked, MostHeld, accept, is_journal_full}
 use Rattle.wk_table_rules.specs.Changes.{PageLinks}
-use Rattle.wk_table_rules.specs.GoodStore.{is_normal, max_pages, max_texts}
+use Rattle.wk_table_rules.specs.Rows.{StoreTables}
+use Rattle.wk_table_rules.specs.GoodStore.{IsGood, is_normal, max_pages, max_texts}
 use Rattle.wk_job_rules.specs.Jobs.{left, page_held_by}
 use Rattle.wk_state_rules.specs.States.{State, no_state, title_at, world_of, links_in}
 use Rattle.wk_state_rules.specs.Events.{Event, Save, Claim, Done, Back, Fan, step_by}
-use Rattle.wk_state_rules.specs.Lives.{reopened}
+use Rattle.wk_state_rules.specs.Lives.{reopened, opened}
 use Rattle.wk_state_rules.specs.Verdicts.{verdict_in}
 
 -- The limits of pages and of texts are at most the full ones, which good tables have. How many revisions and events
@@ -42,10 +43,11 @@ pub data IsMade : MostHeld → State → ℕ → Event → Type 0 where
       → is_journal_full most journal (left state.jobs).claimed state.jobs.next ≡ false
       → IsMade most state journal Fan
 
--- A state that an empty wiki reaches by such events and by restarts, over any number of lives. A fan may serve any
--- number of pages.
+-- A state that an empty wiki, or one that is opened over good tables, reaches by such events and by restarts, over any
+-- number of lives. A fan may serve any number of pages.
 pub data IsReached : State → Type 0 where
   empty : IsReached no_state
+  loaded : (tables : StoreTables) → IsGood tables → IsReached (opened tables)
   stepped : {most : MostHeld} {state next : State} {journal : ℕ} {event : Event} (served : ℕ)
       → IsReached state → IsWithinFull most → IsMade most state journal event → step_by served state journal event ≡ Some next
       → IsReached next

@@ -35,7 +35,7 @@ row_lt-rise a t b u before = elim (cases_Bool (ltb a b)) [
 pub row_lt-lower : (a : ℕ) (t : PageTitle) (b : ℕ) (u : PageTitle) → a < b → row_lt a t b u ≡ true
 row_lt-lower a t b u under = rw (nat_cmp-less a b under) refl
 
-row_lt-same : (page : ℕ) (t u : PageTitle) → row_lt page t page u ≡ is_lt (title_cmp t u)
+pub row_lt-same : (page : ℕ) (t u : PageTitle) → row_lt page t page u ≡ is_lt (title_cmp t u)
 row_lt-same page t u = rw (nat_cmp-same page) refl
 
 -- ---- rows made of good items
