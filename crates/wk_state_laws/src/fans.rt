@@ -47,8 +47,8 @@ pub fn a_fan_misses_no_page()
 
 /// Fans with no other event between, from one that serves a job to the one with which the job goes, serve exactly the
 /// pages above the job's cursor whose stored link rows name its title under its reach, once each, by rising number. Each
-/// gets a refresh job where it has none, and the other fan jobs stay. Where a fan serves at least one page there is such
-/// a run.
+/// of these pages gets a refresh job where it has none, and the other fan jobs stay. Where a fan may serve at least one
+/// page, such fans lead on from each state that has a fan job.
 pub fn a_run_of_fans_serves_every_page()
     ensures served { (most : ℕ) (state last : State) (journal : ℕ) (fan : FanEntry) (pages : List ℕ)
         → first_fan state.jobs ≡ Some fan → FanRun most state journal pages last
