@@ -55,6 +55,7 @@ pub fn a_refresh_that_is_held()
 pub fn fans_that_serve()
     ensures first { first_fan users_12.jobs ≡ Some (fan 5 title_t Both 0) }
     ensures cursor { unwrap_or (last_or None (users users_12.stored title_t Both 0 2)) 0 ≡ 2 }
+    ensures one_below { names (stored_at users_12 2) title_t Both ≡ true }
     ensures one_above { names (stored_at users_12 3) title_t Both ≡ true }
     ensures none_above { (page : ℕ) → 3 < page → names (stored_at users_13 page) title_t Both ≡ false }
     ensures run { FanRun 2 users_12 12 (1 ∷ 2 ∷ 3 ∷ []) users_14 }

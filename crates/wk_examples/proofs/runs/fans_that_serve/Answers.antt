@@ -18,6 +18,10 @@ pub returns-clause-cursor : goal.returns-clause-cursor
 unfolding computing
 returns-clause-cursor c = refl
 
+pub returns-clause-one_below : goal.returns-clause-one_below
+unfolding computing
+returns-clause-one_below c = refl
+
 pub returns-clause-one_above : goal.returns-clause-one_above
 unfolding computing
 returns-clause-one_above c = refl
