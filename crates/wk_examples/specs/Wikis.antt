@@ -209,6 +209,12 @@ users_8 = with_refreshes users_7 (held 3 3 8 ∷ [])
 abbrev pub users_9 : State
 users_9 = record (with_refreshes users_8 []) { stored = misses_t ∷ misses_t ∷ misses_t ∷ [] }
 
+-- what leads here
+abbrev pub users_journal : List Event
+users_journal =
+    Save (title_n (codes "1")) (Some includes_t) 11 ∷ Save (title_n (codes "2")) (Some includes_t) 11 ∷ Save (title_n (codes "3")) (Some includes_t) 11
+    ∷ Claim ∷ Done 4 ∷ Claim ∷ Done 6 ∷ Claim ∷ Done 8 ∷ []
+
 -- the template is created
 abbrev pub users_10 : State
 users_10 = record {

@@ -10,6 +10,7 @@ pub mod numerals;
 pub mod pages;
 pub mod redirects;
 pub mod rows;
+pub mod runs;
 pub mod script;
 pub mod selection;
 pub mod states;

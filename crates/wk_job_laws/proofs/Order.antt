@@ -17,7 +17,7 @@ module _ {Row : Type 0} (id : Row → ℕ) where
   Sorted [] = ⊤
   Sorted (row ∷ rows) = AllByRecursion (λ later. id row ≤ id later) rows × Sorted rows
 
-  each-placed : (P : Row → Type 0) (rows : List Row) (new : Row) → P new → AllByRecursion P rows → AllByRecursion P (placed id rows new)
+  pub each-placed : (P : Row → Type 0) (rows : List Row) (new : Row) → P new → AllByRecursion P rows → AllByRecursion P (placed id rows new)
   each-placed P [] new own all = (own, tt)
   each-placed P (row ∷ rows) new own all =
       let behind = each-placed P rows new own all.1 in
@@ -153,6 +153,41 @@ module _ {Job : Type 0} (number : Job → ℕ) where
       nothing [] = tt
       nothing (later ∷ rest) = (tt, nothing rest)
 
+-- jobs in order stay as they are
+module _ {Job : Type 0} (number : Job → ℕ) where
+  Sorted-fold : (before jobs : List Job) → Sorted number before → Sorted number (fold (placed number) before jobs)
+  Sorted-fold before [] sorted = sorted
+  Sorted-fold before (job ∷ jobs) sorted = Sorted-fold (placed number before job) jobs (Sorted-placed number before job sorted)
+
+  pub Sorted-by_number : (jobs : List Job) → Sorted number (by_number number jobs)
+  Sorted-by_number jobs = Sorted-fold [] jobs tt
+
+  NotAbove : List Job → List Job → Type 0
+  NotAbove before jobs = AllByRecursion (λ later. AllByRecursion (λ job. number job ≤ number later) before) jobs
+
+  fold-sorted : (before jobs : List Job) → NotAbove before jobs → Sorted number jobs → fold (placed number) before jobs ≡ before ++ jobs
+  unfolding NotAbove
+  fold-sorted before [] under sorted = sym (append-nil before)
+  fold-sorted before (job ∷ jobs) under sorted =
+      ap (λ xs. fold (placed number) xs jobs) (last-placed number before job under.0)
+      ∙ (fold-sorted (before ++ job ∷ []) jobs (more jobs under.1 sorted.0) sorted.1 ∙ append_assoc before (job ∷ []) jobs)
+    where
+      more : (rest : List Job) → AllByRecursion (λ later. AllByRecursion (λ other. number other ≤ number later) before) rest → AllByRecursion (λ later. number job ≤ number later) rest
+          → AllByRecursion (λ later. AllByRecursion (λ other. number other ≤ number later) (before ++ job ∷ [])) rest
+      more [] under above = tt
+      more (later ∷ rest) under above = (each-front number (λ other. number other ≤ number later) before (job ∷ []) under.0 (above.0, tt), more rest under.1 above.1)
+
+  pub by_number-sorted : (jobs : List Job) → Sorted number jobs → by_number number jobs ≡ jobs
+  unfolding NotAbove
+  by_number-sorted jobs sorted = fold-sorted [] jobs (nothing jobs) sorted
+    where
+      nothing : (rest : List Job) → AllByRecursion (λ later. AllByRecursion (λ other. number other ≤ number later) []) rest
+      nothing [] = tt
+      nothing (later ∷ rest) = (tt, nothing rest)
+
+  pub by_number-twice : (jobs : List Job) → by_number number (by_number number jobs) ≡ by_number number jobs
+  by_number-twice jobs = by_number-sorted (by_number number jobs) (Sorted-by_number jobs)
+
 -- ---- the greatest number
 
 max-swap : (a x y : ℕ) → max (max a x) y ≡ max (max a y) x
@@ -169,7 +204,7 @@ greatest-placed id a (row ∷ rows) new = elim (cases_Bool (ltb (id new) (id row
   | inr behind ↦ rw behind (greatest-placed id (max a (id row)) rows new)
 ]
 
-greatest-fold : {Row : Type 0} (id : Row → ℕ) (before rows : List Row) → fold max 0 (map id (fold (placed id) before rows)) ≡ fold max (fold max 0 (map id before)) (map id rows)
+pub greatest-fold : {Row : Type 0} (id : Row → ℕ) (before rows : List Row) → fold max 0 (map id (fold (placed id) before rows)) ≡ fold max (fold max 0 (map id before)) (map id rows)
 greatest-fold id before [] = refl
 greatest-fold id before (row ∷ rows) = greatest-fold id (placed id before row) rows ∙ ap (λ a. fold max a (map id rows)) (greatest-placed id 0 before row)
 

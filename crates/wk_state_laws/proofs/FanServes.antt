@@ -19,7 +19,7 @@ use Rattle.wk_state_laws.proofs.Fanned.{fans-all_queued}
 
 -- ---- what is found
 
-abbrev Fits : List PageLinks → PageTitle → Reach → ℕ → ℕ → ℕ → Type 0
+abbrev pub Fits : List PageLinks → PageTitle → Reach → ℕ → ℕ → ℕ → Type 0
 Fits stored title reach above a page = ((a ≤ page) × (above < page)) × (names (unwrap_or (slice_get stored (page - a)) no_links) title reach ≡ true)
 
 module _ (title : PageTitle) (reach : Reach) (above : ℕ) where
@@ -30,7 +30,7 @@ module _ (title : PageTitle) (reach : Reach) (above : ℕ) where
       let one : page - a ≡ suc (page - (a + 1)) = omega (arith, low) in
       (((omega (arith, low), all.0.0.1), rw one all.0.1), wider x stored a pages all.1)
 
-  found-fits : (a : ℕ) (stored : List PageLinks) → AllByRecursion (Fits stored title reach above a) (found (uses title reach above) a stored)
+  pub found-fits : (a : ℕ) (stored : List PageLinks) → AllByRecursion (Fits stored title reach above a) (found (uses title reach above) a stored)
   found-fits a [] = tt
   found-fits a (x ∷ stored) = elim (cases_Bool (uses title reach above (a, x))) [
     | inl fits ↦
@@ -51,11 +51,11 @@ taken P zero (page ∷ pages) all = tt
 taken P (suc most) [] all = tt
 taken P (suc most) (page ∷ pages) all = (all.0, taken P most pages all.1)
 
-abbrev Rises : List ℕ → Type 0
+abbrev pub Rises : List ℕ → Type 0
 Rises [] = Unit {0}
 Rises (page ∷ pages) = AllByRecursion (λ later. page < later) pages × Rises pages
 
-found-rises : (title : PageTitle) (reach : Reach) (above a : ℕ) (stored : List PageLinks) → Rises (found (uses title reach above) a stored)
+pub found-rises : (title : PageTitle) (reach : Reach) (above a : ℕ) (stored : List PageLinks) → Rises (found (uses title reach above) a stored)
 found-rises title reach above a [] = tt
 found-rises title reach above a (x ∷ stored) = elim (cases_Bool (uses title reach above (a, x))) [
   | inl fits ↦ rw fits (from title reach above a stored (found (uses title reach above) (a + 1) stored) (found-fits title reach above (a + 1) stored), found-rises title reach above (a + 1) stored)
@@ -68,13 +68,13 @@ taken-rises zero (page ∷ pages) up = tt
 taken-rises (suc most) [] up = tt
 taken-rises (suc most) (page ∷ pages) up = (taken (λ later. page < later) most pages up.0, taken-rises most pages up.1)
 
-pairs : (pages : List ℕ) → Rises pages → AllPairs (λ (a b : ℕ). a < b) pages
+pub pairs : (pages : List ℕ) → Rises pages → AllPairs (λ (a b : ℕ). a < b) pages
 pairs [] up = λ i j d before within. absurd (omega (arith, within))
 pairs (page ∷ pages) up = AllPairs-cons (λ (a b : ℕ). a < b) page pages (All-from_recursion (λ later. page < later) pages up.0) (pairs pages up.1)
 
 -- ---- what a fan serves
 
-stored-row : (state : State) (number : ℕ) → 1 ≤ number → stored_at state number ≡ unwrap_or (slice_get state.stored (number - 1)) no_links
+pub stored-row : (state : State) (number : ℕ) → 1 ≤ number → stored_at state number ≡ unwrap_or (slice_get state.stored (number - 1)) no_links
 stored-row state number positive = let more : eqb number 0 ≡ false = ne_eqb number 0 (λ none. omega (arith, none, positive)) in rw more refl
 
 abbrev Served : State → PageTitle → Reach → ℕ → ℕ → Type 0
@@ -99,7 +99,7 @@ users-rise state title reach above most =
 
 -- ---- what becomes of the job
 
-next-is : (most : ℕ) (state next : State) (journal : ℕ) (fan : FanEntry) → first_fan state.jobs ≡ Some fan → step_by most state journal Fan ≡ Some next → next ≡ with_jobs state (served_by state.stored most state.jobs fan)
+pub next-is : (most : ℕ) (state next : State) (journal : ℕ) (fan : FanEntry) → first_fan state.jobs ≡ Some fan → step_by most state journal Fan ≡ Some next → next ≡ with_jobs state (served_by state.stored most state.jobs fan)
 next-is most state next journal fan = by (first_fan state.jobs)
   where
     by : (o : Option FanEntry) → o ≡ Some fan → option_map (λ jobs. with_jobs state jobs) (option_map (served_by state.stored most state.jobs) o) ≡ Some next → next ≡ with_jobs state (served_by state.stored most state.jobs fan)
@@ -121,7 +121,7 @@ fan-queues most state next journal fan first done =
     ap (λ (s : State). s.jobs.refreshes) (next-is most state next journal fan first done)
     ∙ kept-refreshes (eqb (length (users state.stored fan.title fan.reach cursor 1)) 0) (all_queued state.jobs served) cursor
 
-fans-after : (most : ℕ) (state next : State) (journal : ℕ) (fan : FanEntry) (cursor : ℕ) (gone : Bool) → first_fan state.jobs ≡ Some fan → step_by most state journal Fan ≡ Some next
+pub fans-after : (most : ℕ) (state next : State) (journal : ℕ) (fan : FanEntry) (cursor : ℕ) (gone : Bool) → first_fan state.jobs ≡ Some fan → step_by most state journal Fan ≡ Some next
     → cursor ≡ unwrap_or (last_or None (users state.stored fan.title fan.reach fan.cursor most)) fan.cursor
     → eqb (length (users state.stored fan.title fan.reach cursor 1)) 0 ≡ gone
     → next.jobs.fans ≡ cond gone (drop 1 state.jobs.fans) (with_first_cursor state.jobs.fans cursor)
@@ -155,7 +155,7 @@ pub fan-ends : (most : ℕ) (state next : State) (journal : ℕ) (fan : FanEntry
 fan-ends most state next journal fan cursor first done at none =
     fans-after most state next journal fan cursor true first done at (none-left state fan.title fan.reach cursor none)
 
-nothing-named : (title : PageTitle) (reach : Reach) → names no_links title reach ≡ false
+pub nothing-named : (title : PageTitle) (reach : Reach) → names no_links title reach ≡ false
 nothing-named title Text = refl
 nothing-named title Both = refl
 

@@ -24,7 +24,7 @@ use Rattle.wk_state_laws.proofs.Sound.{given}
 use Rattle.wk_state_laws.proofs.SavedHistory.{Stands, text-kept, text-own}
 use Rattle.wk_state_laws.proofs.Saved.{pages-saved}
 
-abbrev Within : ℕ → ℕ → Type 0
+abbrev pub Within : ℕ → ℕ → Type 0
 Within pages page = (1 ≤ page) × (page ≤ pages)
 
 pub IsWellFormed-none : IsWellFormed no_state
@@ -38,10 +38,10 @@ IsWellFormed-none = record {
 
 -- ---- jobs alone
 
-formed-jobs : (state : State) (lists : JobLists) → IsWellFormed state → All (Within (length state.history.pages)) (pages_of lists) → IsWellFormed (with_jobs state lists)
+pub formed-jobs : (state : State) (lists : JobLists) → IsWellFormed state → All (Within (length state.history.pages)) (pages_of lists) → IsWellFormed (with_jobs state lists)
 formed-jobs state lists formed all = record { stored = formed.stored; jobs = all; titles = formed.titles; texts = formed.texts }
 
-queued-within : (P : ℕ → Type 0) (lists : JobLists) (page : ℕ) → P page → AllByRecursion P (pages_of lists) → AllByRecursion P (pages_of (refresh_queued lists page))
+pub queued-within : (P : ℕ → Type 0) (lists : JobLists) (page : ℕ) → P page → AllByRecursion P (pages_of lists) → AllByRecursion P (pages_of (refresh_queued lists page))
 queued-within P lists page holds all = elim (cases_Bool (has_refresh lists page)) [
   | inl there ↦ rw there all
   | inr none ↦ rw (pages-queued lists page none) (push (pages_of lists) all)
@@ -51,7 +51,7 @@ queued-within P lists page holds all = elim (cases_Bool (has_refresh lists page)
     push [] every = (holds, tt)
     push (first ∷ pages) every = (every.0, push pages every.1)
 
-all_queued-within : (P : ℕ → Type 0) (lists : JobLists) (pages : List ℕ) → AllByRecursion P pages → AllByRecursion P (pages_of lists) → AllByRecursion P (pages_of (all_queued lists pages))
+pub all_queued-within : (P : ℕ → Type 0) (lists : JobLists) (pages : List ℕ) → AllByRecursion P pages → AllByRecursion P (pages_of lists) → AllByRecursion P (pages_of (all_queued lists pages))
 all_queued-within P lists [] holds all = all
 all_queued-within P lists (page ∷ pages) holds all = all_queued-within P (refresh_queued lists page) pages holds.1 (queued-within P lists page holds.0 all)
 
@@ -76,7 +76,7 @@ taken [] n (suc most) all = tt
 taken (page ∷ pages) n zero all = tt
 taken (page ∷ pages) n (suc most) all = ((all.0.0, let below = all.0.1 in omega (arith, below)), taken pages n most all.1)
 
-users-within : (stored : List PageLinks) (fan : FanEntry) (most : ℕ) → AllByRecursion (Within (length stored)) (users stored fan.title fan.reach fan.cursor most)
+pub users-within : (stored : List PageLinks) (fan : FanEntry) (most : ℕ) → AllByRecursion (Within (length stored)) (users stored fan.title fan.reach fan.cursor most)
 users-within stored fan most =
     rw (users-is stored fan.title fan.reach fan.cursor most)
     (taken (found (uses fan.title fan.reach fan.cursor) 1 stored) (length stored) most (found-within (uses fan.title fan.reach fan.cursor) most 1 stored (omega arith)))
@@ -123,20 +123,20 @@ module _ (title : PageTitle) (number : ℕ) where
   abbrev is_it : Page → Bool
   is_it page = title_eq page.title title
 
-  titles-old : (pages : List Page) → list_any is_it pages ≡ true → map (λ (p : Page). p.title) (with_current pages title number) ≡ map (λ (p : Page). p.title) pages
+  pub titles-old : (pages : List Page) → list_any is_it pages ≡ true → map (λ (p : Page). p.title) (with_current pages title number) ≡ map (λ (p : Page). p.title) pages
   titles-old [] there = absurd (let e : false ≡ true = there in cc)
   titles-old (page ∷ pages) there = elim (cases_Bool (title_eq page.title title)) [
     | inl same ↦ rw same refl
     | inr differs ↦ rw differs (ap (λ (ts : List PageTitle). page.title ∷ ts) (titles-old pages (rw differs at there)))
   ]
 
-  pages-new : (pages : List Page) → list_any is_it pages ≡ false → with_current pages title number ≡ pages ++ record { title = title; current = number } ∷ []
+  pub pages-new : (pages : List Page) → list_any is_it pages ≡ false → with_current pages title number ≡ pages ++ record { title = title; current = number } ∷ []
   pages-new [] none = refl
   pages-new (page ∷ pages) none =
       let parts = or_parts (title_eq page.title title) (list_any is_it pages) none in
       rw (parts.0) (ap (λ (ps : List Page). page ∷ ps) (pages-new pages parts.1))
 
-  placed-in : (pages : List Page) → ltb (position_or_len is_it pages) (length pages) ≡ list_any is_it pages
+  pub placed-in : (pages : List Page) → ltb (position_or_len is_it pages) (length pages) ≡ list_any is_it pages
   placed-in [] = refl
   placed-in (page ∷ pages) = elim (cases_Bool (title_eq page.title title)) [
     | inl same ↦ rw same (lt-ltb 0 (suc (length pages)) (omega arith))
@@ -156,14 +156,14 @@ module _ (title : PageTitle) (number : ℕ) where
     | inr past ↦ rw past (sym past ∙ placed-in pages)
   ]
 
-  length-old : (pages : List Page) → list_any is_it pages ≡ true → length (with_current pages title number) ≡ length pages
+  pub length-old : (pages : List Page) → list_any is_it pages ≡ true → length (with_current pages title number) ≡ length pages
   length-old [] there = absurd (let e : false ≡ true = there in cc)
   length-old (page ∷ pages) there = elim (cases_Bool (title_eq page.title title)) [
     | inl same ↦ rw same refl
     | inr differs ↦ rw differs (ap suc (length-old pages (rw differs at there)))
   ]
 
-  length-new : (pages : List Page) → list_any is_it pages ≡ false → length (with_current pages title number) ≡ length pages + 1
+  pub length-new : (pages : List Page) → list_any is_it pages ≡ false → length (with_current pages title number) ≡ length pages + 1
   length-new pages none = ap (λ (ps : List Page). length ps) (pages-new pages none) ∙ length-append pages (record { title = title; current = number } ∷ [])
 
   distinct-saved : (pages : List Page) → IsDistinct title_eq (map (λ (p : Page). p.title) pages) → IsDistinct title_eq (map (λ (p : Page). p.title) (with_current pages title number))
@@ -198,7 +198,7 @@ module _ (title : PageTitle) (number : ℕ) where
         rw past (omega arith, omega (arith, more))
   ]
 
-  no-fewer : (pages : List Page) → length pages ≤ length (with_current pages title number)
+  pub no-fewer : (pages : List Page) → length pages ≤ length (with_current pages title number)
   no-fewer pages = elim (cases_Bool (list_any is_it pages)) [
     | inl there ↦ let same = length-old pages there in omega (arith, same)
     | inr none ↦ let more = length-new pages none in omega (arith, more)

@@ -1,12 +1,16 @@
 -- Reads that are honest over a history stay so: no event changes the text of a revision.
-use Rattle.std.proofs.Common.{◌≡◌, ℕ, List, Option, Some, None, sym, ap, ◌∙◌, inr, subst}
+use Rattle.std.proofs.Common.{◌≡◌, ℕ, ◌+◌, List, [], ◌∷◌, Option, Some, None, sym, ap, ◌∙◌, inr, subst}
 use Rattle.std.specs.Prelude.{is_some}
 use Rattle.std.proofs.lemmas.List.Elements.{All-weaker}
+use Rattle.std.proofs.lemmas.Option.{option_and_then_some}
 use Rattle.wk_text_rules.specs.Titles.{PageTitle}
 use Rattle.wk_page_rules.specs.History.{History, text_of_revision, saved}
+use Rattle.wk_table_rules.specs.Rows.{StoreTables}
+use Rattle.wk_job_rules.specs.Steps.{fan_pages}
 use Rattle.wk_view_rules.specs.Worlds.{PageText, Read, page_of, HasItsText, IsHonest}
 use Rattle.wk_state_rules.specs.States.{State}
 use Rattle.wk_state_rules.specs.Events.{Event, Save, Claim, Done, Back, Fan, step_by}
+use Rattle.wk_state_rules.specs.Lives.{replay_from, replay, reopened, opened, last_state, Lives, LivesOfStore}
 use Rattle.wk_state_laws.proofs.Histories.{history-saved, history-claimed, history-refreshed, history-given_back, history-fanned}
 use Rattle.wk_state_laws.proofs.SavedHistory.{text-kept}
 
@@ -30,3 +34,26 @@ IsHonest-stepped most state next journal Claim reads done honest = moved-to stat
 IsHonest-stepped most state next journal (Done ticket) reads done honest = moved-to state.history next.history reads (history-refreshed most state next journal ticket done) honest
 IsHonest-stepped most state next journal (Back ticket) reads done honest = moved-to state.history next.history reads (history-given_back most state next journal ticket done) honest
 IsHonest-stepped most state next journal Fan reads done honest = moved-to state.history next.history reads (history-fanned most state next journal done) honest
+
+-- ---- journals and lives
+
+abbrev Honest : List Read → State → Type 0
+Honest reads state = IsHonest (text_of_revision state.history) reads
+
+pub IsHonest-replayed : (most : ℕ) (start last : State) (journal : ℕ) (events : List Event) (reads : List Read) → replay_from most start journal events ≡ Some last → IsHonest (text_of_revision start.history) reads → IsHonest (text_of_revision last.history) reads
+IsHonest-replayed most start last journal [] reads done honest = let same : start ≡ last = cc in subst (Honest reads) same honest
+IsHonest-replayed most start last journal (event ∷ events) reads done honest =
+    option_and_then_some (λ next. replay_from most next (journal + 1) events) (step_by most start journal event) last done
+    (λ next stepped later. IsHonest-replayed most next last (journal + 1) events reads later (IsHonest-stepped most start next journal event reads stepped honest))
+
+pub IsHonest-lived : (start last : State) (journals : List (List Event)) (reads : List Read) → Lives start journals last → IsHonest (text_of_revision start.history) reads → IsHonest (text_of_revision last.history) reads
+IsHonest-lived start last [] reads lives honest = let same : start ≡ last = cc in subst (Honest reads) same honest
+IsHonest-lived start last (journal ∷ journals) reads lives honest =
+    option_and_then_some (λ ended. last_state ended journals) (replay (reopened start) journal) last lives
+    (λ ended replayed later. IsHonest-lived ended last journals reads later (IsHonest-replayed fan_pages (reopened start) ended 0 journal reads replayed honest))
+
+pub IsHonest-lived_from_store : (tables : StoreTables) (last : State) (journals : List (List Event)) (reads : List Read) → LivesOfStore tables journals last → IsHonest (text_of_revision (opened tables).history) reads → IsHonest (text_of_revision last.history) reads
+IsHonest-lived_from_store tables last [] reads lives honest = let same : opened tables ≡ last = cc in subst (Honest reads) same honest
+IsHonest-lived_from_store tables last (journal ∷ journals) reads lives honest =
+    option_and_then_some (λ ended. last_state ended journals) (replay (opened tables) journal) last lives
+    (λ ended replayed later. IsHonest-lived ended last journals reads later (IsHonest-replayed fan_pages (opened tables) ended 0 journal reads replayed honest))

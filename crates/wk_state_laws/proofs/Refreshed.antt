@@ -92,7 +92,7 @@ sound-refreshed state held within sound number page there = elim (cases_Bool (eq
 ]
 
 -- the state after a refresh is done, by the page that the ticket holds
-done-by : (P : State → Type 0) (most : ℕ) (state next : State) (journal ticket held : ℕ) → page_held_by state.jobs ticket ≡ Some held → step_by most state journal (Done ticket) ≡ Some next → P (with_refreshed state held) → P next
+pub done-by : (P : State → Type 0) (most : ℕ) (state next : State) (journal ticket held : ℕ) → page_held_by state.jobs ticket ≡ Some held → step_by most state journal (Done ticket) ≡ Some next → P (with_refreshed state held) → P next
 done-by P most state next journal ticket held holds done all =
     let is : Some (with_refreshed state held) ≡ Some next = rw holds at done in
     let same : with_refreshed state held ≡ next = cc in rw (← same) all

@@ -5,3 +5,4 @@
 pub mod fans;
 pub mod history;
 pub mod soundness;
+pub mod stores;

@@ -17,14 +17,14 @@ use Rattle.wk_table_laws.proofs.Pairs.{Pairs, Passes-from_good, EachGood-from_pa
 -- ---- a job is judged alone, and with each job before it
 
 -- what a job is, whatever its params are
-is_good_kind : StoreTables → JobColumns → Bool
+unfoldable pub is_good_kind : StoreTables → JobColumns → Bool
 is_good_kind tables job =
     cond (bytes_eq job.job_cmd refresh_cmd) (list_any (λ page. title_eq page.page_title job.job_title) tables.pages) (bytes_eq job.job_cmd fan_cmd && is_normal job.job_title)
 
-abbrev is_alone_good : StoreTables → JobColumns → Bool
+abbrev pub is_alone_good : StoreTables → JobColumns → Bool
 is_alone_good tables job = (leb 1 job.job_id && ltb job.job_id (job_bound tables.version)) && (is_good_kind tables job && has_good_params job)
 
-abbrev may_follow : JobColumns → JobColumns → Bool
+abbrev pub may_follow : JobColumns → JobColumns → Bool
 may_follow earlier job =
     ltb earlier.job_id job.job_id
     && not (bytes_eq earlier.job_cmd (cond (bytes_eq job.job_cmd refresh_cmd) refresh_cmd fan_cmd) && title_eq earlier.job_title job.job_title)
@@ -64,7 +64,7 @@ regroup true true true true p = refl' p
 regroup true true true false true = refl
 regroup true true true false false = refl
 
-job-splits : (tables : StoreTables) (before : List JobColumns) (job : JobColumns) → is_good_job tables before job ≡ (is_alone_good tables job && list_all (λ earlier. may_follow earlier job) before)
+pub job-splits : (tables : StoreTables) (before : List JobColumns) (job : JobColumns) → is_good_job tables before job ≡ (is_alone_good tables job && list_all (λ earlier. may_follow earlier job) before)
 unfolding is_good_kind
 job-splits tables before job =
     let kind = cond (bytes_eq job.job_cmd refresh_cmd) refresh_cmd fan_cmd in

@@ -35,7 +35,7 @@ row_lt-rise a t b u before = elim (cases_Bool (ltb a b)) [
 pub row_lt-lower : (a : ℕ) (t : PageTitle) (b : ℕ) (u : PageTitle) → a < b → row_lt a t b u ≡ true
 row_lt-lower a t b u under = rw (nat_cmp-less a b under) refl
 
-row_lt-same : (page : ℕ) (t u : PageTitle) → row_lt page t page u ≡ is_lt (title_cmp t u)
+pub row_lt-same : (page : ℕ) (t u : PageTitle) → row_lt page t page u ≡ is_lt (title_cmp t u)
 row_lt-same page t u = rw (nat_cmp-same page) refl
 
 -- ---- rows made of good items
@@ -57,7 +57,7 @@ list_all-same p q same [] = refl
 list_all-same p q same (x ∷ xs) = rw (same x, list_all-same p q same xs) refl
 
 module _ (tables : StoreTables) (page : ℕ) (there : has_page tables page ≡ true) where
-  link-good : (before : List PageTitle) (title : PageTitle) → is_next_title before title ≡ true
+  pub link-good : (before : List PageTitle) (title : PageTitle) → is_next_title before title ≡ true
       → is_good_link tables (map (link_row page (namespace_of tables page)) before) (link_row page (namespace_of tables page) title) ≡ true
   link-good before title next =
       let parts = and_parts (is_real title) (list_all (λ earlier. is_lt (title_cmp earlier title)) before) next in
@@ -66,7 +66,7 @@ module _ (tables : StoreTables) (page : ℕ) (there : has_page tables page ≡ t
       ∙ (list_all-same (λ earlier. row_lt page earlier page title) (λ earlier. is_lt (title_cmp earlier title)) (λ earlier. row_lt-same page earlier title) before ∙ parts.1) in
       rw (there, int_eq-same (namespace_of tables page), parts.0) behind
 
-  category-good : (before : List Member) (member : Member) → is_next_member before member ≡ true
+  pub category-good : (before : List Member) (member : Member) → is_next_member before member ≡ true
       → is_good_category tables (map (category_row page) before) (category_row page member) ≡ true
   category-good before member next =
       let title = category_title member.category.key in
@@ -77,11 +77,11 @@ module _ (tables : StoreTables) (page : ℕ) (there : has_page tables page ≡ t
       (λ earlier. row_lt-same page (category_title earlier.category.key) title) before ∙ parts.1) in
       rw (there, parts.0) behind
 
-  redirect-good : (redirect : Option PageTitle) → IfSome redirect (λ title. is_real title ≡ true) → EachGood (is_good_redirect tables) (map (redirect_row page) (option_to_list redirect))
+  pub redirect-good : (redirect : Option PageTitle) → IfSome redirect (λ title. is_real title ≡ true) → EachGood (is_good_redirect tables) (map (redirect_row page) (option_to_list redirect))
   redirect-good None real = tt
   redirect-good (Some title) real = (rw (there, real) refl, tt)
 
-  own-page : {A Row : Type 0} (from : Row → ℕ) (f : A → Row) → ((x : A) → from (f x) ≡ page) → (xs : List A) → AllByRecursion (λ row. from row ≡ page) (map f xs)
+  pub own-page : {A Row : Type 0} (from : Row → ℕ) (f : A → Row) → ((x : A) → from (f x) ≡ page) → (xs : List A) → AllByRecursion (λ row. from row ≡ page) (map f xs)
   own-page from f own [] = tt
   own-page from f own (x ∷ xs) = (own x, own-page from f own xs)
 

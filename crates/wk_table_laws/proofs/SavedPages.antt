@@ -139,7 +139,7 @@ module _ (tables : StoreTables) (old new : PageColumns) (place : ℕ) (there : s
     placed = λ whose found. ap (λ o. unwrap_or o (pos 0)) (placed-alike whose tables.pages place there);
   }
 
-with_page-standing : (rows : List PageColumns) (new : PageColumns) (place : ℕ) → position (λ row. eqb row.page_id new.page_id) rows ≡ Some place → with_page rows new ≡ set rows place new
+pub with_page-standing : (rows : List PageColumns) (new : PageColumns) (place : ℕ) → position (λ row. eqb row.page_id new.page_id) rows ≡ Some place → with_page rows new ≡ set rows place new
 with_page-standing rows new place at = rw (at, with_page) refl
 
 pub KeepsRules-standing : (tables : StoreTables) (revision : RevisionColumns) (old page : PageColumns) → FitRevision tables revision page → IsStanding tables old page → KeepsRules tables
