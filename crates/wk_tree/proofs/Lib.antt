@@ -1,0 +1,5 @@
+pub mod AtomLemmas
+pub mod LayoutLemmas
+pub mod MatchingLemmas
+pub mod MeetingLemmas
+pub mod ViewLemmas

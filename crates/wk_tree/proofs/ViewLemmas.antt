@@ -1,0 +1,162 @@
+-- What a parsed text shows.
+use Rattle.std.proofs.Common.{◌≡◌, ◌≢◌, ℕ, zero, suc, ◌+◌, ◌-◌, ◌<◌, ◌≤◌, ◌==◌, Bool, true, false, if◌then◌else◌, List, [], ◌∷◌, ◌++◌, length, get_or, map, reverse, Option, Some, None, option_map, refl, ap, ap₂, sym, subst, ◌∙◌, arith}
+use Rattle.std.proofs.lemmas.Bool.{eqb-true, eqb-false}
+use Rattle.std.proofs.lemmas.List.{get_or-reverse, length-map, length-reverse, get_or_read}
+use Rattle.std.specs.List.{slice_get}
+use Rattle.std.specs.Option.{IfSome, IsSome, option_and_then, unwrap_or}
+use Rattle.wk_tree.proofs.LayoutLemmas.{nodes-long}
+use Rattle.wk_tree.specs.Layout.{NodeShown, PartShown, node_of, part_of}
+use Rattle.wk_tree.specs.Parsed.{IsParsed, part_at}
+use Rattle.wk_tree.specs.Shown.{from_end, ShowsItems, ShowsName, no_name, a_name, ShowsPart, ShowsParts, no_parts, part_more, ShowsNode, ShowsNodes, no_nodes, node_more}
+use Rattle.wk_tree.specs.Tokens.{items_tokens}
+use Rattle.wk_tree.specs.Tree.{IsLaidAs}
+use Rattle.wk_tree.specs.declared.item.Item.{Item}
+use Rattle.wk_tree.specs.declared.layout.NodeLists.{NodeLists}
+use Rattle.wk_tree.specs.declared.layout.PartLists.{PartLists}
+use Rattle.wk_tree.specs.declared.token.Token.{Token}
+use Rattle.wk_tree_rules.specs.Reduction.{pieces_of, reduced}
+use Rattle.wk_tree_rules.specs.Selection.{selection, selected}
+use Rattle.wk_tree_rules.specs.Tree.{Node, Part, item_of, tree, nodes, further_parts}
+use Rattle.wk_tree_rules.specs.Trees.{Item as TreeItem, merged}
+use Rattle.wk_tree_rules.specs.declared.Mode.{Mode}
+
+-- ---- a text that is parsed
+
+pub parsed-is : (mode : Mode) (text whole source : List ℕ) (part : Option (List ℕ)) (tokens : List Token) (root : List Item) (found : List NodeShown) → whole ≡ text → part ≡ selection mode whole → source ≡ unwrap_or part whole
+    → tokens ≡ items_tokens (map item_of (reduced (pieces_of mode source))) → ((items : List TreeItem) → tokens ≡ items_tokens items → IsLaidAs items root found) → IsParsed mode text part root found
+unfolding tree
+parsed-is mode text whole source part tokens root found w p s t h =
+    let is : source ≡ selected mode text = s ∙ ap₂ (λ x y. unwrap_or x y) (p ∙ ap (selection mode) w) w in
+    let laid = h (map item_of (reduced (pieces_of mode (selected mode text)))) (t ∙ ap (λ x. items_tokens (map item_of (reduced (pieces_of mode x)))) is) in
+    record { source_is = p ∙ ap (selection mode) w; root_shows = laid.root_shows; nodes_show = laid.nodes_show }
+
+-- ---- options
+
+if-some : {X : Type 0} (P : X → Type 0) (o : Option X) → ((x : X) → o ≡ Some x → P x) → IfSome o P
+if-some P None f = tt
+if-some P (Some x) f = f x refl
+
+some-is : {X : Type 0} (o : Option X) → IsSome o → (x : X) × (o ≡ Some x)
+some-is None h = absurd (cc)
+some-is (Some x) h = (x, refl)
+
+-- ---- an element by how many stand behind it
+
+pub from_end-get : {X : Type 0} (xs : List X) (n : ℕ) (x : X) → from_end xs n ≡ Some x → (n < length xs) × ((d : X) → get_or xs (length xs - 1 - n) d ≡ x)
+from_end-get [] n x e = absurd (cc)
+from_end-get {X = X} (y ∷ xs) n x e = by_test (n == length xs) refl e (from_end-get xs n x)
+  where
+    by_test : (b : Bool) → (n == length xs) ≡ b → (if b then Some y else from_end xs n) ≡ Some x → (from_end xs n ≡ Some x → (n < length xs) × ((d : X) → get_or xs (length xs - 1 - n) d ≡ x))
+        → (n < suc (length xs)) × ((d : X) → get_or (y ∷ xs) (suc (length xs) - 1 - n) d ≡ x)
+    by_test true f g again =
+        let same : n ≡ length xs = eqb-true n (length xs) f in
+        let at : suc (length xs) - 1 - n ≡ 0 = omega arith in
+        let is : y ≡ x = cc in
+        (omega arith, λ d. ap (λ k. get_or (y ∷ xs) k d) at ∙ is)
+    by_test false f g again =
+        let later = again g in
+        let at : suc (length xs) - 1 - n ≡ suc (length xs - 1 - n) = omega (arith, later.0) in
+        (omega (arith, later.0), λ d. ap (λ k. get_or (y ∷ xs) k d) at ∙ later.1 d)
+
+get_or-map : {X Y : Type 0} (f : X → Y) (xs : List X) (n : ℕ) (d : X) → get_or (map f xs) n (f d) ≡ f (get_or xs n d)
+get_or-map f [] n d = refl
+get_or-map f (x ∷ xs) zero d = refl
+get_or-map f (x ∷ xs) (suc n) d = get_or-map f xs n d
+
+from_end-reverse : {X Y : Type 0} (f : X → Y) (xs : List X) (n : ℕ) (y : Y) → from_end (map f (reverse xs)) n ≡ Some y → (n < length xs) × ((d : X) → f (get_or xs n d) ≡ y)
+from_end-reverse f xs n y e =
+    let found = from_end-get (map f (reverse xs)) n y e in
+    let long : length (map f (reverse xs)) ≡ length xs = length-map (reverse xs) f ∙ length-reverse xs in
+    let within : n < length xs = omega (arith, found.0, long) in
+    let at : length xs - 1 - (length (map f (reverse xs)) - 1 - n) ≡ n = omega arith in (
+      within,
+      λ d.
+          ap (λ k. f (get_or xs k d)) (sym at)
+          ∙ ap f (sym (get_or-reverse xs (length (map f (reverse xs)) - 1 - n) d (omega arith)))
+          ∙ sym (get_or-map f (reverse xs) (length (map f (reverse xs)) - 1 - n) d)
+          ∙ found.1 (f d),
+    )
+
+record Found (ns : List Node) (shown : List NodeShown) (n : Node) (id : ℕ) : Type 0 where
+  s : NodeShown
+  is : from_end shown id ≡ Some s
+  shows : ShowsNode ns s n
+
+found-node : {ns : List Node} {shown : List NodeShown} {rest : List Node} (id : ℕ) (n : Node) → ShowsNodes ns shown rest → from_end rest id ≡ Some n → Found ns shown n id
+found-node id n no_nodes e = absurd (cc)
+found-node {ns = ns} id n (node_more {s = s} {n = m} {ss = ss} {rest = rest} h k) e = by_test (id == length rest) refl e (found-node id n k)
+  where
+    long : length ss ≡ length rest
+    long = nodes-long k
+
+    by_test : (b : Bool) → (id == length rest) ≡ b → (if b then Some m else from_end rest id) ≡ Some n → (from_end rest id ≡ Some n → Found ns ss n id) → Found ns (s ∷ ss) n id
+    by_test true f g again =
+        let same : m ≡ n = cc in
+        record { s = s; is = ap (λ b. if b then Some s else from_end ss id) (ap (λ k. id == k) long ∙ f); shows = subst (ShowsNode ns s) same h }
+    by_test false f g again =
+        let later = again g in
+        record { s = later.s; is = ap (λ b. if b then Some s else from_end ss id) (ap (λ k. id == k) long ∙ f) ∙ later.is; shows = later.shows }
+
+module _ (ns rest : List Node) (kept : List NodeLists) (id : ℕ) (all : ShowsNodes ns (map node_of (reverse kept)) rest) where
+  pub node-within : IsSome (from_end rest id) → id < length kept
+  node-within h =
+      let n = some-is (from_end rest id) h in
+      let found = found-node id n.0 all n.1 in
+      (from_end-reverse node_of kept id found.s found.is).0
+
+  pub node-shown : (x : NodeLists) → x ≡ get_or kept id x → IfSome (from_end rest id) (ShowsNode ns (node_of x))
+  node-shown x read =
+      if-some (ShowsNode ns (node_of x)) (from_end rest id) (λ n e.
+      let found = found-node id n all e in
+      let is = (from_end-reverse node_of kept id found.s found.is).1 x in
+      subst (λ s. ShowsNode ns s n) (sym (ap node_of read ∙ is)) found.shows)
+
+-- ---- parts
+
+pub parts-long : {ns : List Node} {ps : List PartShown} {qs : List Part} → ShowsParts ns ps qs → length ps ≡ length qs
+parts-long no_parts = refl
+parts-long (part_more h k) = ap suc (parts-long k)
+
+found-part : {ns : List Node} {ps : List PartShown} {qs : List Part} (at : ℕ) (q : Part) → ShowsParts ns ps qs → slice_get qs at ≡ Some q → (at < length ps) × ((d : PartShown) → ShowsPart ns (get_or ps at d) q)
+found-part at q no_parts e = absurd (cc)
+found-part {ns = ns} zero q (part_more {p = p} {q = r} h k) e =
+    let same : r ≡ q = cc in
+    (omega arith, λ d. subst (ShowsPart ns p) same h)
+found-part (suc at) q (part_more h k) e =
+    let later = found-part at q k e in
+    (omega (arith, later.0), later.1)
+
+module _ (ns : List Node) (lists : NodeLists) where
+  pub part-within : (o : Option Node) (at : ℕ) → IfSome o (ShowsNode ns (node_of lists)) → IsSome (option_and_then (part_at at) o) → at < length lists.parts.items
+  part-within None at h s = absurd (cc)
+  part-within (Some n) at h s =
+      let q = some-is (slice_get (further_parts n.content) at) s in
+      let found = found-part at q.0 h.parts q.1 in
+      omega (arith, found.0, length-map lists.parts.items part_of)
+
+  pub part-shown : (o : Option Node) (at : ℕ) (x : PartLists) → IfSome o (ShowsNode ns (node_of lists)) → x ≡ get_or lists.parts.items at x → IfSome (option_and_then (part_at at) o) (ShowsPart ns (part_of x))
+  part-shown None at x h read = tt
+  part-shown (Some n) at x h read =
+      if-some (ShowsPart ns (part_of x)) (slice_get (further_parts n.content) at) (λ q e.
+      let found = (found-part at q h.parts e).1 (part_of x) in
+      subst (λ p. ShowsPart ns p q) (get_or-map part_of lists.parts.items at x ∙ ap part_of (sym read)) found)
+
+  pub parts-count : (o : Option Node) (count : ℕ) → count ≡ length lists.parts.items → IfSome o (ShowsNode ns (node_of lists)) → IfSome o (λ n. count ≡ length (further_parts n.content))
+  parts-count None count e h = tt
+  parts-count (Some n) count e h = e ∙ sym (length-map lists.parts.items part_of) ∙ parts-long h.parts
+
+-- ---- names
+
+a_name-shown : {ns : List Node} {cs : List Item} {name : Option (List TreeItem)} → ShowsName ns (Some cs) name → IfSome name (ShowsItems ns cs)
+a_name-shown (a_name h) = h
+
+no_name-shown : {ns : List Node} (cs : List Item) {name : Option (List TreeItem)} → ShowsName ns None name → IfSome name (ShowsItems ns cs)
+no_name-shown cs no_name = tt
+
+pub name-shown : (ns : List Node) (lists : PartLists) (o : Option Part) (cs : List Item) → option_map (λ v. v.items) lists.name ≡ Some cs → IfSome o (ShowsPart ns (part_of lists)) → IfSome (option_and_then (λ q. q.name) o) (ShowsItems ns cs)
+name-shown ns lists None cs e h = tt
+name-shown ns lists (Some q) cs e h = a_name-shown (subst (λ n. ShowsName ns n q.name) e h.name)
+
+pub name-none : (ns : List Node) (lists : PartLists) (o : Option Part) (cs : List Item) → option_map (λ v. v.items) lists.name ≡ None → IfSome o (ShowsPart ns (part_of lists)) → IfSome (option_and_then (λ q. q.name) o) (ShowsItems ns cs)
+name-none ns lists None cs e h = tt
+name-none ns lists (Some q) cs e h = no_name-shown cs (subst (λ n. ShowsName ns n q.name) e h.name)

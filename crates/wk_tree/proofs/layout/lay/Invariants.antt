@@ -1,0 +1,12 @@
+use Rattle.std.proofs.Common.{◌≡◌, ◌≤◌, drop, length}
+use Rattle.wk_tree.specs.Layout.{layout_of, laid}
+use Rattle.wk_tree.proofs.layout.lay.Given as goal
+
+abbrev pub invariant-loop-at : goal.invariant-loop-at
+invariant-loop-at l = record {
+  laid : layout_of l.layout ≡ laid (drop l.at l.tokens);
+  within : l.at ≤ length l.tokens;
+}
+
+abbrev pub decreases-loop-at : goal.decreases-loop-at
+decreases-loop-at l = l.at

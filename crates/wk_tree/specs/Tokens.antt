@@ -1,0 +1,44 @@
+-- The tokens of a text whose marks are matched (own).
+use Rattle.std.specs.Prelude.{ℕ, zero, suc, ◌+◌, Bool, true, false, List, [], ◌∷◌, ◌++◌, length, replicate, flat_map}
+use Rattle.wk_tree.specs.declared.token.Token.{Token}
+use Rattle.wk_tree.specs.declared.token.Token.TheVariants.{Plain, Sealed, Nothing, Bar, Equals, NodeStart, NodeEnd, Fill}
+use Rattle.wk_tree_rules.specs.Reduction.{Piece, entry, opening, closing}
+use Rattle.wk_tree_rules.specs.Trees.{Item, plain, sealed, nothing, node, Row, empty_row, item_then, bar_then, equals_then, NodeKind, template, argument, Entry, item, bar, equals}
+
+-- plain text of so many bytes, with a token for each
+abbrev pub plain_tokens : ℕ → ℕ → List Token
+plain_tokens start zero = Plain start 0 ∷ []
+plain_tokens start (suc n) = Plain start (suc n) ∷ replicate n Fill
+
+abbrev pub is_argument : NodeKind → Bool
+is_argument template = false
+is_argument argument = true
+
+-- the opening braces of a node, with a token for each
+abbrev pub opening_tokens : NodeKind → ℕ → List Token
+opening_tokens template start = NodeStart false start ∷ Fill ∷ []
+opening_tokens argument start = NodeStart true start ∷ Fill ∷ Fill ∷ []
+
+unfoldable mutual
+  pub item_tokens : Item → List Token
+  item_tokens (plain start source) = plain_tokens start (length source)
+  item_tokens (sealed start source) = Sealed start (length source) ∷ []
+  item_tokens (nothing start source) = Nothing start (length source) ∷ []
+  item_tokens (node kind start content) = opening_tokens kind start ++ (row_tokens content ++ NodeEnd ∷ [])
+
+  pub row_tokens : Row → List Token
+  row_tokens empty_row = []
+  row_tokens (item_then i rest) = item_tokens i ++ row_tokens rest
+  row_tokens (bar_then start rest) = Bar start ∷ row_tokens rest
+  row_tokens (equals_then start rest) = Equals start ∷ row_tokens rest
+
+abbrev pub entry_tokens : Entry → List Token
+entry_tokens (item i) = item_tokens i
+entry_tokens (bar start) = Bar start ∷ []
+entry_tokens (equals start) = Equals start ∷ []
+
+abbrev pub entries_tokens : List Entry → List Token
+entries_tokens parts = flat_map entry_tokens parts
+
+abbrev pub items_tokens : List Item → List Token
+items_tokens items = flat_map item_tokens items

@@ -1,0 +1,301 @@
+//! The lists of a tree, laid out from the last token to the first.
+ghost use Rattle.std.specs.Prelude.{◌≡◌, ◌+◌, ◌<◌, ◌^◌, List, [], ◌∷◌, length, map, reverse, option_map, OnOk, IfOk};
+ghost use Rattle.wk_tree.specs.Tokens.{items_tokens};
+ghost use Rattle.wk_tree.specs.Tree.{IsLaidAs};
+ghost use Rattle.wk_tree_rules.specs.Trees.{Item as TreeItem};
+ghost use Rattle.wk_tree.specs.Layout.{section_of, value_of, part_of, node_of, frame_of, layout_of, no_section, no_frame, put_all, joined, put, with_item, with_equals, new_part, with_bar, new_node, with_node, with_token, laid};
+
+use crate::item::{Item, NodeId};
+use crate::token::Token;
+use std::alloc::Global;
+use std::mem;
+use wk_memory::Memory;
+
+/// Items from the last to the first, and how many bytes they stand for.
+#[derive(Debug, Drop)]
+pub struct Section {
+    pub items: Vec<Item>,
+    pub len: u32,
+}
+
+/// An equals sign, and what stands behind it.
+#[derive(Debug, Drop)]
+pub struct Value {
+    pub equals: u32,
+    pub section: Section,
+}
+
+/// The lists of a part, and the span of its value.
+#[derive(Debug, Drop)]
+pub struct PartLists {
+    pub name: Option<Vec<Item>>,
+    pub value: Vec<Item>,
+    pub start: u32,
+    pub len: u32,
+}
+
+/// The lists and the span of a node.
+#[derive(Debug, Drop)]
+pub struct NodeLists {
+    pub argument: bool,
+    pub start: u32,
+    pub len: u32,
+    pub title: Vec<Item>,
+    pub parts: Vec<PartLists>,
+}
+
+/// What was met of a node: the items up to the next equals sign or bar, the value behind them, the parts behind it
+/// from the last to the first, and how many bytes all stand for.
+#[derive(Debug, Drop)]
+pub struct Frame {
+    pub section: Section,
+    pub value: Option<Value>,
+    pub parts: Vec<PartLists>,
+    pub total: u32,
+}
+
+/// The innermost node that isn't met wholly, those around it from the outermost, and the nodes that are, from the
+/// last.
+#[derive(Debug, Drop)]
+pub struct Layout {
+    pub frame: Frame,
+    pub outer: Vec<Frame>,
+    pub nodes: Vec<NodeLists>,
+}
+
+fn no_section(alloc: Global) -> Section
+    ensures { section_of result ≡ no_section }
+{
+    Section {
+        items: Vec::new(alloc),
+        len: 0,
+    }
+}
+
+fn no_frame(alloc: Global) -> Frame
+    ensures { frame_of result ≡ no_frame }
+{
+    Frame {
+        section: no_section(alloc),
+        value: None,
+        parts: Vec::new(alloc),
+        total: 0,
+    }
+}
+
+/// The sum, which is a place or a length in a text of fewer than 2^32 bytes.
+fn sum(a: u32, b: u32) -> Result<u32, Memory>
+    ensures { IfOk result (λ n. n ≡ a + b) }
+{
+    a.checked_add(b).ok_or(Memory)
+}
+
+fn push_item(frame: &mut Frame, item: Item, len: u32) -> Result<(), Memory>
+    ensures { OnOk result (frame_of frame.new ≡ with_item item len (frame_of frame.old)) }
+{
+    frame.section.items.push(item)?;
+    frame.section.len = sum(len, frame.section.len)?;
+    frame.total = sum(len, frame.total)?;
+    Ok(())
+}
+
+/// Items before an equals sign that is plain text, and what stands behind it.
+fn join(section: Section, value: Option<Value>) -> Result<Section, Memory>
+    ensures { IfOk result (λ whole. section_of whole ≡ joined (section_of section) (option_map value_of value)) }
+{
+    match value {
+        None => Ok(section),
+        Some(value) => {
+            let start = value.equals;
+            let behind = value.section;
+            let len = sum(section.len, sum(1, behind.len)?)?;
+            let mut items = behind.items;
+            items.push(Item::Plain { start, len: 1 })?;
+            items.extend_from_slice(&section.items)?;
+            Ok(Section { items, len })
+        }
+    }
+}
+
+fn push_equals(alloc: Global, frame: &mut Frame, start: u32) -> Result<(), Memory>
+    ensures { OnOk result (frame_of frame.new ≡ with_equals start (frame_of frame.old)) }
+{
+    let section = mem::replace(&mut frame.section, no_section(alloc));
+    let value = mem::replace(&mut frame.value, None);
+    let section = join(section, value)?;
+    frame.value = Some(Value {
+        equals: start,
+        section,
+    });
+    frame.total = sum(1, frame.total)?;
+    Ok(())
+}
+
+/// An item behind items from the last to the first. Plain text goes together.
+fn put(items: &mut Vec<Item>, item: Item) -> Result<(), Memory>
+    ensures { OnOk result (reverse items.new.items ≡ put item (reverse items.old.items)) }
+{
+    let Item::Plain { start, len } = item else {
+        items.push(item)?;
+        return Ok(());
+    };
+    if let Some(Item::Plain { len: more, .. }) = items.last().copied() {
+        let len = sum(len, more)?;
+        items.pop();
+        items.push(Item::Plain { start, len })?;
+        return Ok(());
+    }
+    items.push(item)?;
+    Ok(())
+}
+
+/// The list of items that come from the last to the first.
+fn put_all(alloc: Global, items: &[Item]) -> Result<Vec<Item>, Memory>
+    ensures { IfOk result (λ list. list.items ≡ put_all (reverse items.now)) }
+{
+    let mut list = Vec::new(alloc);
+    for item in items {
+        put(&mut list, *item)?;
+    }
+    list.reverse();
+    Ok(list)
+}
+
+fn new_part(
+    alloc: Global,
+    start: u32,
+    section: Section,
+    value: Option<Value>,
+) -> Result<PartLists, Memory>
+    ensures { IfOk result (λ part. part_of part ≡ new_part start (section_of section) (option_map value_of value)) }
+{
+    match value {
+        None => {
+            let value = put_all(alloc, &section.items)?;
+            Ok(PartLists {
+                name: None,
+                value,
+                start: sum(start, 1)?,
+                len: section.len,
+            })
+        }
+        Some(behind) => {
+            let name = put_all(alloc, &section.items)?;
+            let value = put_all(alloc, &behind.section.items)?;
+            Ok(PartLists {
+                name: Some(name),
+                value,
+                start: sum(behind.equals, 1)?,
+                len: behind.section.len,
+            })
+        }
+    }
+}
+
+fn push_bar(alloc: Global, frame: &mut Frame, start: u32) -> Result<(), Memory>
+    ensures { OnOk result (frame_of frame.new ≡ with_bar start (frame_of frame.old)) }
+{
+    let section = mem::replace(&mut frame.section, no_section(alloc));
+    let value = mem::replace(&mut frame.value, None);
+    let part = new_part(alloc, start, section, value)?;
+    frame.parts.push(part)?;
+    frame.total = sum(1, frame.total)?;
+    Ok(())
+}
+
+fn new_node(alloc: Global, argument: bool, start: u32, frame: Frame) -> Result<NodeLists, Memory>
+    ensures { IfOk result (λ n. node_of n ≡ new_node argument start (frame_of frame)) }
+{
+    let braces = if argument { 6 } else { 4 };
+    let len = sum(braces, frame.total)?;
+    let whole = join(frame.section, frame.value)?;
+    let title = put_all(alloc, &whole.items)?;
+    let mut parts = frame.parts;
+    parts.reverse();
+    Ok(NodeLists {
+        argument,
+        start,
+        len,
+        title,
+        parts,
+    })
+}
+
+fn push_node(alloc: Global, layout: &mut Layout, argument: bool, start: u32) -> Result<(), Memory>
+    ensures { OnOk result (layout_of layout.new ≡ with_node argument start (layout_of layout.old)) }
+{
+    let outer = match layout.outer.pop() {
+        Some(frame) => frame,
+        None => no_frame(alloc),
+    };
+    let frame = mem::replace(&mut layout.frame, outer);
+    let made = new_node(alloc, argument, start, frame)?;
+    let len = made.len;
+    let id = NodeId(layout.nodes.len());
+    layout.nodes.push(made)?;
+    push_item(&mut layout.frame, Item::Node(id), len)?;
+    Ok(())
+}
+
+fn end_node(alloc: Global, layout: &mut Layout) -> Result<(), Memory>
+    ensures { OnOk result (layout_of layout.new ≡ with_token Token.NodeEnd (layout_of layout.old)) }
+{
+    let frame = mem::replace(&mut layout.frame, no_frame(alloc));
+    layout.outer.push(frame)?;
+    Ok(())
+}
+
+fn step(alloc: Global, layout: &mut Layout, token: Token) -> Result<(), Memory>
+    ensures { OnOk result (layout_of layout.new ≡ with_token token (layout_of layout.old)) }
+{
+    match token {
+        Token::Plain { start, len } => push_item(
+            &mut layout.frame,
+            Item::Plain { start, len },
+            len,
+        ),
+        Token::Sealed { start, len } => push_item(
+            &mut layout.frame,
+            Item::Sealed { start, len },
+            len,
+        ),
+        Token::Nothing { start, len } => push_item(
+            &mut layout.frame,
+            Item::Nothing { start, len },
+            len,
+        ),
+        Token::Bar { start } => push_bar(alloc, &mut layout.frame, start),
+        Token::Equals { start } => push_equals(alloc, &mut layout.frame, start),
+        Token::NodeStart { argument, start } => push_node(alloc, layout, argument, start),
+        Token::NodeEnd => end_node(alloc, layout),
+        Token::Fill => Ok(()),
+    }
+}
+
+/// What the tokens are laid out to.
+pub fn lay(alloc: Global, tokens: &[Token]) -> Result<Layout, Memory>
+    ensures { IfOk result (λ layout. layout_of layout ≡ laid tokens.now) }
+{
+    let mut layout = Layout {
+        frame: no_frame(alloc),
+        outer: Vec::new(alloc),
+        nodes: Vec::new(alloc),
+    };
+    let mut at = tokens.len();
+    while 0 < at {
+        at -= 1;
+        step(alloc, &mut layout, tokens[at])?;
+    }
+    Ok(layout)
+}
+
+/// The root's list and the nodes of the tree that the tokens are of, from its last node.
+pub fn finish(alloc: Global, tokens: &[Token]) -> Result<(Vec<Item>, Vec<NodeLists>), Memory>
+    ensures { IfOk result (λ found. (items : List TreeItem) → tokens.now ≡ items_tokens items → IsLaidAs items found.0.items (map node_of (reverse found.1.items))) }
+{
+    let layout = lay(alloc, tokens)?;
+    let frame = layout.frame;
+    let whole = join(frame.section, frame.value)?;
+    let root = put_all(alloc, &whole.items)?;
+    Ok((root, layout.nodes))
+}

@@ -1,0 +1,403 @@
+//! The matching of marks, by one pass from the left over the atoms with a stack of opening runs.
+ghost use Rattle.std.specs.Prelude.{◌≡◌, ℕ, ◌+◌, ◌-◌, ◌<◌, ◌≤◌, ◌^◌, max, List, [], ◌∷◌, ◌++◌, length, take, drop, map, slice_set, OnOk, IfOk};
+ghost use Rattle.std.specs.List.{All};
+ghost use Rattle.wk_lex.specs.Spans.{span_of, IsWithin, IsRunWhereMarks};
+ghost use Rattle.wk_tree.specs.Matching.{as_run, brackets_at, plain_token, plained, raised, still_open, way_of, IsBarOf, IsKept, IsPopped, MeetsAs};
+ghost use Rattle.wk_tree.specs.Tokens.{plain_tokens, items_tokens};
+ghost use Rattle.wk_tree_laws.specs.OnePass as pass;
+ghost use Rattle.wk_tree_laws.specs.OnePass.{PassState, added, closed, met, met_as_brackets, met_as_node, met_as_plain, nothing_seen, opened, passed, pieces_seen};
+ghost use Rattle.wk_tree_rules.specs.Reduction.{piece_of};
+ghost use Rattle.wk_tree_rules.specs.Tree.{item_of};
+ghost use Rattle.wk_tree_rules.specs.Trees.{Entry};
+
+use crate::token::Token;
+use std::alloc::Global;
+use wk_lex::{Atom, AtomKind};
+use wk_memory::Memory;
+
+/// How many nodes may stand within each other (own).
+const MAX_HEIGHT: usize = 100;
+
+/// A run of marks.
+#[derive(Clone, Copy, Debug, PartialEq, Eq)]
+pub struct Run {
+    /// Whether they are brackets, and not braces.
+    pub brackets: bool,
+    /// How many they are.
+    pub count: u32,
+    /// The place behind the last.
+    pub end: u32,
+}
+
+/// An opening run that may still be matched.
+#[derive(Clone, Copy, Debug, PartialEq, Eq)]
+pub struct Level {
+    /// What is left of it.
+    pub run: Run,
+    /// The place of its first token.
+    pub slot: usize,
+    /// How many bars and equals signs stand before it that no node and no brackets hold.
+    pub bars: usize,
+    /// The height of what stands behind it.
+    pub height: usize,
+}
+
+/// What has been seen of a text.
+#[derive(Debug, Drop)]
+pub struct Matching {
+    /// The tokens of all that was seen.
+    pub tokens: Vec<Token>,
+    /// The places of the bars and equals signs that no node and no brackets hold.
+    pub bars: Vec<usize>,
+    /// The opening runs that may still be matched, in the order of the text.
+    pub levels: Vec<Level>,
+}
+
+/// Appends plain text.
+fn push_plain(tokens: &mut Vec<Token>, start: u32, len: u32) -> Result<(), Memory>
+    ensures { OnOk result (tokens.new.items ≡ tokens.old.items ++ plain_tokens start len) }
+{
+    tokens.push(Token::Plain { start, len })?;
+    for _at in 1..len {
+        tokens.push(Token::Fill)?;
+    }
+    Ok(())
+}
+
+fn plain_token(token: Token) -> Token
+    ensures { result ≡ plain_token token }
+{
+    match token {
+        Token::Bar { start } | Token::Equals { start } => Token::Plain { start, len: 1 },
+        other => other,
+    }
+}
+
+/// Makes the bars and equals signs plain whose places are listed, but for the first `kept`.
+fn plain_bars(tokens: &mut Vec<Token>, bars: &mut Vec<usize>, kept: usize)
+    ensures tokens { tokens.new.items ≡ plained (drop kept bars.old.items) tokens.old.items }
+    ensures bars { bars.new.items ≡ take kept bars.old.items }
+{
+    while kept < bars.len() {
+        if let Some(at) = bars.pop() {
+            if at < tokens.len() {
+                tokens[at] = plain_token(tokens[at]);
+            }
+        }
+    }
+}
+
+/// The last level has something of this height.
+fn raise(levels: &mut Vec<Level>, height: usize)
+    ensures { levels.new.items ≡ raised height levels.old.items }
+{
+    let count = levels.len();
+    if 0 < count {
+        let level = &mut levels[count - 1];
+        level.height = level.height.max(height);
+    }
+}
+
+/// An opening run behind all that was seen.
+fn open(matching: &mut Matching, run: Run) -> Result<(), Memory>
+    ensures { OnOk result ((seen : PassState) → IsKept seen matching.old → 2 ≤ run.count → run.count ≤ run.end
+        → IsKept (opened (as_run run) seen) matching.new) }
+{
+    let slot = matching.tokens.len();
+    let bars = matching.bars.len();
+    matching.levels.push(Level {
+        run,
+        slot,
+        bars,
+        height: 0,
+    })?;
+    push_plain(
+        &mut matching.tokens,
+        run.end.saturating_sub(run.count),
+        run.count,
+    )?;
+    Ok(())
+}
+
+/// Writes a token in the place of another.
+fn write(tokens: &mut Vec<Token>, at: usize, token: Token)
+    ensures { tokens.new.items ≡ slice_set tokens.old.items at token }
+{
+    if at < tokens.len() {
+        tokens[at] = token;
+    }
+}
+
+/// Writes a token in the place of the last marks of a level that was taken, and leaves the marks before them.
+fn split(matching: &mut Matching, level: &Level, taken: u32, token: Token) -> Result<(), Memory>
+    requires { taken ≤ level.now.run.count }
+    ensures tokens { OnOk result (level.now.slot < length matching.old.tokens.items → matching.new.tokens.items
+        ≡ slice_set (slice_set matching.old.tokens.items level.now.slot (Token.Plain (level.now.run.end - level.now.run.count) (level.now.run.count - taken)))
+        (level.now.slot + (level.now.run.count - taken)) token) }
+    ensures bars { matching.new.bars ≡ matching.old.bars }
+    ensures levels { OnOk result (matching.new.levels.items ≡ matching.old.levels.items ++ still_open (level.now.run.count - taken)
+        (record {
+          run = record { brackets = level.now.run.brackets; count = level.now.run.count - taken; end = level.now.run.end - taken };
+          slot = level.now.slot;
+          bars = level.now.bars;
+          height = 0;
+        })) }
+{
+    let run = level.run;
+    let left = run.count - taken;
+    if level.slot < matching.tokens.len() {
+        let start = run.end.saturating_sub(run.count);
+        write(
+            &mut matching.tokens,
+            level.slot,
+            Token::Plain { start, len: left },
+        );
+        write(&mut matching.tokens, level.slot + left as usize, token);
+    }
+    if 2 <= left {
+        matching.levels.push(Level {
+            run: Run {
+                brackets: run.brackets,
+                count: left,
+                end: run.end.saturating_sub(taken),
+            },
+            slot: level.slot,
+            bars: level.bars,
+            height: 0,
+        })?;
+    }
+    Ok(())
+}
+
+/// Braces of a level that was taken and of a closing run become a node, and gives what is left of the closing run.
+fn make_node(matching: &mut Matching, level: &Level, run: Run) -> Result<Run, Memory>
+    ensures { IfOk result (λ left. (first : List Entry) (top : pass.Level) (levels : List pass.Level) → IsPopped first top levels level.now matching.old
+        → way_of level.now.run.brackets run.brackets level.now.height ≡ Way.Node → 2 ≤ run.count → run.count ≤ run.end
+        → MeetsAs (met_as_node top (as_run run) (record { first = first; levels = levels })) matching.new left) }
+{
+    let taken = level.run.count.min(run.count.min(3));
+    let token = Token::NodeStart {
+        argument: taken == 3,
+        start: level.run.end.saturating_sub(taken),
+    };
+    split(matching, level, taken, token)?;
+    matching.tokens.push(Token::NodeEnd)?;
+    matching.bars.truncate(level.bars);
+    raise(&mut matching.levels, level.height.saturating_add(1));
+    Ok(Run {
+        brackets: run.brackets,
+        count: run.count - taken,
+        end: run.end,
+    })
+}
+
+/// Two brackets of a level that was taken and two of a closing run become plain text with all bars and equals signs
+/// between them, and gives what is left of the closing run.
+fn make_brackets(matching: &mut Matching, level: &Level, run: Run) -> Result<Run, Memory>
+    ensures { IfOk result (λ left. (first : List Entry) (top : pass.Level) (levels : List pass.Level) → IsPopped first top levels level.now matching.old
+        → 2 ≤ run.count → run.count ≤ run.end → MeetsAs (met_as_brackets top (as_run run) (record { first = first; levels = levels })) matching.new left) }
+{
+    let taken = level.run.count.min(2);
+    let token = Token::Plain {
+        start: level.run.end.saturating_sub(taken),
+        len: 2,
+    };
+    split(matching, level, taken, token)?;
+    plain_bars(&mut matching.tokens, &mut matching.bars, level.bars);
+    push_plain(&mut matching.tokens, run.end.saturating_sub(run.count), 2)?;
+    raise(&mut matching.levels, level.height);
+    Ok(Run {
+        brackets: run.brackets,
+        count: run.count.saturating_sub(2),
+        end: run.end,
+    })
+}
+
+/// What comes of an opening and a closing run.
+#[derive(Clone, Copy, Debug, PartialEq, Eq)]
+pub enum Way {
+    /// A node.
+    Node,
+    /// Brackets.
+    Brackets,
+    /// The closing marks are plain text.
+    Plain,
+}
+
+fn find_way(level: &Level, run: &Run) -> Way
+    ensures { result ≡ way_of level.now.run.brackets run.now.brackets level.now.height }
+{
+    match (level.run.brackets, run.brackets) {
+        (true, true) => Way::Brackets,
+        (false, false) => {
+            if level.height == MAX_HEIGHT {
+                Way::Plain
+            } else {
+                Way::Node
+            }
+        }
+        _ => Way::Plain,
+    }
+}
+
+/// A closing run becomes plain text.
+fn make_plain(matching: &mut Matching, run: Run) -> Result<Run, Memory>
+    ensures { IfOk result (λ left. (seen : PassState) → IsKept seen matching.old → run.count ≤ run.end → MeetsAs (met_as_plain (as_run run) seen) matching.new left) }
+{
+    push_plain(
+        &mut matching.tokens,
+        run.end.saturating_sub(run.count),
+        run.count,
+    )?;
+    Ok(Run {
+        brackets: run.brackets,
+        count: 0,
+        end: run.end,
+    })
+}
+
+/// A closing run meets what was seen, and gives what is left of the run.
+fn meet(matching: &mut Matching, run: Run) -> Result<Run, Memory>
+    ensures { IfOk result (λ left. (seen : PassState) → IsKept seen matching.old → 2 ≤ run.count → run.count ≤ run.end → MeetsAs (met (as_run run) seen) matching.new left) }
+{
+    let Some(level) = matching.levels.pop() else {
+        let left = make_plain(matching, run)?;
+        return Ok(left);
+    };
+    match find_way(&level, &run) {
+        Way::Node => {
+            let left = make_node(matching, &level, run)?;
+            Ok(left)
+        }
+        Way::Brackets => {
+            let left = make_brackets(matching, &level, run)?;
+            Ok(left)
+        }
+        Way::Plain => {
+            matching.levels.push(level)?;
+            let left = make_plain(matching, run)?;
+            Ok(left)
+        }
+    }
+}
+
+/// A closing run meets what was seen where it has two marks or more.
+fn meet_again(matching: &mut Matching, run: Run) -> Result<Run, Memory>
+    ensures few { IfOk result (λ left. run.count < 2 → (matching.new ≡ matching.old) × (left ≡ run)) }
+    ensures many { IfOk result (λ left. 2 ≤ run.count → (seen : PassState) → IsKept seen matching.old → run.count ≤ run.end → MeetsAs (met (as_run run) seen) matching.new left) }
+{
+    if run.count < 2 {
+        return Ok(run);
+    }
+    let left = meet(matching, run)?;
+    Ok(left)
+}
+
+/// A closing run behind all that was seen. It meets what was seen until at most one mark of it is left.
+fn close(matching: &mut Matching, run: Run) -> Result<(), Memory>
+    ensures { OnOk result ((seen : PassState) → IsKept seen matching.old → 2 ≤ run.count → run.count ≤ run.end → IsKept (closed run.count (as_run run) seen) matching.new) }
+{
+    let mut left = run;
+    // Each time that it meets something a mark or more of it is taken.
+    for _time in 0..run.count {
+        left = meet_again(matching, left)?;
+    }
+    if left.count == 1 {
+        push_plain(&mut matching.tokens, left.end.saturating_sub(1), 1)?;
+    }
+    Ok(())
+}
+
+/// A bar or an equals sign behind all that was seen.
+fn push_bar(matching: &mut Matching, token: Token) -> Result<(), Memory>
+    ensures { OnOk result ((seen : PassState) (e : Entry) → IsKept seen matching.old → IsBarOf e token → IsKept (added (e ∷ []) seen) matching.new) }
+{
+    matching.bars.push(matching.tokens.len())?;
+    matching.tokens.push(token)?;
+    Ok(())
+}
+
+/// Whether the marks at a place are brackets.
+fn are_brackets(text: &[u8], at: usize) -> bool
+    ensures { result ≡ brackets_at text.now at }
+{
+    if at < text.len() {
+        text[at] != b'{' && text[at] != b'}'
+    } else {
+        true
+    }
+}
+
+/// The run of marks that an atom is.
+fn run_at(text: &[u8], atom: &Atom) -> Run
+    requires within { IsWithin (length text.now) atom.now }
+    requires short { length text.now < 2 ^ 32 }
+    ensures { result ≡ record { brackets = brackets_at text.now atom.now.start; count = atom.now.len; end = atom.now.start + atom.now.len } }
+{
+    Run {
+        brackets: are_brackets(text, atom.start as usize),
+        count: atom.len,
+        end: atom.start + atom.len,
+    }
+}
+
+/// The next atom behind all that was seen.
+fn step(matching: &mut Matching, text: &[u8], atom: &Atom) -> Result<(), Memory>
+    requires within { IsWithin (length text.now) atom.now }
+    requires short { length text.now < 2 ^ 32 }
+    ensures { OnOk result ((seen : PassState) → IsKept seen matching.old → IsRunWhereMarks text.now atom.now
+        → IsKept (passed seen (piece_of (span_of text.now atom.now) ∷ [])) matching.new) }
+{
+    let start = atom.start;
+    let len = atom.len;
+    match atom.kind {
+        AtomKind::Open => {
+            open(matching, run_at(text, atom))?;
+            Ok(())
+        }
+        AtomKind::Close => {
+            close(matching, run_at(text, atom))?;
+            Ok(())
+        }
+        AtomKind::Bar => {
+            push_bar(matching, Token::Bar { start })?;
+            Ok(())
+        }
+        AtomKind::Equals => {
+            push_bar(matching, Token::Equals { start })?;
+            Ok(())
+        }
+        AtomKind::Byte => {
+            push_plain(&mut matching.tokens, start, len)?;
+            Ok(())
+        }
+        AtomKind::Sealed => {
+            matching.tokens.push(Token::Sealed { start, len })?;
+            Ok(())
+        }
+        _ => {
+            matching.tokens.push(Token::Nothing { start, len })?;
+            Ok(())
+        }
+    }
+}
+
+/// The tokens of a text by its atoms. Bars and equals signs outside nodes are plain text.
+pub fn matched(alloc: Global, text: &[u8], atoms: &[Atom]) -> Result<Vec<Token>, Memory>
+    requires within { All (IsWithin (length text.now)) atoms.now }
+    requires runs { All (IsRunWhereMarks text.now) atoms.now }
+    requires short { length text.now < 2 ^ 32 }
+    ensures { IfOk result (λ tokens. tokens.items
+        ≡ items_tokens (map item_of (pieces_seen (passed nothing_seen (map piece_of (map (span_of text.now) atoms.now)))))) }
+{
+    let mut matching = Matching {
+        tokens: Vec::new(alloc),
+        bars: Vec::new(alloc),
+        levels: Vec::new(alloc),
+    };
+    for atom in atoms {
+        step(&mut matching, text, atom)?;
+    }
+    plain_bars(&mut matching.tokens, &mut matching.bars, 0);
+    Ok(matching.tokens)
+}
