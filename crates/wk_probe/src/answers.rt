@@ -5,6 +5,7 @@ use crate::members::{read, string_of};
 use crate::numerals::same_value;
 use crate::refusal::{Refusal, said};
 use crate::titles::{kept_value, norm};
+use crate::trees::tree_value;
 use serde_json::{Value, json};
 use std::alloc::Global;
 use wk_bytes::Line;
@@ -21,6 +22,7 @@ fn answer(alloc: Global, bytes: &[u8]) -> Result<Value, Refusal> {
         Some("kept") => kept_value(alloc, &request),
         Some("select") => select_value(alloc, &request),
         Some("atoms") => atoms_value(alloc, &request),
+        Some("tree") => tree_value(alloc, &request),
         Some("same") => same_value(&request),
         Some(_) => Err(Refusal::UnknownOp),
         None => Err(Refusal::NoOp),

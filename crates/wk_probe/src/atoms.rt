@@ -1,6 +1,6 @@
 //! What of a text is read, and its atoms.
 
-use crate::members::{mode_of, text_of};
+use crate::members::{add, mode_of, text_of};
 use crate::refusal::Refusal;
 use serde_json::{Value, json};
 use std::alloc::Global;
@@ -45,12 +45,6 @@ fn kind_word(kind: AtomKind) -> &'static str {
 /// An atom, or neighbouring single bytes, as an entry of the answer.
 fn atom_value(alloc: Global, kind: AtomKind, start: u32, len: u64) -> Result<Value, Memory> {
     Ok(json!(in alloc; [kind_word(kind), start, len])?)
-}
-
-/// Adds an entry to an answer that is a list.
-fn add(entries: &mut Vec<Value>, entry: Value) -> Result<(), Memory> {
-    entries.push(entry)?;
-    Ok(())
 }
 
 /// Adds the single bytes that wait to be joined, from a place and so many, if there are any.

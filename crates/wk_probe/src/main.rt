@@ -9,6 +9,10 @@
 //! - `{"op":"atoms","mode":M,"text":T}` asks for the atoms of what is read. The answer is a list of
 //!   `[kind,start,length]`, with places and lengths in bytes. The kinds are `line_comment`, `comment`, `sealed`,
 //!   `ignored`, `tag`, `open`, `close`, `bar`, `equals` and `bytes`, which joins neighbouring single bytes.
+//! - `{"op":"tree","mode":M,"text":T}` asks for the tree of what is read. The answer is a list of items:
+//!   `["plain",text]`, `["sealed",text]`, `["nothing",text]`, `["template",start,length,title,parts]` or
+//!   `["argument",start,length,title,parts]`; the title is a list of items, and a part is `[name,value,start,length]`,
+//!   where the name is a list of items or `null`, the value is one, and the place and length are the value's.
 //! - `{"op":"same","a":A,"b":B}` asks whether the texts A and B are equal to `#ifeq`: as numbers where both are
 //!   numerals, else byte by byte. The answer is `true` or `false`.
 //!
@@ -26,6 +30,7 @@ mod numerals;
 mod refusal;
 mod run;
 mod titles;
+mod trees;
 
 use run::{Stop, serve_all};
 use std::io;

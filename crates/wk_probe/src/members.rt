@@ -4,6 +4,7 @@ use crate::refusal::Refusal;
 use serde_json::Value;
 use std::alloc::Global;
 use wk_lex::Mode;
+use wk_memory::Memory;
 
 /// The value that the bytes are the JSON of.
 pub fn read(alloc: Global, bytes: &[u8]) -> Result<Value, Refusal> {
@@ -48,4 +49,10 @@ pub fn mode_of(request: &Value) -> Result<Mode, Refusal> {
         Some("include") => Ok(Mode::Include),
         _ => Err(Refusal::NoMode),
     }
+}
+
+/// Adds an entry to an answer that is a list.
+pub fn add(entries: &mut Vec<Value>, entry: Value) -> Result<(), Memory> {
+    entries.push(entry)?;
+    Ok(())
 }

@@ -30,6 +30,8 @@ pub enum Refusal {
     NoMode,
     /// The text has 2^32 bytes or more.
     TextTooLong,
+    /// Lists and nodes stand within each other more than the limit.
+    TooDeep,
     /// The members `a` and `b` aren't both strings.
     NoOperand,
 }
@@ -61,6 +63,7 @@ pub fn said(refusal: Refusal) -> &'static str {
         Refusal::UnknownNamespace => "ns is not the number of a namespace",
         Refusal::NoMode => "mode is neither view nor include",
         Refusal::TextTooLong => "text has 4294967296 bytes or more",
+        Refusal::TooDeep => "the tree is too deep to be shown",
         Refusal::NoOperand => "a or b is missing or not a string",
     }
 }
