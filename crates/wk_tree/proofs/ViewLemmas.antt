@@ -2,11 +2,17 @@
 use Rattle.std.proofs.Common.{◌≡◌, ◌≢◌, ℕ, zero, suc, ◌+◌, ◌-◌, ◌<◌, ◌≤◌, ◌==◌, Bool, true, false, if◌then◌else◌, List, [], ◌∷◌, ◌++◌, length, get_or, map, reverse, Option, Some, None, option_map, refl, ap, ap₂, sym, subst, ◌∙◌, arith}
 use Rattle.std.proofs.lemmas.Bool.{eqb-true, eqb-false}
 use Rattle.std.proofs.lemmas.List.{get_or-reverse, length-map, length-reverse, get_or_read}
-use Rattle.std.specs.List.{slice_get}
-use Rattle.std.specs.Option.{IfSome, IsSome, option_and_then, unwrap_or}
+use Rattle.std.specs.List.{slice_get, flat_map, AllByRecursion}
+use Rattle.std.specs.Option.{IfSome, IsSome, option_and_then, option_to_list, unwrap_or}
 use Rattle.wk_tree.proofs.LayoutLemmas.{nodes-long}
 use Rattle.wk_tree.specs.Layout.{NodeShown, PartShown, node_of, part_of}
-use Rattle.wk_tree.specs.Parsed.{IsParsed, part_at}
+use Rattle.wk_tree.specs.Parsed.{ParsedText, IsParsed, IsTextIn, part_at, node_with, part_with, list_with, nodes_of, tree_of}
+use Rattle.wk_tree.specs.declared.item.ListId.{ListId}
+use Rattle.wk_tree.specs.declared.item.ListId.TheVariants.{Root, Title, Name, Value}
+use Rattle.wk_tree_laws.proofs.PieceLemmas.{all-front, all-back}
+use Rattle.wk_tree_laws.specs.Rows.{IsItemIn}
+use Rattle.std.specs.Str.{IsUtf8}
+use Rattle.wk_tree_rules.specs.Trees.{source_of as item_source}
 use Rattle.wk_tree.specs.Shown.{from_end, ShowsItems, ShowsName, no_name, a_name, ShowsPart, ShowsParts, no_parts, part_more, ShowsNode, ShowsNodes, no_nodes, node_more}
 use Rattle.wk_tree.specs.Tokens.{items_tokens}
 use Rattle.wk_tree.specs.Tree.{IsLaidAs}
@@ -16,7 +22,7 @@ use Rattle.wk_tree.specs.declared.layout.PartLists.{PartLists}
 use Rattle.wk_tree.specs.declared.token.Token.{Token}
 use Rattle.wk_tree_rules.specs.Reduction.{pieces_of, reduced}
 use Rattle.wk_tree_rules.specs.Selection.{selection, selected}
-use Rattle.wk_tree_rules.specs.Tree.{Node, Part, item_of, tree, nodes, further_parts}
+use Rattle.wk_tree_rules.specs.Tree.{Node, Part, item_of, tree, nodes, lists, node_lists, part_lists, title_part, further_parts}
 use Rattle.wk_tree_rules.specs.Trees.{Item as TreeItem, merged}
 use Rattle.wk_tree_rules.specs.declared.Mode.{Mode}
 
@@ -160,3 +166,64 @@ name-shown ns lists (Some q) cs e h = a_name-shown (subst (λ n. ShowsName ns n 
 pub name-none : (ns : List Node) (lists : PartLists) (o : Option Part) (cs : List Item) → option_map (λ v. v.items) lists.name ≡ None → IfSome o (ShowsPart ns (part_of lists)) → IfSome (option_and_then (λ q. q.name) o) (ShowsItems ns cs)
 name-none ns lists None cs e h = tt
 name-none ns lists (Some q) cs e h = no_name-shown cs (subst (λ n. ShowsName ns n q.name) e h.name)
+
+-- ---- lists among the lists of a tree
+
+module _ (P : List TreeItem → Type 0) where
+  nodes-front : (ns : List Node) (id : ℕ) (n : Node) → AllByRecursion P (flat_map node_lists ns) → from_end ns id ≡ Some n → AllByRecursion P (node_lists n)
+  nodes-front [] id n all e = absurd (cc)
+  nodes-front (m ∷ ns) id n all e = by_test (id == length ns) e (nodes-front ns id n (all-back P (node_lists m) (flat_map node_lists ns) all))
+    where
+      by_test : (b : Bool) → (if b then Some m else from_end ns id) ≡ Some n → (from_end ns id ≡ Some n → AllByRecursion P (node_lists n)) → AllByRecursion P (node_lists n)
+      by_test true g again =
+          let same : m ≡ n = cc in
+          subst (λ x. AllByRecursion P (node_lists x)) same (all-front P (node_lists m) (flat_map node_lists ns) all)
+      by_test false g again = again g
+
+  parts-front : (qs : List Part) (at : ℕ) (q : Part) → AllByRecursion P (flat_map part_lists qs) → slice_get qs at ≡ Some q → AllByRecursion P (part_lists q)
+  parts-front [] at q all e = absurd (cc)
+  parts-front (r ∷ qs) zero q all e =
+      let same : r ≡ q = cc in
+      subst (λ x. AllByRecursion P (part_lists x)) same (all-front P (part_lists r) (flat_map part_lists qs) all)
+  parts-front (r ∷ qs) (suc at) q all e = parts-front qs at q (all-back P (part_lists r) (flat_map part_lists qs) all) e
+
+  name-front : (name : Option (List TreeItem)) (l : List TreeItem) → AllByRecursion P (option_to_list name) → name ≡ Some l → P l
+  name-front None l all e = absurd (cc)
+  name-front (Some m) l all e =
+      let same : m ≡ l = cc in
+      subst P same all.0
+
+  value-front : (q : Part) → AllByRecursion P (part_lists q) → P q.value
+  value-front q all = (all-back P (option_to_list q.name) (q.value ∷ []) all).0
+
+  title-among : (o : Option Node) → ((n : Node) → o ≡ Some n → AllByRecursion P (node_lists n)) → IfSome (option_map (λ n. title_part n.content) o) P
+  title-among None f = tt
+  title-among (Some n) f = (f n refl).0
+
+  part-among : (o : Option Node) (at : ℕ) → ((n : Node) → o ≡ Some n → AllByRecursion P (node_lists n)) → (q : Part) → option_and_then (part_at at) o ≡ Some q → AllByRecursion P (part_lists q)
+  part-among None at f q e = absurd (cc)
+  part-among (Some n) at f q e = parts-front (further_parts n.content) at q (f n refl).1 e
+
+  name-among : (o : Option Part) → ((q : Part) → o ≡ Some q → AllByRecursion P (part_lists q)) → IfSome (option_and_then (λ q. q.name) o) P
+  name-among None f = tt
+  name-among (Some q) f = if-some P q.name (λ l e. name-front q.name l (all-front P (option_to_list q.name) (q.value ∷ []) (f q refl)) e)
+
+  value-among : (o : Option Part) → ((q : Part) → o ≡ Some q → AllByRecursion P (part_lists q)) → IfSome (option_map (λ q. q.value) o) P
+  value-among None f = tt
+  value-among (Some q) f = value-front q (f q refl)
+
+  -- what holds of all lists of a tree holds of the list of a name
+  pub list-among : (parsed : ParsedText) (list : ListId) → AllByRecursion P (lists (tree_of parsed)) → IfSome (list_with parsed list) P
+  list-among parsed Root all = all.0
+  list-among parsed (Title id) all = title-among (node_with parsed id) (λ n e. nodes-front (nodes_of parsed) id.0 n all.1 e)
+  list-among parsed (Name id at) all = name-among (part_with parsed id at) (part-among (node_with parsed id) at (λ n e. nodes-front (nodes_of parsed) id.0 n all.1 e))
+  list-among parsed (Value id at) all = value-among (part_with parsed id at) (part-among (node_with parsed id) at (λ n e. nodes-front (nodes_of parsed) id.0 n all.1 e))
+
+-- each item of a list stands in the text that is read, and is UTF-8
+pub texts-both : (source : List ℕ) (items : List TreeItem) → AllByRecursion (IsItemIn source) items → AllByRecursion (λ i. IsUtf8 (item_source i)) items → AllByRecursion (IsTextIn source) items
+texts-both source [] a b = tt
+texts-both source (i ∷ items) a b = (record { place = a.0; utf8 = b.0 }, texts-both source items a.1 b.1)
+
+pub all-texts : (source : List ℕ) (found : List (List TreeItem)) → AllByRecursion (AllByRecursion (IsItemIn source)) found → AllByRecursion (AllByRecursion (λ i. IsUtf8 (item_source i))) found → AllByRecursion (AllByRecursion (IsTextIn source)) found
+all-texts source [] a b = tt
+all-texts source (items ∷ found) a b = (texts-both source items a.0 b.0, all-texts source found a.1 b.1)

@@ -10,7 +10,9 @@ use Rattle.wk_tree.specs.declared.item.NodeId.{NodeId}
 use Rattle.wk_tree.specs.declared.parsed.Part.{Part}
 use Rattle.wk_tree_rules.specs.Selection.{selection, selected}
 use Rattle.wk_tree_rules.specs.Tree.{Node, Part as TreePart, tree, nodes, title_part, further_parts, value_length}
-use Rattle.wk_tree_rules.specs.Trees.{Item as TreeItem}
+use Rattle.std.specs.Str.{IsUtf8}
+use Rattle.wk_tree_laws.specs.Rows.{IsItemIn}
+use Rattle.wk_tree_rules.specs.Trees.{Item as TreeItem, source_of as item_source}
 use Rattle.wk_tree_rules.specs.declared.Mode.{Mode}
 
 -- a text, and how it is read
@@ -46,6 +48,11 @@ list_with parsed Root = Some (tree_of parsed)
 list_with parsed (Title id) = option_map (λ n. title_part n.content) (node_with parsed id)
 list_with parsed (Name id at) = option_and_then (λ q. q.name) (part_with parsed id at)
 list_with parsed (Value id at) = option_map (λ q. q.value) (part_with parsed id at)
+
+-- an item's source stands in the text that is read where the item says, and is UTF-8
+pub record IsTextIn (source : List ℕ) (i : TreeItem) : Type 0 where
+  pub place : IsItemIn source i
+  pub utf8 : IsUtf8 (item_source i)
 
 -- what is kept of a parsed text
 pub record IsParsed (mode : Mode) (text : List ℕ) (source : Option (List ℕ)) (root : List Item) (found : List NodeShown) : Type 0 where

@@ -1,7 +1,8 @@
 //! A text that is parsed.
 ghost use Rattle.std.specs.Prelude.{◌≡◌, ◌+◌, ◌<◌, ◌^◌, length, map, reverse, option_map, unwrap_or, Some, IfOk, IfSome, IsSome};
 ghost use Rattle.wk_tree.specs.Layout.{node_of, part_of};
-ghost use Rattle.wk_tree.specs.Parsed.{ParsedText, tree_of, nodes_of, source_of, node_with, part_with, list_with, IsPart};
+ghost use Rattle.wk_tree.specs.Parsed.{ParsedText, tree_of, nodes_of, source_of, node_with, part_with, list_with, IsPart, IsTextIn};
+ghost use Rattle.std.specs.List.{AllByRecursion};
 ghost use Rattle.wk_tree.specs.Shown.{ShowsItems, ShowsNode, ShowsPart};
 ghost use Rattle.wk_tree.specs.Tokens.{is_argument, items_tokens};
 ghost use Rattle.wk_tree_rules.specs.Reduction.{pieces_of, reduced};
@@ -18,6 +19,7 @@ use std::slice;
 use wk_bytes::Text;
 use wk_lex::{Mode, lex, select};
 use wk_memory::Memory;
+use wk_tree_laws::trees::{every_item_of_utf8_is_utf8, every_item_stands_where_it_says};
 
 /// The tokens of the text that is read.
 fn tokens_of(alloc: Global, mode: Mode, source: &[u8]) -> Result<Vec<Token>, Memory>
@@ -199,11 +201,24 @@ impl Parsed {
         }
     }
 
+    /// Nothing, but for what its contract says.
+    fn know_texts(&self, list: ListId)
+        ensures { IfSome (list_with self.now list) (AllByRecursion (IsTextIn (source_of self.now))) }
+    {
+        let _list = list;
+        let _text = self.text.as_str();
+        every_item_stands_where_it_says();
+        every_item_of_utf8_is_utf8();
+    }
+
     /// The items of a list, in order. Takes no memory.
     pub fn items(&self, list: ListId) -> Items<'_>
         requires { IsSome (list_with self.now list) }
-        ensures { IfSome (list_with self.now list) (ShowsItems (nodes_of self.now) (iter_rest result)) }
+        ensures items { IfSome (list_with self.now list) (ShowsItems (nodes_of self.now) (iter_rest result)) }
+        // What the items stand for is text of the source.
+        ensures texts { IfSome (list_with self.now list) (AllByRecursion (IsTextIn (source_of self.now))) }
     {
+        self.know_texts(list);
         match list {
             ListId::Root => self.root.iter(),
             ListId::Title(node) => self.node(node).title.iter(),
@@ -213,5 +228,183 @@ impl Parsed {
             },
             ListId::Value(node, at) => self.part_lists(node, at).value.iter(),
         }
+    }
+}
+
+#[cfg(test)]
+mod tests {
+    use super::*;
+    use std::test::Fail;
+
+    /// A mode, a text, and its lists: plain text in quotes, sealed text in angle brackets, what gives nothing in round
+    /// ones, and nodes by their numbers; then the nodes, each with its span, its title part, and its parts with the
+    /// spans of their values. The values follow from the rules by hand.
+    const TREES: [(Mode, &str, &str); 16] = [
+        (Mode::View, "", ""),
+        (Mode::View, "{{{{x}}}}", "'{'#0'}' #0{{{1+7:'x'"),
+        (
+            Mode::View,
+            "{{{{{x|B}}}}}",
+            "#1 #0{{{2+9:'x'|'B'@7+1 #1{{0+13:#0",
+        ),
+        (
+            Mode::View,
+            "{{A|[[p|q]]|k=v=w}}",
+            "#0 #0{{0+19:'A'|'[[p|q]]'@4+7|'k'='v=w'@14+3",
+        ),
+        (Mode::View, "{{A [[ }} ]]", "'{{A [[ }} ]]'"),
+        (Mode::View, "a\n <!-- c --> \nb", "'a\n'( <!-- c --> \n)'b'"),
+        (Mode::View, "a <!--c--> b", "'a '(<!--c-->)' b'"),
+        (
+            Mode::View,
+            "x<onlyinclude>y</onlyinclude>z<noinclude>n</noinclude>",
+            "'x'(<onlyinclude>)'y'(</onlyinclude>)'z'(<noinclude>)'n'(</noinclude>)",
+        ),
+        (
+            Mode::Include,
+            "x<onlyinclude>y</onlyinclude>z<noinclude>n</noinclude>",
+            "'y'",
+        ),
+        (
+            Mode::View,
+            "a<nowiki>{{b}}</nowiki>|=",
+            "'a'<<nowiki>{{b}}</nowiki>>'|='",
+        ),
+        (
+            Mode::View,
+            "{{a=b|c=d=e||f}}",
+            "#0 #0{{0+16:'a=b'|'c'='d=e'@8+3|@12+0|'f'@13+1",
+        ),
+        (Mode::View, "}}]] {{ [[", "'}}]] {{ [['"),
+        (
+            Mode::View,
+            "[[[[a|b]]{{c|d}}]]",
+            "'[[[[a|b]]'#0']]' #0{{9+7:'c'|'d'@13+1",
+        ),
+        (
+            Mode::View,
+            "{{a|[[b|c}}|d]]e}}",
+            "#0 #0{{0+18:'a'|'[[b|c}}|d]]e'@4+12",
+        ),
+        (
+            Mode::View,
+            "{{a}}{{b|{{c}}}}",
+            "#2#1 #0{{9+5:'c' #1{{5+11:'b'|#0@9+5 #2{{0+5:'a'",
+        ),
+        (Mode::View, "{{}}é{{{}}}", "#1'é'#0 #0{{{6+6: #1{{0+4:"),
+    ];
+
+    fn show_span(out: &mut String, start: u32, len: u32) -> Result<(), Fail> {
+        out.push_str(&format!(in *out.allocator(); "{start}+{len}")?)?;
+        Ok(())
+    }
+
+    fn show_text(
+        out: &mut String,
+        source: &str,
+        marks: [&str; 2],
+        span: (u32, u32),
+    ) -> Result<(), Fail> {
+        let start = span.0 as usize;
+        let text = source
+            .get(start..start + span.1 as usize)
+            .ok_or("a span of no text")?;
+        out.push_str(marks[0])?;
+        out.push_str(text)?;
+        out.push_str(marks[1])?;
+        Ok(())
+    }
+
+    fn show_items(out: &mut String, source: &str, items: &[Item]) -> Result<(), Fail> {
+        for item in items {
+            match *item {
+                Item::Plain { start, len } => show_text(out, source, ["'", "'"], (start, len))?,
+                Item::Sealed { start, len } => show_text(out, source, ["<", ">"], (start, len))?,
+                Item::Nothing { start, len } => show_text(out, source, ["(", ")"], (start, len))?,
+                Item::Node(node) => out.push_str(&format!(in *out.allocator(); "#{}", node.0)?)?,
+            }
+        }
+        Ok(())
+    }
+
+    fn show_part(out: &mut String, source: &str, part: &PartLists) -> Result<(), Fail> {
+        out.push_str("|")?;
+        if let Some(name) = &part.name {
+            show_items(out, source, name)?;
+            out.push_str("=")?;
+        }
+        show_items(out, source, &part.value)?;
+        out.push_str("@")?;
+        show_span(out, part.start, part.len)
+    }
+
+    fn show_node(out: &mut String, source: &str, at: usize, node: &NodeLists) -> Result<(), Fail> {
+        let braces = if node.argument { "{{{" } else { "{{" };
+        out.push_str(&format!(in *out.allocator(); " #{at}{braces}")?)?;
+        show_span(out, node.start, node.len)?;
+        out.push_str(":")?;
+        show_items(out, source, &node.title)?;
+        for part in &node.parts {
+            show_part(out, source, part)?;
+        }
+        Ok(())
+    }
+
+    fn show(alloc: Global, parsed: &Parsed) -> Result<String, Fail> {
+        let mut out = String::new(alloc);
+        let source = str::from_utf8(parsed.source()).map_err(|_| "no text")?;
+        show_items(&mut out, source, parsed.items(parsed.root()).as_slice())?;
+        for (at, node) in parsed.nodes.iter().enumerate() {
+            show_node(&mut out, source, at, node)?;
+        }
+        Ok(out)
+    }
+
+    fn parse_str(alloc: Global, mode: Mode, text: &str) -> Result<Parsed, Fail> {
+        if MAX_SOURCE <= text.len() {
+            return Err("too long".into());
+        }
+        Ok(parse(alloc, &Text::new(alloc, text)?, mode)?)
+    }
+
+    #[test]
+    fn parses_trees(rt: HostRuntime) -> Result<(), Fail> {
+        let alloc = rt.alloc();
+        for (mode, text, lists) in TREES {
+            let parsed = parse_str(alloc, mode, text)?;
+            let found = show(alloc, &parsed)?;
+            assert_eq!(rt; found.as_bytes(), lists.as_bytes(), "in {text:?}");
+            assert_eq!(rt; parsed.mode(), mode);
+            assert_eq!(rt; parsed.text().as_str().as_bytes(), text.as_bytes());
+        }
+        Ok(())
+    }
+
+    #[test]
+    fn parses_long_texts(rt: HostRuntime) -> Result<(), Fail> {
+        let alloc = rt.alloc();
+        for (piece, count, end, end_count, nodes) in [
+            ("{", 1_000_000, "", 0, 0),
+            ("{{a|", 100_000, "", 0, 0),
+            ("{{a|", 20_000, "}}", 20_000, 100),
+            ("[[a|", 100_000, "]]", 100_000, 0),
+            ("[[{{", 20_000, "}}]]", 20_000, 100),
+            ("}}]]", 20_000, "", 0, 0),
+            ("{{[[", 20_000, "}}", 20_000, 0),
+            ("{{{x|", 150, "}}}", 150, 100),
+            ("{{a|b=c}}", 20_000, "", 0, 20_000),
+            ("{{a|b=c=d|", 100, "}}", 100, 100),
+        ] {
+            let mut text = String::new(alloc);
+            for _ in 0..count {
+                text.push_str(piece)?;
+            }
+            for _ in 0..end_count {
+                text.push_str(end)?;
+            }
+            let parsed = parse_str(alloc, Mode::View, &text)?;
+            assert_eq!(rt; parsed.nodes.len(), nodes, "at {count} times {piece:?}");
+        }
+        Ok(())
     }
 }

@@ -6,15 +6,15 @@ use Rattle.wk_tree.specs.Shown.{ShowsItems}
 use Rattle.wk_tree.proofs.ViewLemmas.{name-shown, name-none}
 use Rattle.wk_tree.proofs.parsed.Parsed.items.Goals as goal
 
-pub returns-in-Some : goal.returns-in-Some
-returns-in-Some c =
+pub returns-in-Some-clause-items : goal.returns-in-Some-clause-items
+returns-in-Some-clause-items c =
     subst (λ l. IfSome (list_with c.args.self.now l) (ShowsItems (nodes_of c.args.self.now) (iter_rest c.iter-in-Some.result))) (sym c.in-Name.is)
     (name-shown (nodes_of c.args.self.now) c.part_lists.result.now (part_with c.args.self.now c.in-Name.node c.in-Name.at) (iter_rest c.iter-in-Some.result)
     (ap (option_map (λ v. v.items)) c.in-Some.is ∙ ap (λ t. Some t) (sym (c.iter-in-Some.ensures.rest ∙ c.deref-in-Some.ensures.value)))
     c.part_lists.ensures)
 
-pub returns-in-None : goal.returns-in-None
-returns-in-None c =
+pub returns-in-None-clause-items : goal.returns-in-None-clause-items
+returns-in-None-clause-items c =
     subst (λ l. IfSome (list_with c.args.self.now l) (ShowsItems (nodes_of c.args.self.now) (iter_rest c.iter-in-None.result))) (sym c.in-Name.is)
     (name-none (nodes_of c.args.self.now) c.part_lists.result.now (part_with c.args.self.now c.in-Name.node c.in-Name.at) (iter_rest c.iter-in-None.result)
     (ap (option_map (λ v. v.items)) c.in-None.is) c.part_lists.ensures)
