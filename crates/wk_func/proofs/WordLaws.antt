@@ -37,9 +37,6 @@ plain_start-first all runs run out e is h =
     ∙ ap (λ rs. plain_start (joined rs)) e
     ∙ plain_start-run run.0 runs run.1 maximal.0 maximal.1 maximal.2
 
-pub plain_start-empty : (all : List TextRun) (out : List MarkedByte) → all ≡ [] → joined all ≡ out → plain_start out ≡ []
-plain_start-empty all out e is = ap plain_start (sym is) ∙ ap (λ rs. plain_start (joined rs)) e
-
 -- ---- a word at the front
 
 starts-plainly : (word : List ℕ) (out : List MarkedByte) → starts_with same_plain_letter out (all_plain word) ≡ starts_with eq_ignore_ascii_case (plain_start out) word

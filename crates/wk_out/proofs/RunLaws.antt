@@ -170,10 +170,6 @@ pub marked-append : (sealed : Bool) (text more : List ℕ) → marked sealed (te
 marked-append true text more = map-append _ text more
 marked-append false text more = map-append _ text more
 
-pub length-marked : (sealed : Bool) (text : List ℕ) → length (marked sealed text) ≡ length text
-length-marked true text = length-map text _
-length-marked false text = length-map text _
-
 text_of-marked : (sealed : Bool) (text : List ℕ) → text_of (marked sealed text) ≡ text
 text_of-marked true [] = refl
 text_of-marked true (b ∷ text) = ap (λ (t : List ℕ). b ∷ t) (text_of-marked true text)
