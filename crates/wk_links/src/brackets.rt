@@ -45,7 +45,7 @@ fn is_target(byte: u8) -> bool
     !matches!(byte, b'\n' | b'[' | b']' | b'|' | b'{' | b'}' | b'<' | b'>')
 }
 
-/// The place behind the target that begins at a place.
+/// The place behind the target that begins at a place. No link can begin within a target, so no byte is read for two.
 fn target_end(seen: &[u8], from: usize) -> usize
     requires { from ≤ length seen.now }
     ensures value { result ≡ from + prefix_len is_seen_target (drop from seen.now) }
@@ -58,7 +58,8 @@ fn target_end(seen: &[u8], from: usize) -> usize
     end
 }
 
-/// The place behind the label that begins at a place, where the nearest `]]` is nearer than any `[[`.
+/// The place behind the label that begins at a place, where the nearest `]]` is nearer than any `[[`. It reads up to the
+/// nearer of the two, where the next link can begin, so that no byte is read for two labels.
 fn label_end(seen: &[u8], from: usize) -> Option<usize>
     requires { from ≤ length seen.now }
     ensures found { IfSome result (IsNearestLabelEnd seen.now from) }
