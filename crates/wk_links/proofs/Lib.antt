@@ -1,0 +1,7 @@
+pub mod Contents
+pub mod CutLemmas
+pub mod NewlineLemmas
+pub mod LinkLemmas
+pub mod Places
+pub mod SeenLemmas
+pub mod Words

@@ -1,0 +1,9 @@
+pub mod Brackets
+pub mod Cuts
+pub mod Found
+pub mod Newlines
+pub mod Pairs
+pub mod Parts
+pub mod Rest
+pub mod Seen
+pub use Rattle.wk_text_rules.specs.Occurrences

@@ -1,0 +1,12 @@
+//! The links in an output.
+#![tactic(auto)]
+
+mod brackets;
+mod found;
+mod scan;
+#[cfg(test)]
+mod tests;
+mod what;
+
+pub use found::{Found, What};
+pub use scan::links;
