@@ -12,6 +12,10 @@ pub enum Case {
     Select(Reading),
     /// A text is cut into its atoms.
     Atoms(Reading),
+    /// A text is parsed.
+    Tree(Reading),
+    /// The links in a text, as an output, are found.
+    Links(Reading),
     /// Two numerals of so many bytes are compared so many times.
     Same { size: usize, rounds: u64 },
     /// A short output is appended to another so many times.
@@ -35,7 +39,7 @@ pub struct Reading {
 }
 
 pub const USAGE: &str = "wk_bench turns N T, with N from 0 to 10000000 and T from 1 to 64; or \
-wk_bench select|atoms SORT SIZE ROUNDS, wk_bench same SIZE ROUNDS, or wk_bench append TIMES, \
+wk_bench select|atoms|tree|links SORT SIZE ROUNDS, wk_bench same SIZE ROUNDS, or wk_bench append TIMES, \
 with SIZE from 0 to 16777216, and ROUNDS and TIMES from 1 to 1000000";
 
 /// The number, where the word is one between these.
@@ -99,6 +103,8 @@ pub fn chosen(words: &[String]) -> Option<Case> {
         "turns" => Some(Case::Turns(turns_asked(others)?)),
         "select" => Some(Case::Select(reading_asked(others)?)),
         "atoms" => Some(Case::Atoms(reading_asked(others)?)),
+        "tree" => Some(Case::Tree(reading_asked(others)?)),
+        "links" => Some(Case::Links(reading_asked(others)?)),
         "same" => same_asked(others),
         "append" => append_asked(others),
         _ => None,

@@ -20,7 +20,7 @@ use texts::Sort;
 use wk_memory::Memory;
 
 /// What is run without words.
-const SMALL: [Case; 5] = [
+const SMALL: [Case; 7] = [
     Case::Turns(Turns {
         turns: 400,
         threads: 4,
@@ -31,6 +31,16 @@ const SMALL: [Case; 5] = [
         rounds: 1,
     }),
     Case::Atoms(Reading {
+        sort: Sort::Ordinary,
+        size: 4096,
+        rounds: 1,
+    }),
+    Case::Tree(Reading {
+        sort: Sort::Ordinary,
+        size: 4096,
+        rounds: 1,
+    }),
+    Case::Links(Reading {
         sort: Sort::Ordinary,
         size: 4096,
         rounds: 1,
@@ -71,6 +81,14 @@ fn worked<R: Threads + Wait + Sync>(
         Case::Atoms(Reading { sort, size, rounds }) => Ok((
             "atoms: atoms",
             reading::atoms(alloc, sort, size, rounds)?,
+        )),
+        Case::Tree(Reading { sort, size, rounds }) => Ok((
+            "tree: items",
+            reading::trees(alloc, sort, size, rounds)?,
+        )),
+        Case::Links(Reading { sort, size, rounds }) => Ok((
+            "links: links",
+            reading::linked(alloc, sort, size, rounds)?,
         )),
         Case::Same { size, rounds } => Ok(("same: equal", values::compared(alloc, size, rounds)?)),
         Case::Append { times } => Ok(("append: bytes", values::appended(alloc, times)?)),

@@ -15,6 +15,9 @@
 //!   where the name is a list of items or `null`, the value is one, and the place and length are the value's.
 //! - `{"op":"same","a":A,"b":B}` asks whether the texts A and B are equal to `#ifeq`: as numbers where both are
 //!   numerals, else byte by byte. The answer is `true` or `false`.
+//! - `{"op":"links","runs":[[T,S],..]}` asks for the links in an output, which is given by its runs: a text, and
+//!   whether it is sealed. The answer is a list of `[start,end,"page",shown]`, `[start,end,"member",shown,prefix]` or
+//!   `[start,end,"nothing"]`, where the end is the place behind the link.
 //!
 //! Other members are ignored, and of members with one name the last counts. A line that is none of these forms is
 //! answered with `{"error":"..."}`, which says what is wrong, and the next line goes on. The program takes no words.
@@ -25,6 +28,7 @@
 
 mod answers;
 mod atoms;
+mod links;
 mod members;
 mod numerals;
 mod refusal;

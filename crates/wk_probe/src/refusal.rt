@@ -32,6 +32,8 @@ pub enum Refusal {
     TextTooLong,
     /// Lists and nodes stand within each other more than the limit.
     TooDeep,
+    /// No list of texts, each with whether it is sealed, is the member `runs`.
+    NoRuns,
     /// The members `a` and `b` aren't both strings.
     NoOperand,
 }
@@ -64,6 +66,7 @@ pub fn said(refusal: Refusal) -> &'static str {
         Refusal::NoMode => "mode is neither view nor include",
         Refusal::TextTooLong => "text has 4294967296 bytes or more",
         Refusal::TooDeep => "the tree is too deep to be shown",
+        Refusal::NoRuns => "runs is not a list of lists of a string and a boolean",
         Refusal::NoOperand => "a or b is missing or not a string",
     }
 }

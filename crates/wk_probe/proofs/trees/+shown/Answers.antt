@@ -16,6 +16,9 @@ list_value-loop-item-init t c =
 -- src/trees.rt:103:5
 pub list_value-loop-item-preserved : goal.list_value-loop-item-preserved
 list_value-loop-item-preserved t c =
-    let step : iter_rest c.loop-item.item-iterator ≡ c.in-Some.item.now ∷ iter_rest c.next.new.self = c.in-Some.ensures.steps in
-    (tt, tt, All-tail (IsKnown c.args.parsed.now) c.in-Some.item.now (iter_rest c.next.new.self)
-        (subst (λ xs. All (IsKnown c.args.parsed.now) xs) step c.loop-item.invariant.2))
+    let step : iter_rest c.loop-item.item-iterator ≡ c.in-Some.item.now ∷ iter_rest c.next.new.self = c.in-Some.ensures.steps in (
+      tt,
+      tt,
+      All-tail (IsKnown c.args.parsed.now) c.in-Some.item.now (iter_rest c.next.new.self)
+          (subst (λ xs. All (IsKnown c.args.parsed.now) xs) step c.loop-item.invariant.2),
+    )

@@ -1,0 +1,80 @@
+//! The links in an output.
+
+use crate::members::add;
+use crate::refusal::Refusal;
+use serde_json::{Value, json};
+use std::alloc::Global;
+use wk_links::{Found, What, links};
+use wk_memory::Memory;
+use wk_out::Out;
+use wk_title::{Title, shown};
+
+/// The text of a run, and whether it is sealed.
+fn run_of(value: &Value) -> Option<(&str, bool)> {
+    let parts = value.as_array()?;
+    if parts.len() != 2 {
+        return None;
+    }
+    let text = parts[0].as_str()?;
+    let sealed = parts[1].as_bool()?;
+    Some((text, sealed))
+}
+
+/// Adds a run to an output.
+fn add_run(out: &mut Out, run: Option<(&str, bool)>) -> Result<(), Refusal> {
+    let Some((text, sealed)) = run else {
+        return Err(Refusal::NoRuns);
+    };
+    if sealed {
+        out.push_sealed(text)?;
+    } else {
+        out.push_plain(text)?;
+    }
+    Ok(())
+}
+
+/// The output that the member `runs` gives.
+fn output_of(alloc: Global, request: &Value) -> Result<Out, Refusal> {
+    let Some(runs) = request.get("runs").and_then(Value::as_array) else {
+        return Err(Refusal::NoRuns);
+    };
+    let mut out = Out::new(alloc);
+    for run in runs {
+        add_run(&mut out, run_of(run))?;
+    }
+    Ok(out)
+}
+
+/// The shown form of a title.
+fn shown_text(alloc: Global, title: &Title) -> Result<String, Memory> {
+    let mut text = String::new(alloc);
+    shown(title, &mut text)?;
+    Ok(text)
+}
+
+/// A link as an entry of the answer.
+fn found_value(alloc: Global, found: &Found) -> Result<Value, Memory> {
+    let start = found.start as u64;
+    let end = found.end as u64;
+    match &found.what {
+        What::Page(title) => {
+            let text = shown_text(alloc, title)?;
+            Ok(json!(in alloc; [start, end, "page", &text])?)
+        }
+        What::Member(title, prefix) => {
+            let text = shown_text(alloc, title)?;
+            Ok(json!(in alloc; [start, end, "member", &text, prefix.as_str()])?)
+        }
+        What::Nothing => Ok(json!(in alloc; [start, end, "nothing"])?),
+    }
+}
+
+/// The links in the output.
+pub fn links_value(alloc: Global, request: &Value) -> Result<Value, Refusal> {
+    let out = output_of(alloc, request)?;
+    let mut entries = Vec::new(alloc);
+    for found in &links(alloc, &out)? {
+        add(&mut entries, found_value(alloc, found)?)?;
+    }
+    Ok(Value::Array(entries))
+}
