@@ -3,10 +3,10 @@ use Rattle.std.proofs.Common.{◌≡◌, ℕ, zero, suc, ◌+◌, ◌-◌, ◌<�
 use Rattle.std.proofs.lemmas.List.{length-take, drop_more, take_more, take_all, map-append}
 use Rattle.std.specs.List.{All}
 use Rattle.std.specs.Prelude.{slice_index_or}
-use Rattle.wk_lex.specs.Spans.{source_in, span_of, IsWithin, IsRunWhereMarks, IsRunOf, IsRunOfEither}
+use Rattle.wk_lex.specs.Spans.{source_in, span_of, IsWithin, IsRunWhereMarks, IsRunOfEither}
 use Rattle.wk_lex.specs.declared.atom.Atom.{Atom}
 use Rattle.wk_tree.proofs.MatchingLemmas.{plained-all}
-use Rattle.wk_tree.proofs.MeetingLemmas.{item-kept, bar-kept}
+use Rattle.wk_tree.proofs.MeetingLemmas.{item-kept}
 use Rattle.wk_tree.specs.Matching.{marks_by, as_run, is_bracket, brackets_at, plained, tokens_by, IsKept, Keeps}
 use Rattle.wk_tree.specs.Tokens.{plain_tokens, item_tokens, items_tokens}
 use Rattle.wk_tree.specs.declared.matching.Matching.{Matching}
@@ -17,7 +17,7 @@ use Rattle.wk_tree.specs.declared.token.Token.TheVariants as token
 use Rattle.wk_tree_laws.specs.OnePass.{PassState, added, opened, closed, passed, nothing_seen, pieces_seen}
 use Rattle.wk_tree_rules.specs.Reduction.{Run, Piece, entry, opening, closing, marks_of, run_of_atom, piece_by, piece_of}
 use Rattle.wk_tree_rules.specs.Tree.{item_of}
-use Rattle.wk_tree_rules.specs.Trees.{Item, plain, sealed, nothing, Entry, item, bar, equals, height}
+use Rattle.wk_tree_rules.specs.Trees.{plain, sealed, nothing, Entry, item, bar, equals, height}
 use Rattle.wk_tree_rules.specs.declared.AtomKind.{AtomKind}
 use Rattle.wk_tree_rules.specs.Atoms.{Atom as Atom_at}
 use Rattle.wk_tree_rules.specs.declared.AtomKind.TheVariants.{LineComment, Comment, Sealed, Ignored, Tag, Open, Close, Bar, Equals, Byte}

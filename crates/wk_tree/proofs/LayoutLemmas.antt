@@ -1,10 +1,10 @@
 -- What the tokens of a tree are laid out to.
-use Rattle.std.proofs.Common.{◌≡◌, ◌≢◌, ℕ, zero, suc, ◌+◌, ◌*◌, ◌<◌, ◌≤◌, ◌==◌, Bool, true, false, if◌then◌else◌, List, [], ◌∷◌, ◌++◌, length, map, flat_map, replicate, codes, Option, Some, None, option_map, refl, ap, ap₂, sym, subst, ◌∙◌, arith, append_assoc, append-nil, length-append}
+use Rattle.std.proofs.Common.{◌≡◌, ◌≢◌, ℕ, zero, suc, ◌+◌, ◌*◌, ◌==◌, true, false, if◌then◌else◌, List, [], ◌∷◌, ◌++◌, length, map, replicate, codes, Option, Some, None, refl, ap, sym, subst, ◌∙◌, arith, append_assoc, append-nil, length-append}
 use Rattle.std.proofs.lemmas.Bool.Decides.{nat_tests}
 use Rattle.std.proofs.lemmas.List.{map-append, length-replicate}
 use Rattle.std.proofs.lemmas.List.Concat.{flat_map-append}
-use Rattle.wk_tree.specs.Layout.{SectionShown, ValueShown, PartShown, NodeShown, FrameShown, LayoutShown, no_section, no_frame, put, put_all, joined, with_item, with_equals, new_part, with_bar, braces_of, new_node, first_frame, other_frames, with_node, with_token, laid}
-use Rattle.wk_tree.specs.Shown.{from_end, ShowsItem, shows_plain, shows_sealed, shows_nothing, shows_node, ShowsItems, no_items, one_more, ShowsName, no_name, a_name, ShowsPart, ShowsParts, no_parts, part_more, ShowsNode, ShowsNodes, no_nodes, node_more, ShowsSection, ShowsSegment, no_equals, at_equals, ShowsFrame, ShowsFrames, no_frames, frame_more, ShowsLayout}
+use Rattle.wk_tree.specs.Layout.{SectionShown, ValueShown, NodeShown, FrameShown, LayoutShown, no_section, no_frame, put, put_all, joined, with_item, with_equals, new_part, with_bar, braces_of, new_node, with_node, laid}
+use Rattle.wk_tree.specs.Shown.{from_end, ShowsItem, shows_plain, shows_sealed, shows_nothing, shows_node, ShowsItems, no_items, one_more, no_name, a_name, ShowsPart, no_parts, part_more, ShowsNode, ShowsNodes, no_nodes, node_more, ShowsSection, ShowsSegment, no_equals, at_equals, ShowsFrame, ShowsFrames, no_frames, frame_more, ShowsLayout}
 use Rattle.wk_tree.specs.Tokens.{plain_tokens, is_argument, opening_tokens, item_tokens, row_tokens, items_tokens}
 use Rattle.wk_tree.specs.Tree.{IsLaidAs}
 use Rattle.wk_tree.specs.declared.item.Item.{Item}
@@ -14,7 +14,7 @@ use Rattle.wk_tree.specs.declared.token.Token.TheVariants.{Fill, NodeEnd}
 use Rattle.wk_tree_laws.proofs.ListLemmas.{entries-text, plain_entries-source}
 use Rattle.wk_tree_laws.proofs.PieceLemmas.{entry_source, entries_source}
 use Rattle.wk_tree_laws.proofs.TreeLemmas.{merged-source}
-use Rattle.wk_tree_rules.specs.Tree.{Node, Part, Split, node_length, value_length, title_part, further_parts, part_of, name_by, split_at_bars, split_at_equals, nodes_of, row_nodes, nodes}
+use Rattle.wk_tree_rules.specs.Tree.{Node, Part, name_by, split_at_bars, nodes_of, row_nodes, nodes}
 use Rattle.wk_tree_rules.specs.Trees.{Item as TreeItem, plain, sealed, nothing, node, NodeKind, template, argument, width, opening_braces, closing_braces, Row, empty_row, item_then, bar_then, equals_then, entries, Entry, item, bar, equals, source_of, row_source, plain_entry, plain_items, put_before, merged, items_source}
 
 -- ---- lists of items

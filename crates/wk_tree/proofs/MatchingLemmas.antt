@@ -1,18 +1,18 @@
 -- What the matching keeps, one operation after another.
-use Rattle.std.proofs.Common.{◌≡◌, ℕ, zero, suc, ◌+◌, ◌-◌, ◌<◌, ◌≤◌, max, List, [], ◌∷◌, ◌++◌, length, map, replicate, flat_map, refl, ap, ap₂, sym, subst, ◌∙◌, arith, take, drop, append_assoc, append-nil, length-append, zero-add}
-use Rattle.std.proofs.lemmas.List.{length-replicate, replicate_more, get_or_read, map-append, set_past, take-append-le, drop-append-le, set_at, get_or_at, length_push, drop_at, take_at}
+use Rattle.std.proofs.Common.{◌≡◌, ℕ, zero, suc, ◌+◌, ◌-◌, ◌<◌, ◌≤◌, max, List, [], ◌∷◌, ◌++◌, length, map, replicate, refl, ap, ap₂, sym, ◌∙◌, arith, take, drop, append_assoc, append-nil, length-append}
+use Rattle.std.proofs.lemmas.List.{length-replicate, replicate_more, get_or_read, map-append, set_past, take-append-le, drop-append-le, set_at, get_or_at, length_push}
 use Rattle.std.proofs.lemmas.List.Concat.{flat_map-append}
 use Rattle.std.specs.List.{AllByRecursion}
 use Rattle.std.specs.Prelude.{slice_set, slice_index_or}
-use Rattle.wk_tree.specs.Matching.{are_brackets, as_run, of_run, run_tokens, bar_places, plain_token, plain_at, plained, raised, tokens_by, bars_by, level_behind, levels_by, IsFit, Keeps, left_tokens, still_open}
-use Rattle.wk_tree.specs.Tokens.{plain_tokens, opening_tokens, item_tokens, row_tokens, entry_tokens, entries_tokens, items_tokens}
+use Rattle.wk_tree.specs.Matching.{are_brackets, of_run, run_tokens, bar_places, plain_token, plain_at, plained, raised, tokens_by, bars_by, level_behind, levels_by, IsFit, Keeps, left_tokens, still_open}
+use Rattle.wk_tree.specs.Tokens.{plain_tokens, item_tokens, row_tokens, entry_tokens, entries_tokens, items_tokens}
 use Rattle.wk_tree.specs.declared.matching.Level.{Level as OpenLevel}
 use Rattle.wk_tree.specs.declared.token.Token.{Token}
-use Rattle.wk_tree.specs.declared.token.Token.TheVariants.{Plain, Bar, Equals, Fill, NodeEnd}
+use Rattle.wk_tree.specs.declared.token.Token.TheVariants.{Plain, Bar, Equals, Fill}
 use Rattle.wk_tree_laws.specs.OnePass.{Level, PassState, pieces_by, added_by, added, opened, reopened}
 use Rattle.wk_tree_rules.specs.Reduction.{Marks, Run, Piece, entry, opening, opening_mark, plain_opening, most_height}
 use Rattle.wk_tree_rules.specs.Tree.{item_of}
-use Rattle.wk_tree_rules.specs.Trees.{Item, node, NodeKind, Row, Entry, item, bar, equals, row, row_height, height, plain_entry}
+use Rattle.wk_tree_rules.specs.Trees.{Item, Entry, item, bar, equals, row, row_height, height, plain_entry}
 
 -- ---- heights
 

@@ -1,11 +1,11 @@
 -- A closing run that meets what was seen.
-use Rattle.std.proofs.Common.{◌≡◌, ◌≢◌, ℕ, zero, suc, ◌+◌, ◌-◌, ◌<◌, ◌≤◌, ◌==◌, max, min, ◌⊎◌, inl, inr, Bool, true, false, if◌then◌else◌, List, [], ◌∷◌, ◌++◌, length, map, replicate, take, drop, flat_map, refl, ap, ap₂, sym, subst, ◌∙◌, arith, append_assoc, append-nil, length-append}
+use Rattle.std.proofs.Common.{◌≡◌, ◌≢◌, ℕ, zero, suc, ◌+◌, ◌-◌, ◌<◌, ◌≤◌, ◌==◌, max, ◌⊎◌, inl, inr, Bool, true, false, if◌then◌else◌, List, [], ◌∷◌, ◌++◌, length, map, replicate, take, drop, refl, ap, ap₂, sym, subst, ◌∙◌, arith, append_assoc, append-nil, length-append}
 use Rattle.std.proofs.lemmas.List.{length-replicate, drop_at, take_at, same_from_push, length_push}
 use Rattle.std.proofs.lemmas.Bool.{eqb-false, cases_lt}
 use Rattle.std.proofs.lemmas.List.Concat.{flat_map-append}
 use Rattle.std.specs.List.{AllByRecursion}
-use Rattle.std.specs.Prelude.{slice_set, slice_index_or}
-use Rattle.wk_tree.proofs.MatchingLemmas.{height-append, height-plain, row-tokens, bars-none, raised-push, raised-zero, keeps-added, keeps-as, keeps-opened, keeps-reopened, split-run, plained-stretch}
+use Rattle.std.specs.Prelude.{slice_set}
+use Rattle.wk_tree.proofs.MatchingLemmas.{height-append, height-plain, row-tokens, bars-none, raised-zero, keeps-added, keeps-as, keeps-opened, keeps-reopened, split-run, plained-stretch}
 use Rattle.wk_tree.specs.Matching.{are_brackets, marks_by, as_run, of_run, run_tokens, bar_places, plained, raised, tokens_by, bars_by, level_behind, levels_by, IsFit, Keeps, IsKept, IsPopped, IsBarOf, IsClosing, MeetsAs, left_tokens, still_open, way_of, met_by_way}
 use Rattle.wk_tree.specs.Tokens.{plain_tokens, opening_tokens, item_tokens, row_tokens, entry_tokens, entries_tokens, items_tokens}
 use Rattle.wk_tree.specs.declared.matching.Level.{Level as OpenLevel}
@@ -13,10 +13,10 @@ use Rattle.wk_tree.specs.declared.matching.Matching.{Matching}
 use Rattle.wk_tree.specs.declared.matching.Run.{Run as OpenRun}
 use Rattle.wk_tree.specs.declared.matching.Way.TheVariants as Way
 use Rattle.wk_tree.specs.declared.token.Token.{Token}
-use Rattle.wk_tree.specs.declared.token.Token.TheVariants.{Plain, Bar, Equals, Fill, NodeStart, NodeEnd}
+use Rattle.wk_tree.specs.declared.token.Token.TheVariants.{Plain, Fill, NodeStart, NodeEnd}
 use Rattle.wk_tree_laws.specs.OnePass.{Level, PassState, added, opened, reopened, Met, met_as_plain, met_as_node, met_as_brackets, met_by_marks, met, resumed, closed}
-use Rattle.wk_tree_rules.specs.Reduction.{Marks, braces, brackets, Run, plain_opening, plain_closing, closing_mark, opening_mark, first_marks, last_marks, node_width, kind_by_width, most_height}
-use Rattle.wk_tree_rules.specs.Trees.{Item, node, plain, Entry, item, bar, equals, row, row_height, height, plain_entry}
+use Rattle.wk_tree_rules.specs.Reduction.{Marks, braces, brackets, Run, plain_opening, plain_closing, closing_mark, first_marks, last_marks, node_width, kind_by_width, most_height}
+use Rattle.wk_tree_rules.specs.Trees.{Item, node, Entry, item, bar, equals, row, row_height, height, plain_entry}
 
 -- ---- runs
 

@@ -1,7 +1,7 @@
 -- What a parsed text shows.
-use Rattle.std.proofs.Common.{◌≡◌, ◌≢◌, ℕ, zero, suc, ◌+◌, ◌-◌, ◌<◌, ◌≤◌, ◌==◌, Bool, true, false, if◌then◌else◌, List, [], ◌∷◌, ◌++◌, length, get_or, map, reverse, Option, Some, None, option_map, refl, ap, ap₂, sym, subst, ◌∙◌, arith}
-use Rattle.std.proofs.lemmas.Bool.{eqb-true, eqb-false}
-use Rattle.std.proofs.lemmas.List.{get_or-reverse, length-map, length-reverse, get_or_read}
+use Rattle.std.proofs.Common.{◌≡◌, ℕ, zero, suc, ◌-◌, ◌<◌, ◌==◌, Bool, true, false, if◌then◌else◌, List, [], ◌∷◌, length, get_or, map, reverse, Option, Some, None, option_map, refl, ap, ap₂, sym, subst, ◌∙◌, arith}
+use Rattle.std.proofs.lemmas.Bool.{eqb-true}
+use Rattle.std.proofs.lemmas.List.{get_or-reverse, length-map, length-reverse}
 use Rattle.std.specs.List.{slice_get, flat_map, AllByRecursion}
 use Rattle.std.specs.Option.{IfSome, IsSome, option_and_then, option_to_list, unwrap_or}
 use Rattle.wk_tree.proofs.LayoutLemmas.{nodes-long}
@@ -22,8 +22,8 @@ use Rattle.wk_tree.specs.declared.layout.PartLists.{PartLists}
 use Rattle.wk_tree.specs.declared.token.Token.{Token}
 use Rattle.wk_tree_rules.specs.Reduction.{pieces_of, reduced}
 use Rattle.wk_tree_rules.specs.Selection.{selection, selected}
-use Rattle.wk_tree_rules.specs.Tree.{Node, Part, item_of, tree, nodes, lists, node_lists, part_lists, title_part, further_parts}
-use Rattle.wk_tree_rules.specs.Trees.{Item as TreeItem, merged}
+use Rattle.wk_tree_rules.specs.Tree.{Node, Part, item_of, tree, lists, node_lists, part_lists, title_part, further_parts}
+use Rattle.wk_tree_rules.specs.Trees.{Item as TreeItem}
 use Rattle.wk_tree_rules.specs.declared.Mode.{Mode}
 
 -- ---- a text that is parsed

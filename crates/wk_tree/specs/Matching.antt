@@ -6,7 +6,6 @@ use Rattle.wk_tree.specs.declared.matching.Run.{Run}
 use Rattle.wk_tree.specs.declared.matching.Level.{Level}
 use Rattle.wk_tree.specs.declared.matching.Matching.{Matching}
 use Rattle.wk_tree.specs.declared.matching.Way.{Way}
-use Rattle.wk_tree.specs.declared.matching.Way.TheVariants as Way
 use Rattle.wk_tree.specs.declared.token.Token.{Token}
 use Rattle.wk_tree.specs.declared.token.Token.TheVariants.{Plain, Sealed, Nothing, Bar, Equals, NodeStart, NodeEnd, Fill}
 use Rattle.wk_tree_laws.specs.OnePass as pass

@@ -5,8 +5,8 @@ use Rattle.wk_tree.specs.Tokens.{is_argument}
 use Rattle.wk_tree.specs.declared.item.Item.{Item}
 use Rattle.wk_tree.specs.declared.item.Item.TheVariants as code
 use Rattle.wk_tree.specs.declared.item.NodeId.{NodeId}
-use Rattle.wk_tree_rules.specs.Tree.{Node, Part, Split, node_length, value_length, title_part, further_parts, part_of, split_at_bars, split_at_equals}
-use Rattle.wk_tree_rules.specs.Trees.{Item as TreeItem, plain, sealed, nothing, node, NodeKind, Row, Entry, equals, plain_entry, items_source}
+use Rattle.wk_tree_rules.specs.Tree.{Node, Part, node_length, value_length, title_part, further_parts, part_of, split_at_bars, split_at_equals}
+use Rattle.wk_tree_rules.specs.Trees.{Item as TreeItem, plain, sealed, nothing, node, NodeKind, Row, Entry, equals, plain_entry}
 use Rattle.wk_tree_laws.proofs.PieceLemmas.{entries_source}
 
 -- the element that has so many behind it

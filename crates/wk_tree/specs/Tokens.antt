@@ -1,8 +1,7 @@
 -- The tokens of a text whose marks are matched (own).
-use Rattle.std.specs.Prelude.{ℕ, zero, suc, ◌+◌, Bool, true, false, List, [], ◌∷◌, ◌++◌, length, replicate, flat_map}
+use Rattle.std.specs.Prelude.{ℕ, zero, suc, Bool, true, false, List, [], ◌∷◌, ◌++◌, length, replicate, flat_map}
 use Rattle.wk_tree.specs.declared.token.Token.{Token}
 use Rattle.wk_tree.specs.declared.token.Token.TheVariants.{Plain, Sealed, Nothing, Bar, Equals, NodeStart, NodeEnd, Fill}
-use Rattle.wk_tree_rules.specs.Reduction.{Piece, entry, opening, closing}
 use Rattle.wk_tree_rules.specs.Trees.{Item, plain, sealed, nothing, node, Row, empty_row, item_then, bar_then, equals_then, NodeKind, template, argument, Entry, item, bar, equals}
 
 -- plain text of so many bytes, with a token for each

@@ -1,4 +1,4 @@
-use Rattle.std.proofs.Common.{ℕ, ◌-◌, ◌≤◌}
+use Rattle.std.proofs.Common.{◌-◌, ◌≤◌}
 use Rattle.wk_tree.specs.Matching.{as_run, IsKept, IsClosing}
 use Rattle.wk_tree_laws.specs.OnePass.{PassState, closed}
 use Rattle.wk_tree.proofs.matching.close.Given as goal

@@ -1,9 +1,7 @@
-use Rattle.std.proofs.Common.{◌≡◌, ◌∙◌, ◌+◌, ◌-◌, ◌<◌, ◌≤◌, ◌++◌, ◌∷◌, [], ℕ, length, take, drop, refl, ap, ap₂, arith}
+use Rattle.std.proofs.Common.{◌≡◌, ◌∙◌, ◌+◌, ◌-◌, ◌<◌, ◌++◌, length, take, drop, ap, ap₂, arith}
 use Rattle.wk_tree.specs.Matching.{as_run, plained, raised, tokens_by}
 use Rattle.wk_tree.specs.Tokens.{plain_tokens}
 use Rattle.wk_tree.specs.declared.matching.Level.{Level}
-use Rattle.wk_tree.specs.declared.token.Token.TheVariants.{Plain}
-use Rattle.std.specs.Prelude.{slice_set}
 use Rattle.wk_tree.proofs.MeetingLemmas.{brackets-kept, rest-is, slot-within}
 use Rattle.wk_tree_rules.specs.Trees.{row, row_height}
 use Rattle.wk_tree.proofs.matching.make_brackets.Goals as goal

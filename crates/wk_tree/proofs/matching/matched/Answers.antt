@@ -1,4 +1,3 @@
-use Rattle.std.proofs.Common.{◌≡◌}
 use Rattle.wk_tree_rules.specs.declared.AtomKind.TheVariants.{LineComment}
 use Rattle.wk_tree.proofs.AtomLemmas.{matched-begins, matched-more, matched-ends}
 use Rattle.wk_tree.proofs.matching.matched.Goals as goal

@@ -1,6 +1,4 @@
-use Rattle.std.proofs.Common.{◌≡◌, ◌∙◌, ap, sym, refl, subst}
-use Rattle.std.specs.List.{AllByRecursion}
-use Rattle.wk_tree.specs.Matching.{tokens_by, bars_by, IsFit}
+use Rattle.std.proofs.Common.{◌∙◌, sym, refl}
 use Rattle.wk_tree.proofs.MeetingLemmas.{pops, popped, meets-by-way, way-at}
 use Rattle.wk_tree.proofs.matching.meet.Goals as goal
 

@@ -1,4 +1,4 @@
-use Rattle.std.proofs.Common.{◌∙◌, ap}
+use Rattle.std.proofs.Common.{◌∙◌}
 use Rattle.wk_tree.proofs.MeetingLemmas.{opened-as}
 use Rattle.wk_tree.proofs.matching.open.Goals as goal
 

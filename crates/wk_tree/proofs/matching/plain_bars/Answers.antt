@@ -1,5 +1,5 @@
-use Rattle.std.proofs.Common.{◌≡◌, ◌<◌, ◌∙◌, sym, ap, arith, length}
-use Rattle.wk_tree.proofs.MatchingLemmas.{plained-pop, plained-past, take-pop, plained-read}
+use Rattle.std.proofs.Common.{◌<◌, ◌∙◌, sym, arith, length}
+use Rattle.wk_tree.proofs.MatchingLemmas.{plained-past, take-pop, plained-read}
 use Rattle.wk_tree.proofs.matching.plain_bars.Goals as goal
 
 pub loop-bars-preserved-then-at-len : goal.loop-bars-preserved-then-at-len

@@ -1,4 +1,4 @@
-use Rattle.std.proofs.Common.{◌≡◌, ◌+◌, ◌≤◌, drop, take, length, vec_len}
+use Rattle.std.proofs.Common.{◌≡◌, drop, take, length}
 use Rattle.wk_tree.specs.Matching.{plained}
 use Rattle.wk_tree.proofs.matching.plain_bars.Given as goal
 

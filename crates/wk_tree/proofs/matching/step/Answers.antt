@@ -1,4 +1,4 @@
-use Rattle.std.proofs.Common.{◌≤◌, ap, refl, subst}
+use Rattle.std.proofs.Common.{◌≤◌, refl, subst}
 use Rattle.wk_tree.specs.Matching.{as_run, IsKept}
 use Rattle.wk_tree_laws.specs.OnePass.{opened, closed}
 use Rattle.wk_tree_rules.specs.Trees.{bar, equals}

@@ -1,4 +1,4 @@
-use Rattle.std.proofs.Common.{◌∙◌, sym, refl}
+use Rattle.std.proofs.Common.{◌∙◌, sym}
 use Rattle.wk_tree.proofs.ViewLemmas.{parsed-is}
 use Rattle.wk_tree.proofs.parsed.parse.Goals as goal
 
