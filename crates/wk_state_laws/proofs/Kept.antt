@@ -31,13 +31,15 @@ use Rattle.wk_view_rules.specs.Rows.{PageRows}
 use Rattle.wk_view_rules.specs.Rows as rows_of
 use Rattle.wk_view_laws.specs.Titles.{IsPageTitle, IsCategoryTitle, IsInTitleOrder, RowsAreInOrder, RowsHavePageTitles}
 use Rattle.wk_view_laws.proofs.OrderLemmas.{order-rows, pages-rows}
+use Rattle.wk_row_laws.specs.NormalTitles.{RowsHaveNormalTitles}
+use Rattle.wk_row_laws.proofs.NormalRows.{normal-rows}
 use Rattle.wk_state_rules.specs.States.{State, no_state, title_at, world_of, links_in, stored_form, stored_member}
 use Rattle.wk_state_rules.specs.Events.{Event, Save, Claim, Done, Back, Fan, can_save, page_to_save, stored_with, with_saved, with_refreshed, with_jobs, step_by}
 use Rattle.wk_state_rules.specs.Lives.{reopened}
 use Rattle.wk_state_rules.specs.Tables.{tables_of, page_row}
 use Rattle.wk_state_rules.specs.Verdicts.{verdict_in}
 use Rattle.wk_state_laws.specs.WellFormed.{IsWellFormed}
-use Rattle.wk_state_laws.specs.Reached.{IsWithinFull, HasNormalTitles, IsMade, by_save, by_claim, by_finish, by_give_back, by_fan}
+use Rattle.wk_state_laws.specs.Reached.{IsWithinFull, IsMade, by_save, by_claim, by_finish, by_give_back, by_fan}
 use Rattle.wk_state_laws.proofs.SavedHistory.{Stands}
 use Rattle.wk_state_laws.proofs.Sound.{given}
 use Rattle.wk_state_laws.proofs.Refreshed.{done-by}
@@ -188,7 +190,7 @@ category-same title is = ap (λ ns. let t : PageTitle = record { ns = ns; key = 
 abbrev category_of : Member → PageTitle
 category_of member = category_title member.category.key
 
-members-passes : (members : List rows_of.Member) → AllByRecursion (λ (m : Member). is_normal m.category ≡ true) (map stored_member members) → AllByRecursion (λ (m : rows_of.Member). IsCategoryTitle m.category) members → Pairs (before (λ (m : rows_of.Member). m.category)) members
+members-passes : (members : List rows_of.Member) → AllByRecursion (λ (m : rows_of.Member). is_normal m.category ≡ true) members → AllByRecursion (λ (m : rows_of.Member). IsCategoryTitle m.category) members → Pairs (before (λ (m : rows_of.Member). m.category)) members
     → AllByRecursion (λ (m : Member). is_normal (category_of m) ≡ true) (map stored_member members) × (Pairs (before category_of) (map stored_member members) × AllByRecursion (λ (m : Member). m.category.ns ≡ pos 14) (map stored_member members))
 members-passes [] normals titles order = (tt, (tt, tt))
 members-passes (m ∷ members) normals titles order =
@@ -211,9 +213,9 @@ redirect-real : (o : Option PageTitle) → IfSome o (λ title. is_normal title �
 redirect-real None normal_one page = tt
 redirect-real (Some title) normal_one page = real-of title normal_one page
 
-rows-good : (r : PageRows) → HasNormalTitles (stored_form r) → RowsAreInOrder r → RowsHavePageTitles r → AreGoodLinks (stored_form r)
+rows-good : (r : PageRows) → RowsHaveNormalTitles r → RowsAreInOrder r → RowsHavePageTitles r → AreGoodLinks (stored_form r)
 rows-good r normals order titles =
-    let members = members-passes r.members (recursion_from_All (λ (m : Member). is_normal m.category ≡ true) (map stored_member r.members) normals.members)
+    let members = members-passes r.members (recursion_from_All (λ (m : rows_of.Member). is_normal m.category ≡ true) r.members normals.members)
     (recursion_from_All (λ (m : rows_of.Member). IsCategoryTitle m.category) r.members titles.members) (in-order (λ (m : rows_of.Member). m.category) r.members order.members) in
     record {
       templates = titles-good r.templates normals.templates titles.templates order.templates;
@@ -230,13 +232,13 @@ set-each P [] place x own all = tt
 set-each P (y ∷ xs) zero x own all = (own, all.1)
 set-each P (y ∷ xs) (suc place) x own all = (all.0, set-each P xs place x own all.1)
 
-IsKept-refreshed : (state : State) (page : ℕ) → IsKept state → IsWellFormed (with_refreshed state page) → HasNormalTitles (links_in (world_of state) (title_at state.history page)) → IsKept (with_refreshed state page)
-IsKept-refreshed state page keeps formed normals =
+IsKept-refreshed : (state : State) (page : ℕ) → IsKept state → IsWellFormed (with_refreshed state page) → IsKept (with_refreshed state page)
+IsKept-refreshed state page keeps formed =
     let title = title_at state.history page in record {
       formed = formed;
       history = keeps.history;
       links = set-each AreGoodLinks state.stored (page - 1) (links_in (world_of state) title)
-          (rows-good (rows_of.rows (world_of state) title) normals (order-rows (world_of state) title) (pages-rows (world_of state) title)) keeps.links;
+          (rows-good (rows_of.rows (world_of state) title) (normal-rows (world_of state) title) (order-rows (world_of state) title) (pages-rows (world_of state) title)) keeps.links;
       numbered = IsNumbered-dropped state.jobs page keeps.numbered;
       one_page = IsOneAPage-dropped state.jobs page keeps.one_page;
       one_title = keeps.one_title;
@@ -450,9 +452,9 @@ IsKept-step most served state next journal (Save title text moment) full (by_sav
 IsKept-step most served state next journal Claim full by_claim done keeps =
     given (λ (s : State). IsWellFormed s → IsKept s) (λ page. with_jobs state (claimed_by state.jobs (journal + 1))) (first_queued state.jobs) next done
     (λ page formed. IsKept-claimed state (journal + 1) keeps formed) (IsWellFormed-step served state next journal Claim done keeps.formed)
-IsKept-step most served state next journal (Done ticket) full (by_finish page holds normals) done keeps =
+IsKept-step most served state next journal (Done ticket) full (by_finish page holds) done keeps =
     done-by (λ (s : State). IsWellFormed s → IsKept s) served state next journal ticket page holds done
-    (λ formed. IsKept-refreshed state page keeps formed normals) (IsWellFormed-step served state next journal (Done ticket) done keeps.formed)
+    (λ formed. IsKept-refreshed state page keeps formed) (IsWellFormed-step served state next journal (Done ticket) done keeps.formed)
 IsKept-step most served state next journal (Back ticket) full by_give_back done keeps =
     given (λ (s : State). IsWellFormed s → IsKept s) (λ page. with_jobs state (given_back state.jobs page)) (page_held_by state.jobs ticket) next done
     (λ page formed. IsKept-given_back state page keeps formed) (IsWellFormed-step served state next journal (Back ticket) done keeps.formed)

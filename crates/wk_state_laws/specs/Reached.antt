@@ -1,13 +1,12 @@
 -- The states that calls with full limits reach (own: each event is one that a call makes, and the limits are those of
 -- good tables).
-use Rattle.std.specs.Prelude.{◌≡◌, ℕ, ◌≤◌, All, IfSome, true, false, List, Option, Some}
+use Rattle.std.specs.Prelude.{◌≡◌, ℕ, ◌≤◌, false, List, Option, Some}
 use Rattle.wk_text_rules.specs.Titles.{PageTitle}
 use Rattle.wk_page_rules.specs.Verdict.{EditAsked, MostHeld, accept, is_journal_full}
-use Rattle.wk_table_rules.specs.Changes.{PageLinks}
 use Rattle.wk_table_rules.specs.Rows.{StoreTables}
-use Rattle.wk_table_rules.specs.GoodStore.{IsGood, is_normal, max_pages, max_texts}
+use Rattle.wk_table_rules.specs.GoodStore.{IsGood, max_pages, max_texts}
 use Rattle.wk_job_rules.specs.Jobs.{left, page_held_by}
-use Rattle.wk_state_rules.specs.States.{State, no_state, title_at, world_of, links_in}
+use Rattle.wk_state_rules.specs.States.{State, no_state}
 use Rattle.wk_state_rules.specs.Events.{Event, Save, Claim, Done, Back, Fan, step_by}
 use Rattle.wk_state_rules.specs.Lives.{reopened, opened}
 use Rattle.wk_state_rules.specs.Verdicts.{verdict_in}
@@ -18,25 +17,14 @@ pub record IsWithinFull (most : MostHeld) : Type 0 where
   pub pages : most.pages ≤ max_pages
   pub text : most.text ≤ max_texts
 
--- Each title of the link rows is normal, as it is where the rows are made of titles that were read from texts.
-pub record HasNormalTitles (rows : PageLinks) : Type 0 where
-  pub templates : All (λ title. is_normal title ≡ true) rows.templates
-  pub exists : All (λ title. is_normal title ≡ true) rows.exists
-  pub links : All (λ title. is_normal title ≡ true) rows.links
-  pub members : All (λ member. is_normal member.category ≡ true) rows.members
-  pub redirect : IfSome rows.redirect (λ title. is_normal title ≡ true)
-
 -- An event that a call makes in a state, behind a journal of this length, under these limits.
 pub data IsMade : MostHeld → State → ℕ → Event → Type 0 where
   -- an edit that is accepted is a save of its title and its kept text
   by_save : {most : MostHeld} {state : State} {journal moment : ℕ} {title : PageTitle} {text : Option (List ℕ)} (edit : EditAsked)
       → verdict_in most state journal edit ≡ accept title text → IsMade most state journal (Save title text moment)
   by_claim : {most : MostHeld} {state : State} {journal : ℕ} → IsMade most state journal Claim
-  -- the link rows that a refresh sets have titles that a text can name
   by_finish : {most : MostHeld} {state : State} {journal ticket : ℕ} (page : ℕ)
-      → page_held_by state.jobs ticket ≡ Some page
-      → HasNormalTitles (links_in (world_of state) (title_at state.history page))
-      → IsMade most state journal (Done ticket)
+      → page_held_by state.jobs ticket ≡ Some page → IsMade most state journal (Done ticket)
   by_give_back : {most : MostHeld} {state : State} {journal ticket : ℕ} → IsMade most state journal (Back ticket)
   -- a fan is refused as a save is, where the journal is full or the next job's number is past the greatest
   by_fan : {most : MostHeld} {state : State} {journal : ℕ}

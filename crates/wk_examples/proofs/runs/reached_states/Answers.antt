@@ -1,9 +1,4 @@
-use Rattle.std.proofs.Common.{◌≡◌, true, ◌∷◌, [], Some, None, refl, lit≤, sym, subst, codes}
-use Rattle.std.proofs.lemmas.List.Elements.{All-from_recursion}
-use Rattle.wk_text_rules.specs.Titles.{PageTitle}
-use Rattle.wk_table_rules.specs.Rows.{category_title}
-use Rattle.wk_table_rules.specs.Changes.{Member}
-use Rattle.wk_table_rules.specs.GoodStore.{is_normal}
+use Rattle.std.proofs.Common.{◌∷◌, [], Some, None, refl, lit≤, sym, subst, codes}
 use Rattle.wk_job_rules.specs.Steps.{fan_pages}
 use Rattle.wk_state_rules.specs.Computing.{computing}
 use Rattle.wk_state_rules.specs.States.{no_state}
@@ -14,15 +9,11 @@ use Rattle.wk_state_laws.proofs.Sound.{IsSound-none, IsSound-reopened}
 use Rattle.wk_state_laws.proofs.Formed.{IsWellFormed-none}
 use Rattle.wk_state_laws.proofs.Always.{IsSound-replayed}
 use Rattle.wk_state_laws.proofs.Reached.{state_of-reached}
-use Rattle.wk_examples.specs.Stores.{title_b, member}
 use Rattle.wk_examples.specs.Wikis.{title_p, members_text, members_1, members_2, members_3, edit_of_a, small, old_tables, opened_0, opened_1, opened_2}
 use Rattle.wk_examples.proofs.runs.reached_states.Goals as goal
 
 pub returns-clause-limits : goal.returns-clause-limits
 returns-clause-limits c = record { pages = lit≤ tt; text = lit≤ tt }
-
-abbrev NoTitle : PageTitle → Type 0
-NoTitle title = is_normal title ≡ true
 
 reached-members : IsReached members_3
 unfolding computing
@@ -33,13 +24,7 @@ reached-members =
     empty (record { pages = lit≤ tt; text = lit≤ tt }) (by_save (record (edit_of_a None members_text) { title = codes "P" }) refl) refl)
     (record { pages = lit≤ tt; text = lit≤ tt }) by_claim refl)
     (record { pages = lit≤ tt; text = lit≤ tt })
-    (by_finish 1 refl (record {
-      templates = All-from_recursion NoTitle [] tt;
-      exists = All-from_recursion NoTitle [] tt;
-      links = All-from_recursion NoTitle (title_b ∷ category_title (codes "X") ∷ []) (refl, (refl, tt));
-      members = All-from_recursion (λ (m : Member). is_normal m.category ≡ true) (record (member (codes "X")) { sortkey = codes "P" } ∷ []) (refl, tt);
-      redirect = tt;
-    })) refl
+    (by_finish 1 refl) refl
 
 pub returns-clause-from_nothing : goal.returns-clause-from_nothing
 returns-clause-from_nothing c = reached-members
@@ -51,13 +36,7 @@ returns-clause-from_a_store c =
     (stepped {most = small 9} {state = opened_0} {next = opened_1} {journal = 0} {event = Claim} fan_pages
     (loaded old_tables refl) (record { pages = lit≤ tt; text = lit≤ tt }) by_claim refl)
     (record { pages = lit≤ tt; text = lit≤ tt })
-    (by_finish 1 refl (record {
-      templates = All-from_recursion NoTitle [] tt;
-      exists = All-from_recursion NoTitle [] tt;
-      links = All-from_recursion NoTitle (title_b ∷ []) (refl, tt);
-      members = All-from_recursion (λ (m : Member). is_normal m.category ≡ true) [] tt;
-      redirect = refl;
-    })) refl
+    (by_finish 1 refl) refl
 
 members-sound : IsSound members_3
 unfolding computing
