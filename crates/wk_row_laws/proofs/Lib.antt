@@ -1,3 +1,1 @@
-pub mod Chars
 pub mod NormalRows
-pub mod Shown

@@ -10,7 +10,7 @@ use Rattle.wk_view_laws.proofs.OrderLemmas.{pages-rows}
 use Rattle.wk_view_laws.proofs.PlanLemmas.{title_eq-same}
 use Rattle.wk_table_rules.specs.GoodStore.{is_normal}
 use Rattle.wk_row_laws.specs.NormalTitles.{RowsHaveNormalTitles}
-use Rattle.wk_row_laws.proofs.Shown.{shown_names}
+use Rattle.wk_title_laws.proofs.Law.{shown_names}
 
 -- the title that is named is this one
 abbrev is_title : PageTitle → Option PageTitle → Bool

@@ -1,18 +1,17 @@
 -- The shown form of a title names it.
 use Rattle.std.proofs.Common.{◌≡◌, ℕ, ℤ, pos, suc, ◌+◌, Bool, true, false, not, ◌==◌, List, [], ◌∷◌, ◌++◌, length, drop, filter, chars, encode_utf8, encode_utf8_all, Option, Some, None, refl, sym, ap, ap₂, subst, ◌∙◌, inl, inr, arith, eqb-true, append_assoc}
-use Rattle.std.proofs.Math.Utf8.{scalar, scalars, low_scalar}
 use Rattle.std.proofs.Math.Bool.{Bool-set}
 use Rattle.std.proofs.Math.Logic.{∥∥₁_elim}
 use Rattle.std.proofs.lemmas.Bool.{cases_Bool, and_parts, and_from, not-true, false_from_ne_true}
 use borrow.Author.Tests.{ltb-true}
 use Rattle.std.proofs.lemmas.List.{map-append}
-use Rattle.std.proofs.lemmas.Str.{chars-encodes, encode_ascii, encodes-append, encodes_same}
+use Rattle.std.proofs.lemmas.Str.{encode_ascii, encodes-append}
 use Rattle.std.specs.Char.{is_ascii}
 use Rattle.std.specs.Cmp.Lexicographic.{bytes_decides}
 use Rattle.std.specs.List.{list_all, after_first, position_or_len}
 use Rattle.std.specs.Option.{option_and_then}
 use Rattle.std.specs.Ordering.{int_eq}
-use Rattle.std.specs.Str.{IsUtf8, bytes_eq}
+use Rattle.std.specs.Str.{bytes_eq}
 use Rattle.wk_text_rules.specs.Titles.{PageTitle, title_eq, is_colon, is_direction_mark, is_namespace, namespace_name, namespace_called, underscored, with_spaces, to_nfc, without_fragment, squeezed, without_leading_underscores, without_trailing_underscores, prefix_of, after_leading_colon, after_namespace, is_legal_key, normal, shown}
 use Rattle.wk_text_rules.proofs.TitleLemmas.{to_nfc-is, nfc-ascii}
 use Rattle.wk_title.specs.Normal.{IsNormal}
@@ -27,6 +26,7 @@ use Rattle.wk_title_laws.proofs.Keys.{IsKey, placed_by, after_namespace-by, key_
 use Rattle.wk_title_laws.proofs.Lists.{filter_all, take_while_all, list_all-weaker}
 use Rattle.wk_title_laws.proofs.Names.{is_plain, is_int, int_eq-true, int_eq-same, name_test, name_passes}
 use Rattle.wk_title_laws.proofs.Raised.{prefix_at}
+use Rattle.wk_title_laws.proofs.Chars.{chars-of_numbers}
 
 -- ---- characters and bytes of the shown form
 
@@ -34,25 +34,6 @@ with_spaces-encodes : (cs : List ℕ) → with_spaces (encode_utf8_all cs) ≡ e
 with_spaces-encodes [] = refl
 with_spaces-encodes (c ∷ cs) =
     map-append with_space (encode_utf8 c) (encode_utf8_all cs) ∙ ap₂ (λ u v. u ++ v) (with_spaces-encode c) (with_spaces-encodes cs)
-
-scalars-with_spaces : (cs : List ℕ) → scalars cs ≡ true → scalars (with_spaces cs) ≡ true
-scalars-with_spaces [] all = refl
-scalars-with_spaces (c ∷ cs) all =
-    let parts = and_parts (scalar c) (scalars cs) all in
-    let first : scalar (with_space c) ≡ true = elim (cases_Bool (c == 95)) [ inl underscore ↦ rw underscore refl | inr other ↦ rw other parts.0 ] in
-    and_from _ _ first (scalars-with_spaces cs parts.1)
-
-scalars-ascii : (cs : List ℕ) → list_all is_ascii cs ≡ true → scalars cs ≡ true
-scalars-ascii [] all = refl
-scalars-ascii (c ∷ cs) all =
-    let parts = and_parts (is_ascii c) (list_all is_ascii cs) all in
-    let small = ltb-true c 128 parts.0 in
-    and_from _ _ (low_scalar c (omega arith)) (scalars-ascii cs parts.1)
-
-scalars-append : (xs ys : List ℕ) → scalars xs ≡ true → scalars ys ≡ true → scalars (xs ++ ys) ≡ true
-scalars-append [] ys front back = back
-scalars-append (x ∷ xs) ys front back =
-    let parts = and_parts (scalar x) (scalars xs) front in and_from _ _ parts.0 (scalars-append xs ys parts.1 back)
 
 encodes-ascii : (cs : List ℕ) → list_all is_ascii cs ≡ true → encode_utf8_all cs ≡ cs
 encodes-ascii [] all = refl
@@ -89,12 +70,12 @@ no_leading_colon c cs other = rw other refl
 
 -- ---- in main
 
-in_main : (cs : List ℕ) → IsKey (pos 0) cs → scalars cs ≡ true → is_legal_key cs ≡ true →
+in_main : (cs : List ℕ) → IsKey (pos 0) cs → is_legal_key cs ≡ true →
     normal (shown (record { ns = pos 0; key = encode_utf8_all cs })) (pos 0) ≡ Some (record { ns = pos 0; key = encode_utf8_all cs })
-in_main cs key ok legal =
+in_main cs key legal =
     let text = shown (record { ns = pos 0; key = encode_utf8_all cs }) in
     let bytes : text ≡ encode_utf8_all (with_spaces cs) = shown-parts (record { ns = pos 0; key = encode_utf8_all cs }) ∙ with_spaces-encodes cs in
-    let read = ap chars bytes ∙ chars-encodes (with_spaces cs) (scalars-with_spaces cs ok) in
+    let read = ap chars bytes ∙ chars-of_numbers (with_spaces cs) in
     let plain = stays_plain (with_spaces cs) (fixed-with_spaces cs key.fixed) (plain-with_spaces cs key.plain) in
     let placed : (pos 0, cs) ≡ after_namespace (pos 0, cs) = sym (after_namespace-by (pos 0) cs ∙ ap (λ found. placed_by found (pos 0) cs) (key.uncalled refl)) in
     title_from text (pos 0) (pos 0) cs (
@@ -171,9 +152,9 @@ after_name ns cs name gaps =
     ∙ ap (λ l. (ns, without_leading_underscores l)) (after_first_at written cs name.no_colon) ∙ ap (λ l. (ns, l)) (without_leading-kept cs gaps)
     )
 
-named : (ns : ℤ) (cs : List ℕ) → HasName ns → IsKey ns cs → scalars cs ≡ true → is_legal_key cs ≡ true →
+named : (ns : ℤ) (cs : List ℕ) → HasName ns → IsKey ns cs → is_legal_key cs ≡ true →
     normal (shown (record { ns = ns; key = encode_utf8_all cs })) (pos 0) ≡ Some (record { ns = ns; key = encode_utf8_all cs })
-named ns cs name key ok legal =
+named ns cs name key legal =
     let title : PageTitle = record { ns = ns; key = encode_utf8_all cs } in
     let text = shown title in
     let front = namespace_name ns in
@@ -185,8 +166,7 @@ named ns cs name key ok legal =
     let bytes : text ≡ encode_utf8_all form =
     shown-parts title ∙ ap₂ (λ u v. u ++ v) (shown_named ns front refl name.some) (with_spaces-encodes cs)
     ∙ append_assoc front (58 ∷ []) (encode_utf8_all (with_spaces cs)) ∙ sym form_bytes in
-    let form_scalars = scalars-append front (58 ∷ with_spaces cs) (scalars-ascii front name.ascii) (scalars-with_spaces cs ok) in
-    let read = ap chars bytes ∙ chars-encodes form form_scalars in
+    let read = ap chars bytes ∙ chars-of_numbers form in
     let fixed = fixed_join 58 parts_colon front (with_spaces cs) (nfc-ascii front name.ascii) (fixed-with_spaces cs key.fixed) in
     let plain = stays_plain form fixed (list_all-append is_plain front (58 ∷ with_spaces cs) name.plain (plain-with_spaces cs key.plain)) in
     let gaps = gaps_ok-append false written (58 ∷ cs) name.gaps (gaps_ok-weaker cs key.gaps) in
@@ -200,26 +180,22 @@ named ns cs name key ok legal =
 
 -- ---- the law
 
-by_key : (ns : ℤ) (cs : List ℕ) → IsKey ns cs → scalars cs ≡ true → is_legal_key cs ≡ true →
+by_key : (ns : ℤ) (cs : List ℕ) → IsKey ns cs → is_legal_key cs ≡ true →
     normal (shown (record { ns = ns; key = encode_utf8_all cs })) (pos 0) ≡ Some (record { ns = ns; key = encode_utf8_all cs })
-by_key ns cs key ok legal = elim (cases_Bool (int_eq ns (pos 0))) [
+by_key ns cs key legal = elim (cases_Bool (int_eq ns (pos 0))) [
   | inl main ↦
       let same = int_eq-true ns (pos 0) main in
       subst (λ n. normal (shown (record { ns = n; key = encode_utf8_all cs })) (pos 0) ≡ Some (record { ns = n; key = encode_utf8_all cs })) (sym same)
-      (in_main cs (subst (λ n. IsKey n cs) same key) ok legal)
-  | inr other ↦ named ns cs (has_name ns (name_passes ns key.namespace other)) key ok legal
+      (in_main cs (subst (λ n. IsKey n cs) same key) legal)
+  | inr other ↦ named ns cs (has_name ns (name_passes ns key.namespace other)) key legal
 ]
 
-scalars_from : (cs : List ℕ) → IsUtf8 (encode_utf8_all cs) → scalars cs ≡ true
-scalars_from cs utf8 = ap scalars (encodes_same cs utf8.0 (sym utf8.1.1)) ∙ utf8.1.0
-
-pub shown_names : (text : List ℕ) (default_ns : ℤ) (title : PageTitle) → IsUtf8 title.key → is_namespace default_ns ≡ true → normal text default_ns ≡ Some title → normal (shown title) (pos 0) ≡ Some title
-shown_names text default_ns title utf8 known names =
+pub shown_names : (text : List ℕ) (default_ns : ℤ) (title : PageTitle) → is_namespace default_ns ≡ true → normal text default_ns ≡ Some title → normal (shown title) (pos 0) ≡ Some title
+shown_names text default_ns title known names =
     let parts = normal-Some text default_ns title names in
     let placed = placed_key text default_ns in
     let key = key_is text default_ns known parts.0 in
-    let ok = scalars_from placed.1 (subst (λ t. IsUtf8 t.key) parts.1 utf8) in
-    subst (λ t. normal (shown t) (pos 0) ≡ Some t) (sym parts.1) (by_key placed.0 placed.1 key ok parts.0)
+    subst (λ t. normal (shown t) (pos 0) ≡ Some t) (sym parts.1) (by_key placed.0 placed.1 key parts.0)
 
 -- ---- the law for a title that some text names
 
@@ -236,11 +212,11 @@ is_title-true (Some other) title h =
 is_title-same : (title : PageTitle) → is_title (Some title) title ≡ true
 is_title-same title = and_from _ _ (int_eq-same title.ns) ((bytes_decides title.key title.key).1 refl)
 
-pub normal_shown : (title : PageTitle) → IsUtf8 title.key → IsNormal title → normal (shown title) (pos 0) ≡ Some title
-normal_shown title utf8 some_text =
+pub normal_shown : (title : PageTitle) → IsNormal title → normal (shown title) (pos 0) ≡ Some title
+normal_shown title some_text =
     is_title-true (normal (shown title) (pos 0)) title (
     ∥∥₁_elim some_text (Bool-set _ _) (λ named.
-    let names = shown_names named.0 named.1 title utf8 named.2.default_is_namespace named.2.names in
+    let names = shown_names named.0 named.1 title named.2.default_is_namespace named.2.names in
     ap (λ found. is_title found title) names ∙ is_title-same title)
     )
 

@@ -1,3 +1,4 @@
+pub mod Chars
 pub mod Fixed
 pub mod Gaps
 pub mod Kept

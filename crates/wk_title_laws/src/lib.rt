@@ -2,14 +2,14 @@
 #![tactic(auto)]
 
 ghost use Rattle.std.specs.Prelude.{◌≡◌, ℕ, ℤ, pos, true, List, Some};
-ghost use Rattle.std.specs.Str.{IsUtf8};
 ghost use Rattle.wk_text_rules.specs.Titles.{PageTitle, is_namespace, normal, shown};
 
 use wk_title::Title;
 
-/// Where some text names a title whose key is UTF-8, the title's shown form names it too, with main as the default.
+/// Where some text names a title, the title's shown form names it too, with main as the default. The text need not be
+/// UTF-8.
 pub fn shown_form_names_its_title()
-    ensures { (text : List ℕ) (default_ns : ℤ) (title : PageTitle) → IsUtf8 title.key → is_namespace default_ns ≡ true → normal text default_ns ≡ Some title → normal (shown title) (pos 0) ≡ Some title }
+    ensures { (text : List ℕ) (default_ns : ℤ) (title : PageTitle) → is_namespace default_ns ≡ true → normal text default_ns ≡ Some title → normal (shown title) (pos 0) ≡ Some title }
 {}
 
 /// The shown form of a `Title` names it, with main as the default.
