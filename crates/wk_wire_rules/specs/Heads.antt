@@ -26,9 +26,13 @@ is_named name field = str_eq_ignore_ascii_case field.0 name
 abbrev pub values_of : List ℕ → Fields → List (List ℕ)
 values_of name fields = map (λ field. field.1) (filter (is_named name) fields)
 
--- the text begins with these words, in whichever case
-abbrev pub begins_in_any_case : List ℕ → List ℕ → Bool
-begins_in_any_case words text = str_eq_ignore_ascii_case (take (length words) text) words
+-- a field of this name was sent
+abbrev pub is_sent : List ℕ → Fields → Bool
+is_sent name fields = nat_lt 0 (length (values_of name fields))
+
+-- the text begins with these words, in just this case
+abbrev pub begins_with : List ℕ → List ℕ → Bool
+begins_with words text = bytes_eq (take (length words) text) words
 
 -- ---- the length of the body
 
@@ -47,15 +51,11 @@ agree [] = true
 agree (None ∷ _) = false
 agree (Some n ∷ others) = list_all (is_number n) others
 
--- what lengths that agree say; no length says that there is no body
+-- what lengths that agree say; without one there is no body
 abbrev pub length_said : List (Option ℕ) → ℕ
 length_said [] = 0
 length_said (None ∷ _) = 0
 length_said (Some n ∷ _) = n
-
--- the bytes of the body, in a head that isn't refused
-abbrev pub body_length : RequestHead → ℕ
-body_length head = length_said (lengths (fields_of head))
 
 -- ---- the method
 
@@ -77,16 +77,22 @@ abbrev pub most_body : ℕ
 most_body = 8388608
 
 -- The status of the first check that fails (RFC 9110 section 15 has the statuses):
--- 400 where there are more than 100 fields; 501 where a coding of the transfer is named, since none is known;
+-- 400 where there are more than 100 fields; 501 where there is a `Transfer-Encoding`, whatever it says, since no coding is known;
 -- 400 where a length is no number, or two differ; 411 where a POST has no length; 413 where the length is too large.
-abbrev pub refusal : RequestHead → Option ℕ
-refusal head =
-    let fields = fields_of head in
+abbrev pub refusal_of : Method → Fields → Option ℕ
+refusal_of method fields =
     if nat_lt most_headers (length fields) then Some 400 else
-    (if list_any (is_named (codes "transfer-encoding")) fields then Some 501 else
+    (if is_sent (codes "transfer-encoding") fields then Some 501 else
     (if not (agree (lengths fields)) then Some 400 else
-    (if is_post (method_of head.method) && nat_lt (length (lengths fields)) 1 then Some 411 else
-    (if nat_lt most_body (body_length head) then Some 413 else None))))
+    (if is_post method && not (is_sent (codes "content-length") fields) then Some 411 else
+    (if nat_lt most_body (length_said (lengths fields)) then Some 413 else None))))
+
+abbrev pub refusal : RequestHead → Option ℕ
+refusal head = refusal_of (method_of head.method) (fields_of head)
+
+-- the bytes of the body behind a head that isn't refused
+abbrev pub body_length : RequestHead → ℕ
+body_length head = length_said (lengths (fields_of head))
 
 -- ---- what a message says
 
@@ -111,7 +117,7 @@ asks_to_close fields =
     list_any (λ value. str_eq_ignore_ascii_case value (codes "close")) (values_of (codes "connection") fields)
 
 abbrev pub is_multipart : Fields → Bool
-is_multipart fields = list_any (begins_in_any_case (codes "multipart/")) (values_of (codes "content-type") fields)
+is_multipart fields = list_any (begins_with (codes "multipart/")) (values_of (codes "content-type") fields)
 
 -- A message is also the last where its version is HTTP/1.0 (own: whatever its fields say).
 abbrev pub message_of : RequestHead → List ℕ → Message
