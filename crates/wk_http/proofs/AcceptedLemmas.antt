@@ -1,17 +1,17 @@
 -- A head that isn't refused, from the spans that the parser gives.
-use Rattle.std.proofs.Common.{◌≡◌, ℕ, ◌+◌, ◌-◌, ◌<◌, ◌≤◌, List, [], ◌∷◌, ◌++◌, length, take, drop, Some, None, refl, ap, sym, ◌∙◌, subst, arith, length-drop, slice_range}
+use Rattle.std.proofs.Common.{◌≡◌, ℕ, ◌-◌, ◌≤◌, List, ◌++◌, length, take, drop, Some, None, ap, sym, ◌∙◌, subst, arith, length-drop}
 use Rattle.std.proofs.lemmas.List.{length-append, drop-append-le, take-append-le}
 use Rattle.std.specs.Prelude.{◌||◌, ◌==◌}
 use Rattle.httparse.specs.declared.spans.HeaderSpan.{HeaderSpan}
 use Rattle.httparse.specs.declared.spans.RequestSpans.{RequestSpans}
 use Rattle.httparse.specs.declared.spans.Span.{Span}
-use Rattle.httparse.specs.Grammar.{RequestHead, print_request}
+use Rattle.httparse.specs.Grammar.{print_request}
 use Rattle.httparse.specs.Spans.{IsWithin, span_bytes, IsRequestWithin, IsRequestOf}
-use Rattle.wk_wire_rules.specs.Heads.{fields_of, lengths, length_said, method_of, is_multipart, asks_to_close, refusal_of, refusal}
+use Rattle.wk_wire_rules.specs.Heads.{fields_of, lengths, length_said, method_of, is_multipart, asks_to_close, refusal_of}
 use Rattle.wk_wire_rules.specs.Messages.{most_head, HasHead, IsBad, refused}
 use Rattle.wk_http.specs.declared.front.Accepted.{Accepted}
 use Rattle.wk_http.specs.Fields.{fields_in}
-use Rattle.wk_http.specs.Front.{Describes, IsAccepted}
+use Rattle.wk_http.specs.Front.{IsAccepted}
 use Rattle.wk_http.proofs.FrontLemmas.{head_of_window}
 use Rattle.wk_http.proofs.MessageLemmas.{HasHead-append}
 

@@ -1,9 +1,9 @@
 -- What a feed knows stays true when more bytes come.
-use Rattle.std.proofs.Common.{◌≡◌, ℕ, ◌+◌, ◌<◌, ◌≤◌, List, [], ◌∷◌, ◌++◌, length, drop, None, refl, ap, sym, ◌∙◌, subst, arith, append_assoc, append-nil}
+use Rattle.std.proofs.Common.{◌≡◌, ℕ, ◌+◌, ◌<◌, ◌≤◌, List, [], ◌++◌, length, drop, None, ap, sym, ◌∙◌, subst, arith, append_assoc, append-nil}
 use Rattle.std.proofs.lemmas.List.{length-append, drop-append-le, nil_from_length}
 use Rattle.httparse.specs.Grammar.{print_request}
 use Rattle.wk_wire_rules.specs.Heads.{body_length, refusal, most_body}
-use Rattle.wk_wire_rules.specs.Messages.{most_head, IsOpen, IsMessage, IsBad, no_head, too_long, refused}
+use Rattle.wk_wire_rules.specs.Messages.{most_head, IsOpen, IsBad, no_head, too_long, refused}
 use Rattle.wk_http.specs.declared.feed.Known.{Known}
 use Rattle.wk_http.specs.declared.feed.Known.TheVariants.{OpenBelow, Bad}
 use Rattle.wk_http.specs.declared.front.Accepted.{Accepted}
@@ -11,7 +11,7 @@ use Rattle.wk_http.specs.Feed.{IsKnown}
 use Rattle.wk_http.specs.Front.{IsAccepted}
 use Rattle.wk_http.proofs.AcceptedLemmas.{IsAccepted-append}
 use Rattle.wk_http.proofs.HeadLemmas.{accepted_body}
-use Rattle.wk_http.proofs.MessageLemmas.{HasHead-append, HasHead_unique, IsBad-append}
+use Rattle.wk_http.proofs.MessageLemmas.{HasHead_unique, IsBad-append}
 use Rattle.wk_http.proofs.TargetLemmas.{can_begin_head}
 
 pub IsKnown-append : (bytes more : List ℕ) (known : Known) → IsKnown bytes known → IsKnown (bytes ++ more) known

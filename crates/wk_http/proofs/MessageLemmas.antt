@@ -1,11 +1,11 @@
 -- What stands at the front of a stream: it stays there whatever follows, and it is one thing only.
-use Rattle.std.proofs.Common.{◌≡◌, ◌≢◌, ℕ, zero, suc, Bool, ◌+◌, ◌<◌, ◌≤◌, true, false, List, [], ◌∷◌, ◌++◌, length, take, drop, Some, None, refl, ap, sym, ◌∙◌, subst, arith, append_assoc, append-nil, length-take, length-drop, inl, inr}
+use Rattle.std.proofs.Common.{◌≡◌, ℕ, zero, suc, Bool, ◌+◌, ◌<◌, ◌≤◌, true, false, List, [], ◌∷◌, ◌++◌, length, Some, None, refl, ap, sym, ◌∙◌, subst, arith, append_assoc, length-take, length-drop}
 use Rattle.std.proofs.lemmas.List.{length-append}
 use Rattle.std.specs.List.{position_or_len}
 use Rattle.httparse.specs.Grammar.{RequestHead, print_request, ReadsRequest}
 use Rattle.httparse.proofs.GrammarLemmas.{ReadsRequest-append, request_unique}
 use Rattle.wk_wire_rules.specs.Heads.{Message, message_of, is_question_mark, most_body, body_length, refusal}
-use Rattle.wk_wire_rules.specs.Messages.{most_head, HasHead, CanBegin, IsMessage, IsBad, no_head, too_long, refused, IsOpen, Ending, between, within, closed, bad, Messages, ends_between, ends_within, ends_bad, ends_closed, goes_on}
+use Rattle.wk_wire_rules.specs.Messages.{most_head, HasHead, IsMessage, IsBad, no_head, too_long, refused, IsOpen, Ending, between, within, closed, bad, Messages, ends_between, ends_within, ends_bad, ends_closed, goes_on}
 use Rattle.wk_http.proofs.HeadLemmas.{head_is_long, target_is_short, accepted_body}
 use Rattle.wk_http.proofs.ListLemmas.{split_append, split_equal}
 use Rattle.wk_http.proofs.TargetLemmas.{can_begin_front, can_begin_head, can_begin_nothing}

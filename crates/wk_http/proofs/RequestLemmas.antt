@@ -1,12 +1,11 @@
 -- A request from the bytes of its head and its body.
-use Rattle.std.proofs.Common.{◌≡◌, ℕ, ◌+◌, ◌-◌, ◌<◌, ◌≤◌, List, [], ◌∷◌, ◌++◌, length, take, drop, refl, ap, sym, ◌∙◌, subst, arith, append_assoc, take-append-drop, length-take, length-drop, slice_range}
-use Rattle.std.proofs.lemmas.List.{length-append, take_all, drop_all, drop-drop, drop-append-le, take-append-le}
+use Rattle.std.proofs.Common.{◌≡◌, ℕ, ◌+◌, ◌-◌, ◌≤◌, List, [], ◌++◌, length, take, drop, ap, sym, ◌∙◌, subst, arith, take-append-drop, length-take, length-drop, slice_range}
+use Rattle.std.proofs.lemmas.List.{length-append, take_all, drop_all, drop-drop}
 use Rattle.std.proofs.Math.Seq.{drop-append_seam}
 use Rattle.std.specs.List.{before_first, after_first, position_or_len}
-use Rattle.httparse.specs.declared.spans.Span.{Span}
 use Rattle.httparse.specs.Grammar.{print_request}
-use Rattle.httparse.specs.Spans.{IsWithin, span_bytes}
-use Rattle.wk_wire_rules.specs.Heads.{Message, message_of, is_question_mark, body_length}
+use Rattle.httparse.specs.Spans.{span_bytes}
+use Rattle.wk_wire_rules.specs.Heads.{Message, is_question_mark}
 use Rattle.wk_wire_rules.specs.Messages.{HasHead, IsMessage}
 use Rattle.wk_http.specs.declared.front.Accepted.{Accepted}
 use Rattle.wk_http.specs.Front.{IsAccepted}

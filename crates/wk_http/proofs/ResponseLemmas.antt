@@ -1,5 +1,5 @@
 -- The bytes of a response in one row.
-use Rattle.std.proofs.Common.{◌≡◌, ℕ, Bool, List, [], ◌∷◌, ◌++◌, length, codes, append_assoc, append-nil, refl, ap, sym, ◌∙◌}
+use Rattle.std.proofs.Common.{◌≡◌, ℕ, Bool, List, ◌++◌, length, codes, append_assoc, ap, ◌∙◌}
 use Rattle.std.specs.Prelude.{◌==◌}
 use Rattle.std.specs.Fmt.{decimal}
 use Rattle.wk_wire_rules.specs.Responses.{reason, line_where, body_sent, response}

@@ -1,5 +1,5 @@
 -- Bytes that end within the target, and bytes with which a head can begin.
-use Rattle.std.proofs.Common.{◌≡◌, ◌≢◌, ℕ, ◌+◌, ◌<◌, ◌≤◌, true, false, List, [], ◌∷◌, ◌++◌, length, codes, refl, ap, sym, ◌∙◌, subst, arith, append_assoc, append-nil, inl, inr}
+use Rattle.std.proofs.Common.{◌≡◌, ◌≢◌, ℕ, ◌<◌, ◌≤◌, true, false, List, [], ◌∷◌, ◌++◌, length, codes, refl, ap, sym, ◌∙◌, subst, arith, append_assoc, append-nil, inl, inr}
 use Rattle.std.proofs.lemmas.List.{length-append}
 use Rattle.std.proofs.lemmas.List.Elements.{All-nil, All-cons, All-head, All-tail}
 use Rattle.std.proofs.lemmas.Bool.{cases_lt, and_parts, and_from, ltb-true, lt-ltb}
@@ -10,7 +10,7 @@ use Rattle.std.proofs.lemmas.Str.Ascii.{IsAscii-cons, IsAscii-nil}
 use Rattle.std.specs.Prelude.{All, ◌⊎◌, nat_lt}
 use Rattle.std.specs.List.{list_all}
 use Rattle.httparse.specs.Ascii.{space}
-use Rattle.httparse.specs.Grammar.{is_token_byte, is_uri_byte, AllPass, LineEnd, lf, print_end, print_blank, print_section, IsToken, is_token, RequestHead, print_request, ReadsRequest, HasNoRequest, NeverHasRequest, EndsInTarget, MayBecomeRequest, print_version}
+use Rattle.httparse.specs.Grammar.{is_token_byte, is_uri_byte, LineEnd, lf, print_end, print_blank, print_section, IsToken, is_token, RequestHead, ReadsRequest, HasNoRequest, NeverHasRequest, EndsInTarget, MayBecomeRequest, print_version}
 use Rattle.httparse.proofs.GrammarLemmas.{print_request-append, ReadsRequest-append}
 use Rattle.httparse.proofs.PieceLemmas.{Blank_deterministic, Method_deterministic, Stops_token, newline_not_stopped, print_end_unique, space_ends_token}
 use Rattle.httparse.specs.Pieces.{Stops, is_newline}

@@ -1,4 +1,4 @@
-use Rattle.std.proofs.Common.{refl, subst, arith}
+use Rattle.std.proofs.Common.{refl, subst}
 use Rattle.wk_http.specs.Feed.{IsKnown}
 use Rattle.wk_http.proofs.KnownLemmas.{open_now}
 use Rattle.wk_http.proofs.feed.known_answer.Goals as goal

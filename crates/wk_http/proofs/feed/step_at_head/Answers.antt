@@ -1,5 +1,5 @@
 use Rattle.std.proofs.Common.{refl, arith, ◌+◌}
-use Rattle.wk_http.proofs.KnownLemmas.{accepted_bounds, known_nothing, open_below, open_now}
+use Rattle.wk_http.proofs.KnownLemmas.{open_below, open_now}
 use Rattle.wk_http.proofs.feed.step_at_head.Goals as goal
 
 pub returns-then-left-count : goal.returns-then-left-count

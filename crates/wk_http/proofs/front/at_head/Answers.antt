@@ -2,7 +2,7 @@ use Rattle.std.proofs.Common.{◌≡◌, Some, ap, sym, subst, ◌∙◌, take}
 use Rattle.httparse.specs.Spans.{span_bytes}
 use Rattle.wk_wire_rules.specs.Heads.{method_of, refusal_of}
 use Rattle.wk_http.specs.Fields.{fields_in, IsJudged}
-use Rattle.wk_http.proofs.AcceptedLemmas.{refused_at, accepted_at}
+use Rattle.wk_http.proofs.AcceptedLemmas.{refused_at}
 use Rattle.wk_http.proofs.front.at_head.Goals as goal
 
 pub returns-in-Refused : goal.returns-in-Refused

@@ -5,9 +5,9 @@ use Rattle.httparse.specs.declared.Status.{Status}
 use Rattle.httparse.specs.declared.spans.RequestSpans.{RequestSpans}
 use Rattle.httparse.specs.Outcome.{OnPartial}
 use Rattle.wk_http.specs.Front.{IsFront}
-use Rattle.httparse.specs.Grammar.{HasNoRequest, MayBecomeRequest, NeverHasRequest}
+use Rattle.httparse.specs.Grammar.{HasNoRequest, MayBecomeRequest}
 use Rattle.wk_wire_rules.specs.Messages.{most_head, EndsWithinTarget}
-use Rattle.wk_http.proofs.FrontLemmas.{window, bad_in_window, can_begin_in_window, can_begin_within_window}
+use Rattle.wk_http.proofs.FrontLemmas.{can_begin_in_window, can_begin_within_window}
 use Rattle.wk_http.proofs.TargetLemmas.{target_has_no_head}
 use Rattle.wk_http.proofs.front.front_of.Goals as goal
 

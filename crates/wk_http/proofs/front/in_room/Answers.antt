@@ -1,4 +1,4 @@
-use Rattle.std.proofs.Common.{◌≡◌, ◌≢◌, List, ℕ, ◌/◌, ap, subst, Ok, Err, take, drop, length, ◌∙◌}
+use Rattle.std.proofs.Common.{◌≡◌, ◌≢◌, List, ℕ, ◌/◌, ap, subst, Ok, Err, drop, length, ◌∙◌}
 use Rattle.httparse.specs.declared.Error.{Error}
 use Rattle.httparse.specs.declared.Error.TheVariants.{TooManyHeaders}
 use Rattle.httparse.specs.declared.Status.{Status}
@@ -8,7 +8,7 @@ use Rattle.httparse.specs.Outcome.{OnPartial, IfComplete}
 use Rattle.httparse.specs.Spans.{IsRequestOf, RequestExceeds, RequestOverflows}
 use Rattle.wk_wire_rules.specs.Heads.{most_headers}
 use Rattle.wk_wire_rules.specs.Messages.{EndsWithinTarget}
-use Rattle.wk_http.proofs.FrontLemmas.{window, many_in_window, bad_with_room, can_begin_in_window}
+use Rattle.wk_http.proofs.FrontLemmas.{many_in_window, bad_with_room, can_begin_in_window}
 use Rattle.wk_http.proofs.front.in_room.Goals as goal
 
 pub without_head-requires-clause-open : goal.without_head-requires-clause-open
