@@ -1,0 +1,10 @@
+mod AcceptedLemmas
+mod FieldLemmas
+mod FrontLemmas
+mod HeadLemmas
+mod KnownLemmas
+mod ListLemmas
+mod MessageLemmas
+mod RequestLemmas
+mod ResponseLemmas
+mod TargetLemmas

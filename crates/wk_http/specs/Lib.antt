@@ -1,0 +1,9 @@
+pub mod Feed
+pub mod Fields
+pub mod Front
+pub mod Head
+pub mod Requests
+pub mod Target
+pub use Rattle.wk_wire_rules.specs.Heads
+pub use Rattle.wk_wire_rules.specs.Messages
+pub use Rattle.wk_wire_rules.specs.Responses

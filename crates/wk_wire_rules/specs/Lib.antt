@@ -1,0 +1,4 @@
+pub mod Computing
+pub mod Heads
+pub mod Messages
+pub mod Responses
