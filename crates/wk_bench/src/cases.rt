@@ -2,6 +2,7 @@
 ghost use Rattle.std.specs.Prelude.{◌<◌, ◌≤◌, IfSome};
 
 use crate::texts::{Sort, sort_named};
+use crate::wire::{Stream, stream_named};
 
 /// What is done.
 #[derive(Clone, Copy)]
@@ -17,9 +18,20 @@ pub enum Case {
     /// The links in a text, as an output, are found.
     Links(Reading),
     /// Two numerals of so many bytes are compared so many times.
-    Same { size: usize, rounds: u64 },
+    Same {
+        size: usize,
+        rounds: u64,
+    },
+    /// A stream of a size is pushed in pieces of so many bytes.
+    Http {
+        stream: Stream,
+        size: usize,
+        piece: usize,
+    },
     /// A short output is appended to another so many times.
-    Append { times: u64 },
+    Append {
+        times: u64,
+    },
 }
 
 /// N turns in all, on T threads.
@@ -39,8 +51,9 @@ pub struct Reading {
 }
 
 pub const USAGE: &str = "wk_bench turns N T, with N from 0 to 10000000 and T from 1 to 64; or \
-wk_bench select|atoms|tree|links SORT SIZE ROUNDS, wk_bench same SIZE ROUNDS, or wk_bench append TIMES, \
-with SIZE from 0 to 16777216, and ROUNDS and TIMES from 1 to 1000000";
+wk_bench select|atoms|tree|links SORT SIZE ROUNDS, wk_bench same SIZE ROUNDS, wk_bench append TIMES, or \
+wk_bench http messages|head|body SIZE PIECE, with SIZE and PIECE up to 16777216, \
+and ROUNDS and TIMES from 1 to 1000000";
 
 /// The number, where the word is one between these.
 fn number(word: &str, least: u64, most: u64) -> Option<u64>
@@ -96,6 +109,21 @@ fn append_asked(words: &[String]) -> Option<Case> {
     Some(Case::Append { times })
 }
 
+/// The stream that the words behind a case's name ask for.
+fn http_asked(words: &[String]) -> Option<Case> {
+    if words.len() != 3 {
+        return None;
+    }
+    let stream = stream_named(&words[0])?;
+    let size = number(&words[1], 0, 16_777_216)? as usize;
+    let piece = number(&words[2], 1, 16_777_216)? as usize;
+    Some(Case::Http {
+        stream,
+        size,
+        piece,
+    })
+}
+
 /// The case that the words name. None where they name none.
 pub fn chosen(words: &[String]) -> Option<Case> {
     let (name, others) = words.split_first()?;
@@ -107,6 +135,7 @@ pub fn chosen(words: &[String]) -> Option<Case> {
         "links" => Some(Case::Links(reading_asked(others)?)),
         "same" => same_asked(others),
         "append" => append_asked(others),
+        "http" => http_asked(others),
         _ => None,
     }
 }

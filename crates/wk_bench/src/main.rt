@@ -8,6 +8,7 @@ mod reading;
 mod texts;
 mod turns;
 mod values;
+mod wire;
 
 use cases::{Case, Reading, Turns, USAGE, chosen};
 use std::alloc::Global;
@@ -17,10 +18,11 @@ use std::sync::Wait;
 use std::thread::Threads;
 use std::{env, io};
 use texts::Sort;
+use wire::Stream;
 use wk_memory::Memory;
 
 /// What is run without words.
-const SMALL: [Case; 7] = [
+const SMALL: [Case; 8] = [
     Case::Turns(Turns {
         turns: 400,
         threads: 4,
@@ -50,6 +52,11 @@ const SMALL: [Case; 7] = [
         rounds: 1,
     },
     Case::Append { times: 100 },
+    Case::Http {
+        stream: Stream::Messages,
+        size: 10,
+        piece: 100,
+    },
 ];
 
 /// The words after the program's name.
@@ -91,6 +98,11 @@ fn worked<R: Threads + Wait + Sync>(
             reading::linked(alloc, sort, size, rounds)?,
         )),
         Case::Same { size, rounds } => Ok(("same: equal", values::compared(alloc, size, rounds)?)),
+        Case::Http {
+            stream,
+            size,
+            piece,
+        } => Ok(("http: messages", wire::fed(alloc, stream, size, piece)?)),
         Case::Append { times } => Ok(("append: bytes", values::appended(alloc, times)?)),
     }
 }

@@ -7,6 +7,7 @@ use crate::numerals::same_value;
 use crate::refusal::{Refusal, said};
 use crate::titles::{kept_value, norm};
 use crate::trees::tree_value;
+use crate::wire::{http_value, params_value};
 use serde_json::{Value, json};
 use std::alloc::Global;
 use wk_bytes::Line;
@@ -26,6 +27,8 @@ fn answer(alloc: Global, bytes: &[u8]) -> Result<Value, Refusal> {
         Some("tree") => tree_value(alloc, &request),
         Some("same") => same_value(&request),
         Some("links") => links_value(alloc, &request),
+        Some("http") => http_value(alloc, &request),
+        Some("params") => params_value(alloc, &request),
         Some(_) => Err(Refusal::UnknownOp),
         None => Err(Refusal::NoOp),
     }

@@ -18,6 +18,12 @@
 //! - `{"op":"links","runs":[[T,S],..]}` asks for the links in an output, which is given by its runs: a text, and
 //!   whether it is sealed. The answer is a list of `[start,end,"page",shown]`, `[start,end,"member",shown,prefix]` or
 //!   `[start,end,"nothing"]`, where the end is the place behind the link.
+//! - `{"op":"http","pieces":[T,..]}` asks for the messages of a connection whose bytes come in these pieces: each
+//!   character, which is one of the first 256, is one byte. The answer is `{"end":E,"messages":[..]}`, where E is `peer`
+//!   between messages, `cut` within one, `closed` after a message that is the last, or `{"bad":STATUS}`. A message has
+//!   `body`, `last`, `method` (`get`, `post` or `other`), `multipart`, `path` and `query`.
+//! - `{"op":"params","query":Q,"body":B,"name":N}` asks for the first value of the parameter N in the query and the
+//!   body, which are given as bytes in the same way. The answer is the value or `null`.
 //!
 //! Other members are ignored, and of members with one name the last counts. A line that is none of these forms is
 //! answered with `{"error":"..."}`, which says what is wrong, and the next line goes on. The program takes no words.
@@ -35,6 +41,7 @@ mod refusal;
 mod run;
 mod titles;
 mod trees;
+mod wire;
 
 use run::{Stop, serve_all};
 use std::io;

@@ -34,6 +34,12 @@ pub enum Refusal {
     TooDeep,
     /// No list of texts, each with whether it is sealed, is the member `runs`.
     NoRuns,
+    /// A character is none of the first 256, so it stands for no byte.
+    NoBytes,
+    /// No list of texts is the member `pieces`.
+    NoPieces,
+    /// No string is the member `name`.
+    NoName,
     /// The members `a` and `b` aren't both strings.
     NoOperand,
 }
@@ -67,6 +73,9 @@ pub fn said(refusal: Refusal) -> &'static str {
         Refusal::TextTooLong => "text has 4294967296 bytes or more",
         Refusal::TooDeep => "the tree is too deep to be shown",
         Refusal::NoRuns => "runs is not a list of lists of a string and a boolean",
+        Refusal::NoBytes => "a character stands for no byte",
+        Refusal::NoPieces => "pieces is not a list of strings",
+        Refusal::NoName => "name is missing or not a string",
         Refusal::NoOperand => "a or b is missing or not a string",
     }
 }
