@@ -10,7 +10,7 @@ use Rattle.wk_probe.proofs.trees.+shown.Goals as goal
 pub list_value-loop-item-init : goal.list_value-loop-item-init
 list_value-loop-item-init t c =
     let same : iter_rest c.items-item-items.result ≡ iter_rest c.into_iter-item-iterator.result = cc in
-    let known = items-known c.args.parsed.now c.args.list (iter_rest c.items-item-items.result) c.requires c.items-item-items.ensures in
+    let known = items-known c.args.parsed.now c.args.list (iter_rest c.items-item-items.result) c.requires c.items-item-items.ensures.items in
     (tt, tt, subst (λ xs. All (IsKnown c.args.parsed.now) xs) same known)
 
 -- src/trees.rt:103:5
