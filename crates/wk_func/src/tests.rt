@@ -82,7 +82,7 @@ fn finds_no_sealed_names(rt: HostRuntime) -> Result<(), Fail> {
 fn compares_numbers_and_bytes(rt: HostRuntime) -> Result<(), Fail> {
     let alloc = rt.alloc();
     for (a, b, same) in [
-        ("+01.0", "1e0", true),
+        ("+05.0", "5e0", true),
         ("1.", "1", false),
         ("-0", "0", true),
         ("a", "a", true),

@@ -220,7 +220,7 @@ module _ (h : History) (title : PageTitle) (text : Option (List ℕ)) (moment : 
         there = find_at (λ (r : PageColumns). eqb r.page_id (1 + place)) (bare_tables h).pages ∙ (ap (slice_get (bare_tables h).pages) by_id ∙ row);
         title = refl;
       } in
-      let pages = with_page-standing (bare_tables h).pages new place at ∙ (set-row 1 h.pages found.0 stand found.1 ∙ ap (λ (ps : List Page). map (page_row after) (enumerate_from 1 ps)) (sym (pages-saved h title text moment))) in
+      let pages = with_page-standing (bare_tables h).pages new place at ∙ (set-row (1) h.pages found.0 stand found.1 ∙ ap (λ (ps : List Page). map (page_row after) (enumerate_from 1 ps)) (sym (pages-saved h title text moment))) in
       moved new pages (KeepsRules-standing (bare_tables h) new_row old new (fit (1 + place) found.0.title number (was ∙ (has.latest ∙ sym now))) standing keeps)
 
   -- ---- the title has none
