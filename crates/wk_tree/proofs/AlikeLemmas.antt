@@ -7,7 +7,7 @@ use Rattle.wk_tree.proofs.LayoutLemmas.{plain-laid}
 use Rattle.wk_tree.proofs.MatchingLemmas.{height-append, height-plain, row-tokens, items-entries, items-append}
 use Rattle.wk_tree.proofs.MeetingLemmas.{node-height, plain-tokens}
 use Rattle.wk_tree.specs.Layout.{FrameShown, LayoutShown, put, with_item, with_token, laid}
-use Rattle.wk_tree.specs.Tokens.{text_tokens, opening_tokens, item_tokens, row_tokens, entry_tokens, entries_tokens, items_tokens}
+use Rattle.wk_tree.specs.Tokens.{text_tokens, opening_tokens, item_tokens, entry_tokens, entries_tokens, items_tokens}
 use Rattle.wk_tree.specs.declared.item.Item.{Item as Shown}
 use Rattle.wk_tree.specs.declared.item.Item.TheVariants as code
 use Rattle.wk_tree.specs.declared.token.Token.{Token}

@@ -1,8 +1,7 @@
 -- The next atom behind all that was seen.
 use Rattle.std.proofs.Common.{◌≡◌, ℕ, zero, suc, ◌+◌, ◌-◌, ◌<◌, ◌≤◌, ◌==◌, ◌≢◌, ◌⊎◌, inl, inr, Bool, true, false, if◌then◌else◌, List, [], ◌∷◌, ◌++◌, length, map, replicate, take, drop, refl, ap, ap₂, sym, subst, ◌∙◌, arith, append-nil, length-append, length-drop}
 use Rattle.std.proofs.lemmas.Bool.Decides.{nat_tests}
-use Rattle.std.proofs.lemmas.List.{length-take, drop_more, take_more, take_all, map-append}
-use Rattle.std.specs.List.{All}
+use Rattle.std.proofs.lemmas.List.{length-take, drop_more, map-append}
 use Rattle.std.specs.Prelude.{slice_index_or}
 use Rattle.wk_lex.specs.Ahead.{byte_atoms, IsOneText, IsNextAtom}
 use Rattle.wk_tree.specs.Layout.{laid}
@@ -19,7 +18,7 @@ use Rattle.wk_tree.specs.declared.matching.Run.{Run as OpenRun}
 use Rattle.wk_tree.specs.declared.token.Token.{Token}
 use Rattle.wk_tree.specs.declared.token.Token.TheVariants as token
 use Rattle.wk_tree_laws.specs.OnePass.{PassState, added, opened, closed, passed, nothing_seen, pieces_seen}
-use Rattle.wk_tree_rules.specs.Reduction.{Run, Piece, entry, opening, closing, marks_of, run_of_atom, piece_by, piece_of}
+use Rattle.wk_tree_rules.specs.Reduction.{Run, entry, opening, closing, marks_of, run_of_atom, piece_by, piece_of}
 use Rattle.wk_tree_rules.specs.Tree.{item_of}
 use Rattle.wk_tree_rules.specs.Trees.{plain, sealed, nothing, Entry, item, bar, equals, height}
 use Rattle.wk_tree_rules.specs.declared.AtomKind.{AtomKind}
