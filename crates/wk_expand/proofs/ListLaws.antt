@@ -1,0 +1,250 @@
+-- The items of a list, as the code finds them, and what they give one behind the other.
+use Rattle.std.proofs.Common.{◌≡◌, ℕ, zero, suc, ◌+◌, ◌<◌, ◌≤◌, false, true, List, [], ◌∷◌, ◌++◌, length, drop, get_or, Option, Some, None, IsSome, Result, Ok, Err, refl, sym, ap, subst, arith, ◌∙◌, append_assoc, append-nil}
+use Rattle.std.specs.List.{slice_get, AllByRecursion}
+use Rattle.std.specs.Option.{IfSome, option_and_then}
+use Rattle.std.specs.Str.{IsUtf8}
+use Rattle.std.proofs.lemmas.List.{drop_all}
+use Rattle.std.proofs.lemmas.Option.{slice_get-get_or, slice_get_within}
+use Rattle.wk_text_rules.specs.Marked.{all_plain, all_sealed}
+use Rattle.wk_text_rules.specs.Titles.{PageTitle}
+use Rattle.wk_out.specs.Runs.{marked}
+use Rattle.wk_tree.specs.Parsed.{ParsedText, IsTextIn, list_with, node_with, nodes_of, source_of}
+use Rattle.wk_tree.specs.Shown.{ShowsItem, shows_plain, shows_sealed, shows_nothing, shows_node, ShowsItems, no_items, one_more}
+use Rattle.wk_tree.specs.declared.item.Item.{Item}
+use Rattle.wk_tree.specs.declared.item.Item.TheVariants.{Plain, Sealed, Nothing, Node}
+use Rattle.wk_tree.specs.declared.item.ListId.{ListId}
+use Rattle.wk_tree.specs.declared.item.NodeId.{NodeId}
+use Rattle.wk_tree_rules.specs.Tree.{Node as TreeNode}
+use Rattle.wk_tree_rules.specs.Trees.{Item as TreeItem, plain, sealed, nothing, node, source_of as item_source}
+use Rattle.wk_view_rules.specs.Expand.{expand, item_output, items_output}
+use Rattle.wk_view_rules.specs.Expansions.{Expansion, Output, Progress, give, ◌>>=◌}
+use Rattle.wk_view_rules.specs.Frames.{Frame}
+use Rattle.wk_view_rules.specs.Plans.{Plan, gives, asks, and_then}
+use Rattle.wk_view_rules.specs.Worlds.{Seen}
+use Rattle.wk_expand.specs.Items.{item_with, text_at, IsItem, IsTextAt}
+use Rattle.wk_expand.specs.Nodes.{charged_node, rest_list}
+use Rattle.wk_expand.specs.Running.{goes, ComesTo, Ends, IsSame, Stops}
+use Rattle.wk_expand.specs.State.{IsFrame, current, progress_of}
+use Rattle.wk_expand.specs.declared.state.Expander.{Expander}
+use Rattle.wk_expand.specs.declared.state.Stop.{Stop}
+use Rattle.wk_expand.proofs.PartLaws.{current-same, some_of, some_part, at_some}
+use Rattle.wk_expand.proofs.NodeLaws.{some_within}
+use Rattle.wk_expand.proofs.RunLaws.{comes-as, comes-bind, comes-in, comes-on, comes-out, gives-here, frame-same, same-itself, same-on, stops-as, stops-bind, stops-on}
+use Rattle.wk_expand.proofs.WrittenLaws.{plans-regrouped, drop-some}
+
+-- ---- items as they are shown
+
+shown-length : {ns : List TreeNode} {cs : List Item} {items : List TreeItem} → ShowsItems ns cs items → length cs ≡ length items
+shown-length no_items = refl
+shown-length (one_more h rest) = ap suc (shown-length rest)
+
+shown-at : {ns : List TreeNode} {cs : List Item} {items : List TreeItem} (at : ℕ) (c : Item) (i : TreeItem) → ShowsItems ns cs items → slice_get cs at ≡ Some c → slice_get items at ≡ Some i → ShowsItem ns c i
+shown-at at c i no_items e f = absurd (cc)
+shown-at {ns = ns} zero c i (one_more {c = d} {i = j} h rest) e f =
+    let same : d ≡ c = cc in
+    let is : j ≡ i = cc in
+    subst (λ x. ShowsItem ns x i) same (subst (λ y. ShowsItem ns d y) is h)
+shown-at (suc at) c i (one_more h rest) e f = shown-at at c i rest e f
+
+all-at : {X : Type 0} (P : X → Type 0) (xs : List X) (at : ℕ) (x : X) → AllByRecursion P xs → slice_get xs at ≡ Some x → P x
+all-at P [] at x h e = absurd (cc)
+all-at P (y ∷ xs) zero x h e = let same : y ≡ x = cc in subst P same h.0
+all-at P (y ∷ xs) (suc at) x h e = all-at P xs at x h.1 e
+
+item-is : (parsed : ParsedText) {c : Item} {i : TreeItem} → ShowsItem (nodes_of parsed) c i → IsTextIn (source_of parsed) i → IsItem parsed c i
+unfolding item_source
+item-is parsed (shows_plain start source) h = (ap (plain start) (sym h.place.same), record { within = h.place.within; utf8 = subst IsUtf8 (sym h.place.same) h.utf8 })
+item-is parsed (shows_sealed start source) h = (ap (sealed start) (sym h.place.same), record { within = h.place.within; utf8 = subst IsUtf8 (sym h.place.same) h.utf8 })
+item-is parsed (shows_nothing start source) h = ap (nothing start) (sym h.place.same)
+item-is parsed (shows_node id kind start content is) h = (record { kind = kind; start = start; content = content }, is, refl)
+
+module _ (parsed : ParsedText) (at : ℕ) (cs : List Item) where
+  within-some : (o : Option (List TreeItem)) → IfSome o (ShowsItems (nodes_of parsed) cs) → IsSome (option_and_then (λ items. slice_get items at) o) → at < length cs
+  within-some None h there = absurd (let wrong : false ≡ true = there in cc)
+  within-some (Some items) h there =
+      let i = some_part (slice_get items at) there in
+      let within : at < length items = slice_get_within items at i.0 i.1 in
+      subst (λ n. at < n) (sym (shown-length h)) within
+
+  pub item-within : (list : ListId) → IfSome (list_with parsed list) (ShowsItems (nodes_of parsed) cs) → IsSome (item_with parsed list at) → at < length cs
+  item-within list h there = within-some (list_with parsed list) h there
+
+  item-in : (c : Item) (items : List TreeItem) → ShowsItems (nodes_of parsed) cs items → AllByRecursion (IsTextIn (source_of parsed)) items → slice_get cs at ≡ Some c → (o : Option TreeItem) → slice_get items at ≡ o → IfSome o (IsItem parsed c)
+  item-in c items h k e None f = tt
+  item-in c items h k e (Some i) f = item-is parsed (shown-at at c i h e f) (all-at (IsTextIn (source_of parsed)) items at i k f)
+
+  item-some : (c : Item) (o : Option (List TreeItem)) → IfSome o (ShowsItems (nodes_of parsed) cs) → IfSome o (AllByRecursion (IsTextIn (source_of parsed))) → slice_get cs at ≡ Some c → IfSome (option_and_then (λ items. slice_get items at) o) (IsItem parsed c)
+  item-some c None h k e = tt
+  item-some c (Some items) h k e = item-in c items h k e (slice_get items at) refl
+
+  pub item-found : (list : ListId) (d : Item) → IfSome (list_with parsed list) (ShowsItems (nodes_of parsed) cs) → IfSome (list_with parsed list) (AllByRecursion (IsTextIn (source_of parsed))) → at < length cs → IfSome (item_with parsed list at) (IsItem parsed (get_or cs at d))
+  item-found list d h k within = item-some (get_or cs at d) (list_with parsed list) h k (slice_get-get_or cs at d within)
+
+count-some : (ns : List TreeNode) (cs : List Item) (n : ℕ) (o : Option (List TreeItem)) → n ≡ length cs → IfSome o (ShowsItems ns cs) → IfSome o (λ items. n ≡ length items)
+count-some ns cs n None e h = tt
+count-some ns cs n (Some items) e h = e ∙ shown-length h
+
+pub count-shown : (parsed : ParsedText) (list : ListId) (cs : List Item) (n : ℕ) → n ≡ length cs → IfSome (list_with parsed list) (ShowsItems (nodes_of parsed) cs) → IfSome (list_with parsed list) (λ items. n ≡ length items)
+count-shown parsed list cs n e h = count-some (nodes_of parsed) cs n (list_with parsed list) e h
+
+-- ---- an item of a list, while the list is expanded
+
+pub item-at : (s t : Expander) (list : ListId) (at count : ℕ) (items : List TreeItem) → IsSame s t → IfSome (list_with (current s) list) (λ found. count ≡ length found) → at < count → list_with (current s) list ≡ Some items → (i : TreeItem) × (slice_get items at ≡ Some i) × (item_with (current t) list at ≡ Some i)
+item-at s t list at count items same long within e =
+    let is : count ≡ length items = at_some (λ found. count ≡ length found) (list_with (current s) list) items e long in
+    let i = some_within items at (subst (λ n. at < n) is within) in
+    (i.0, i.1, ap (λ parsed. item_with parsed list at) (current-same s t same) ∙ ap (option_and_then (λ found. slice_get found at)) e ∙ i.1)
+
+pub item-there : (s t : Expander) (list : ListId) (at count : ℕ) → IsSame s t → IfSome (list_with (current s) list) (λ found. count ≡ length found) → at < count → IsSome (list_with (current s) list) → IsSome (item_with (current t) list at)
+item-there s t list at count same long within there =
+    let items = some_part (list_with (current s) list) there in
+    let i = item-at s t list at count items.0 same long within items.1 in
+    some_of (item_with (current t) list at) i.0 i.2
+
+-- the item that there is, where the code's item is known
+pub item-known : (parsed : ParsedText) (list : ListId) (at : ℕ) (c d : Item) (i : TreeItem) → IfSome (item_with parsed list at) (IsItem parsed c) → c ≡ d → item_with parsed list at ≡ Some i → IsItem parsed d i
+item-known parsed list at c d i h is e = subst (λ x. IsItem parsed x i) is (at_some (IsItem parsed c) (item_with parsed list at) i e h)
+
+module _ (parsed : ParsedText) (list : ListId) (at : ℕ) (c : Item) (h : IfSome (item_with parsed list at) (IsItem parsed c)) (there : IsSome (item_with parsed list at)) where
+  pub plain-there : (start len : ℕ) → c ≡ Plain start len → IsTextAt parsed start len
+  plain-there start len is = let i = some_part (item_with parsed list at) there in (item-known parsed list at c (Plain start len) i.0 h is i.1).1
+
+  pub sealed-there : (start len : ℕ) → c ≡ Sealed start len → IsTextAt parsed start len
+  sealed-there start len is = let i = some_part (item_with parsed list at) there in (item-known parsed list at c (Sealed start len) i.0 h is i.1).1
+
+  pub node-known : (id : NodeId) → c ≡ Node id → IsSome (node_with parsed id)
+  node-known id is =
+      let i = some_part (item_with parsed list at) there in
+      let m = item-known parsed list at c (Node id) i.0 h is i.1 in
+      some_of (node_with parsed id) m.0 m.1
+
+-- ---- what the items give
+
+plans-ended : (p : Plan (Output × Progress)) → and_then p (λ end. gives (end.0, end.1)) ≡ p
+plans-ended (gives x) = refl
+plans-ended (asks title kind more) = ap (asks title kind) (λ i answer. plans-ended (more answer) i)
+
+expand-is : (left : ℕ) (viewed : PageTitle) (frame : Frame) (items : List TreeItem) → expand left viewed frame items ≡ items_output (charged_node left viewed frame) items
+unfolding expand
+expand-is zero viewed frame items = refl
+expand-is (suc left) viewed frame items = refl
+
+module _ (left : ℕ) (viewed : PageTitle) (frame : Frame) where
+  list-start : (items : List TreeItem) → expand left viewed frame items ≡ rest_list left viewed frame [] items
+  list-start items = expand-is left viewed frame items ∙ sym (λ i progress. plans-ended (items_output (charged_node left viewed frame) items progress) i)
+
+  list-end : (out : Output) → rest_list left viewed frame out [] ≡ give out
+  unfolding items_output
+  list-end out = ap give (append-nil out)
+
+  abbrev pub behind_item : Output → List TreeItem → Output → Expansion Output
+  behind_item out items first = rest_list left viewed frame (out ++ first) items
+
+  abbrev after_item : List TreeItem → Output × Progress → Plan (Output × Progress)
+  after_item items end = and_then (items_output (charged_node left viewed frame) items end.1) (λ last. gives (end.0 ++ last.0, last.1))
+
+  abbrev behind_out : Output → Output × Progress → Plan (Output × Progress)
+  behind_out out end = gives (out ++ end.0, end.1)
+
+  list-more : (out : Output) (i : TreeItem) (items : List TreeItem) → rest_list left viewed frame out (i ∷ items) ≡ (item_output (charged_node left viewed frame) i >>= behind_item out items)
+  unfolding items_output
+  list-more out i items = λ k progress.
+      (plans-regrouped (item_output (charged_node left viewed frame) i progress) (after_item items) (behind_out out)
+      ∙ ap (and_then (item_output (charged_node left viewed frame) i progress)) (λ j end.
+      (plans-regrouped (items_output (charged_node left viewed frame) items end.1) (λ last. gives (end.0 ++ last.0, last.1)) (behind_out out)
+      ∙ ap (and_then (items_output (charged_node left viewed frame) items end.1)) (λ n last. gives (sym (append_assoc out end.0 last.0) n, last.1))) j)) k
+
+-- what a call for a node comes to
+abbrev pub NodeEnds : Seen → ℕ → Expander → NodeId → Result Output Stop → Expander → Type 0
+NodeEnds seen left t id r u =
+    (m : TreeNode) → node_with (current t) id ≡ Some m → (viewed : PageTitle) (frame : Frame) → IsFrame t viewed frame → Ends seen (charged_node left viewed frame m.kind m.content) t r u
+
+-- How far a list is expanded: from the start at s to its items from a place on, behind an output, at t.
+pub record IsListed (seen : Seen) (left : ℕ) (list : ListId) (s t : Expander) (out : Output) (at : ℕ) : Type 0 where
+  pub same : IsSame s t
+  pub runs : (items : List TreeItem) → list_with (current s) list ≡ Some items → (viewed : PageTitle) (frame : Frame) → IsFrame s viewed frame → ComesTo seen (expand left viewed frame items) s (rest_list left viewed frame out (drop at items)) t
+
+pub listed-start : (seen : Seen) (left : ℕ) (list : ListId) (s : Expander) (out : Output) → out ≡ [] → IsListed seen left list s s out 0
+listed-start seen left list s out none = record {
+  same = same-itself s;
+  runs = λ items e viewed frame is.
+      comes-as seen (expand left viewed frame items) (rest_list left viewed frame out (drop 0 items)) s
+      (ap (λ f. f (progress_of s)) (list-start left viewed frame items ∙ ap (λ o. rest_list left viewed frame o items) (sym none)));
+}
+
+-- the same in other words
+pub listed-as : (seen : Seen) (left : ℕ) (list : ListId) (s t u : Expander) (out new : Output) (at : ℕ) → u ≡ t → new ≡ out → IsListed seen left list s t out at → IsListed seen left list s u new at
+listed-as seen left list s t u out new at same is h =
+    subst (λ v. IsListed seen left list s v new at) (sym same) (subst (λ o. IsListed seen left list s t o at) (sym is) h)
+
+module _ (seen : Seen) (left : ℕ) (list : ListId) (s t : Expander) (out : Output) (at count : ℕ) (h : IsListed seen left list s t out at) where
+  module _ (long : IfSome (list_with (current s) list) (λ found. count ≡ length found)) where
+    -- one item more
+    pub listed-more : at < count → (u : Expander) (first : Output) → IsSame t u → ((i : TreeItem) → item_with (current t) list at ≡ Some i → (viewed : PageTitle) (frame : Frame) → IsFrame t viewed frame → ComesTo seen (item_output (charged_node left viewed frame) i) t (give first) u) → IsListed seen left list s u (out ++ first) (at + 1)
+    listed-more within u first same one = record {
+      same = same-on s t u h.same same;
+      runs = λ items e viewed frame is.
+          let i = item-at s t list at count items h.same long within e in
+          comes-on seen (expand left viewed frame items) (item_output (charged_node left viewed frame) i.0 >>= behind_item left viewed frame out (drop (at + 1) items)) (rest_list left viewed frame (out ++ first) (drop (at + 1) items)) s t u
+          (comes-out seen (expand left viewed frame items) (rest_list left viewed frame out (drop at items)) (item_output (charged_node left viewed frame) i.0 >>= behind_item left viewed frame out (drop (at + 1) items)) s t
+          (ap (rest_list left viewed frame out) (drop-some items at i.0 i.1) ∙ list-more left viewed frame out i.0 (drop (at + 1) items))
+          (h.runs items e viewed frame is))
+          (comes-bind seen (item_output (charged_node left viewed frame) i.0) (behind_item left viewed frame out (drop (at + 1) items)) t first u
+          (one i.0 i.2 viewed frame (frame-same s t viewed frame h.same is)));
+    }
+
+    -- where the next item stops, all stops
+    pub listed-stops : at < count → (stop : Stop) → ((i : TreeItem) → item_with (current t) list at ≡ Some i → (viewed : PageTitle) (frame : Frame) → IsFrame t viewed frame → Stops (goes seen (item_output (charged_node left viewed frame) i) t) stop) → (items : List TreeItem) → list_with (current s) list ≡ Some items → (viewed : PageTitle) (frame : Frame) → IsFrame s viewed frame → Stops (goes seen (expand left viewed frame items) s) stop
+    listed-stops within stop one items e viewed frame is =
+        let i = item-at s t list at count items h.same long within e in
+        stops-on seen (expand left viewed frame items) (rest_list left viewed frame out (drop at items)) s t stop (h.runs items e viewed frame is)
+        (stops-as seen (rest_list left viewed frame out (drop at items)) (item_output (charged_node left viewed frame) i.0 >>= behind_item left viewed frame out (drop (at + 1) items)) t stop
+        (ap (rest_list left viewed frame out) (drop-some items at i.0 i.1) ∙ list-more left viewed frame out i.0 (drop (at + 1) items))
+        (stops-bind seen (item_output (charged_node left viewed frame) i.0) (behind_item left viewed frame out (drop (at + 1) items)) t stop
+        (one i.0 i.2 viewed frame (frame-same s t viewed frame h.same is))))
+
+    -- all items
+    pub listed-end : count ≤ at → (items : List TreeItem) → list_with (current s) list ≡ Some items → (viewed : PageTitle) (frame : Frame) → IsFrame s viewed frame → ComesTo seen (expand left viewed frame items) s (give out) t
+    listed-end all items e viewed frame is =
+        let is_long : count ≡ length items = at_some (λ found. count ≡ length found) (list_with (current s) list) items e long in
+        comes-out seen (expand left viewed frame items) (rest_list left viewed frame out (drop at items)) (give out) s t
+        (ap (rest_list left viewed frame out) (drop_all at items (subst (λ n. n ≤ at) is_long all)) ∙ list-end left viewed frame out)
+        (h.runs items e viewed frame is)
+
+    module _ (within : at < count) (c : Item) (found : IfSome (item_with (current t) list at) (IsItem (current t) c)) where
+      pub listed-plain : (start len : ℕ) → c ≡ Plain start len → (new : Output) → new ≡ out ++ marked false (text_at (current t) start len) → IsListed seen left list s t new (at + 1)
+      listed-plain start len is_plain new is_new =
+          let text = all_plain (text_at (current t) start len) in
+          subst (λ o. IsListed seen left list s t o (at + 1)) (sym is_new)
+          (listed-more within t text (same-itself t) (λ i e viewed frame is.
+          gives-here seen (item_output (charged_node left viewed frame) i) t text text (ap (item_output (charged_node left viewed frame)) (item-known (current t) list at c (Plain start len) i found is_plain e).0) refl))
+
+      pub listed-sealed : (start len : ℕ) → c ≡ Sealed start len → (new : Output) → new ≡ out ++ marked true (text_at (current t) start len) → IsListed seen left list s t new (at + 1)
+      listed-sealed start len is_sealed new is_new =
+          let text = all_sealed (text_at (current t) start len) in
+          subst (λ o. IsListed seen left list s t o (at + 1)) (sym is_new)
+          (listed-more within t text (same-itself t) (λ i e viewed frame is.
+          gives-here seen (item_output (charged_node left viewed frame) i) t text text (ap (item_output (charged_node left viewed frame)) (item-known (current t) list at c (Sealed start len) i found is_sealed e).0) refl))
+
+      pub listed-nothing : (start len : ℕ) → c ≡ Nothing start len → IsListed seen left list s t out (at + 1)
+      listed-nothing start len is_nothing =
+          subst (λ o. IsListed seen left list s t o (at + 1)) (append-nil out)
+          (listed-more within t [] (same-itself t) (λ i e viewed frame is.
+          gives-here seen (item_output (charged_node left viewed frame) i) t [] [] (ap (item_output (charged_node left viewed frame)) (item-known (current t) list at c (Nothing start len) i found is_nothing e)) refl))
+
+      module _ (id : NodeId) (is_node : c ≡ Node id) where
+        pub listed-node : (u : Expander) (one new : Output) → IsSame t u → NodeEnds seen left t id (Ok one) u → new ≡ out ++ one → IsListed seen left list s u new (at + 1)
+        listed-node u one new same ends is_new =
+            subst (λ o. IsListed seen left list s u o (at + 1)) (sym is_new)
+            (listed-more within u one same (λ i e viewed frame is.
+            let m = item-known (current t) list at c (Node id) i found is_node e in
+            comes-in seen (item_output (charged_node left viewed frame) i) (charged_node left viewed frame m.0.kind m.0.content) (give one) t u
+            (ap (item_output (charged_node left viewed frame)) m.2) (ends m.0 m.1 viewed frame is)))
+
+        pub node-stops : (u : Expander) (stop : Stop) → NodeEnds seen left t id (Err stop) u → (items : List TreeItem) → list_with (current s) list ≡ Some items → (viewed : PageTitle) (frame : Frame) → IsFrame s viewed frame → Stops (goes seen (expand left viewed frame items) s) stop
+        node-stops u stop ends items e viewed frame is =
+            listed-stops within stop (λ i e viewed frame is.
+            let m = item-known (current t) list at c (Node id) i found is_node e in
+            stops-as seen (item_output (charged_node left viewed frame) i) (charged_node left viewed frame m.0.kind m.0.content) t stop
+            (ap (item_output (charged_node left viewed frame)) m.2) (ends m.0 m.1 viewed frame is))
+            items e viewed frame is

@@ -1,0 +1,12 @@
+use Rattle.std.proofs.Common.{length, ◌≡◌, ◌+◌, ◌-◌, ◌≤◌, drop}
+use Rattle.std.specs.List.{prefix_len}
+use Rattle.wk_text_rules.specs.Blank.{is_blank_byte}
+use Rattle.wk_expand.proofs.redirect.trim_start.Given as goal
+
+abbrev pub invariant-loop-start : goal.invariant-loop-start
+invariant-loop-start l =
+    (l.start ≤ length l.text)
+    × (l.start + prefix_len is_blank_byte (drop l.start l.text) ≡ prefix_len is_blank_byte l.text)
+
+abbrev pub decreases-loop-start : goal.decreases-loop-start
+decreases-loop-start l = length l.text - l.start

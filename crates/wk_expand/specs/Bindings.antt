@@ -1,0 +1,11 @@
+-- What is bound for a part that has a name.
+use Rattle.std.specs.Prelude.{ℕ, List, Option, Some, None}
+use Rattle.std.specs.FinMap.{FinMap, insert}
+use Rattle.std.specs.Ordering.{nat_cmp}
+use Rattle.std.specs.Cmp.Lexicographic.{slice_cmp}
+use Rattle.wk_expand.specs.declared.levels.Bound.{Bound}
+
+-- what is bound after a name, or none, is bound to a value
+abbrev pub named_in : FinMap (slice_cmp nat_cmp) Bound → Option (List ℕ) → Bound → FinMap (slice_cmp nat_cmp) Bound
+named_in args None value = args
+named_in args (Some name) value = insert args name value

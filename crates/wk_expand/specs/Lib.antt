@@ -1,0 +1,16 @@
+pub mod Answers
+pub mod Bindings
+pub mod Codes
+pub mod Decisions
+pub mod Drafts
+pub mod Entries
+pub mod Inclusions
+pub mod Items
+pub mod Kept
+pub mod Levels
+pub mod Nodes
+pub mod Running
+pub mod Searches
+pub mod State
+pub mod Steps
+pub mod Targets

@@ -1,0 +1,50 @@
+//! What is bound for a part of a template (MediaWiki's Help:Templates).
+ghost use Rattle.std.specs.Prelude.{◌≡◌, OnOk, decimal};
+ghost use Rattle.std.specs.FinMap as map;
+ghost use Rattle.wk_text_rules.specs.Marked.{plain_text_of, trimmed_output};
+ghost use Rattle.wk_expand.specs.Bindings.{named_in};
+
+use crate::levels::Bound;
+use std::alloc::Global;
+use wk_args::Args;
+use wk_memory::Memory;
+use wk_out::Out;
+
+/// Binds a text to a value.
+fn bind(args: &mut Args<Bound>, name: &str, value: Bound) -> Result<(), Memory>
+    ensures { OnOk result (args.new ≡ map.insert args.old name.now value) }
+{
+    match args.bind(name, value) {
+        Ok(()) => Ok(()),
+        Err((_, memory)) => Err(memory),
+    }
+}
+
+/// Binds a number, as a decimal text, to a value.
+pub fn bind_number(
+    alloc: Global,
+    args: &mut Args<Bound>,
+    number: u64,
+    value: Bound,
+) -> Result<(), Memory>
+    ensures { OnOk result (args.new ≡ map.insert args.old (decimal number) value) }
+{
+    let name = number.to_string(alloc)?;
+    bind(args, &name, value)
+}
+
+/// Binds a name, trimmed, to a value; nothing is bound where the name holds a sealed byte.
+pub fn bind_name(
+    alloc: Global,
+    args: &mut Args<Bound>,
+    name: &Out,
+    value: Bound,
+) -> Result<(), Memory>
+    ensures { OnOk result (args.new ≡ named_in args.old (plain_text_of (trimmed_output name.now)) value) }
+{
+    let name = name.trimmed(alloc)?;
+    match name.plain_text() {
+        Some(text) => bind(args, text, value),
+        None => Ok(()),
+    }
+}

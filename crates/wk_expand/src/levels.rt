@@ -1,0 +1,137 @@
+//! The texts that are expanded within each other.
+ghost use Rattle.std.specs.Prelude.{◌≡◌, ◌<◌, [], ◌∷◌, length, drop, IsSome, IfSome, OnOk};
+ghost use Rattle.std.specs.List.{list_any};
+ghost use Rattle.wk_text_rules.specs.Titles.{title_eq};
+ghost use Rattle.wk_tree.specs.Parsed.{list_with};
+ghost use Rattle.wk_expand.specs.Levels.{tree_in, look_in, HasLists};
+ghost use Rattle.wk_expand.specs.declared.levels.Level.{Level as LevelValue};
+
+use std::alloc::Global;
+use std::marker::Model;
+use wk_args::Args;
+use wk_memory::Memory;
+use wk_title::Title;
+use wk_tree::{ListId, Parsed};
+
+/// What a name is bound to: a list of the tree of the caller's text.
+#[derive(Clone, Copy, Debug)]
+pub struct Bound {
+    /// The items of the value.
+    pub value: ListId,
+    /// How many bytes the source of the value has.
+    pub len: u32,
+    /// Whether the value was given by its name.
+    pub named: bool,
+}
+
+/// A page that is included.
+#[derive(Drop)]
+pub struct Level {
+    /// The title whose text it is.
+    pub title: Title,
+    /// The text.
+    pub tree: Parsed,
+    /// What is bound in it.
+    pub args: Args<Bound>,
+}
+
+/// The texts that are expanded within each other: that of the viewed page, or the given one, and those of the pages
+/// that include each other. Contracts see the latter with the innermost first. What is bound in a page is a list of
+/// the text behind it.
+#[derive(Drop)]
+pub struct Levels {
+    root: Parsed,
+    included: Vec<Level>,
+}
+
+impl Model for Levels {
+    ghost use Rattle.std.specs.Prelude.{reverse};
+    ghost use Rattle.std.specs.Coded.{codes};
+    ghost use Rattle.wk_expand.specs.Codes.{args_code};
+    ghost use Rattle.wk_expand.specs.Levels.{LevelsShown, AreBound};
+
+    ghost Value = { LevelsShown };
+
+    ghost coded = { Prim.hlevel (codes, args_code) };
+
+    ghost view = { λ s. record { root = s.root; included = reverse s.included.items } };
+
+    ghost invariant = { λ s. AreBound s.root (reverse s.included.items) };
+}
+
+/// Whether one of the pages is of this title.
+fn is_among(included: &[Level], title: &Title) -> bool
+    ensures { result ≡ list_any (λ (l : LevelValue). title_eq l.title title.now) included.now }
+{
+    included.iter().any(|level| level.title == *title)
+}
+
+impl Levels {
+    /// A text alone, with no page included. Takes no memory.
+    pub fn new(alloc: Global, root: Parsed) -> Levels
+        ensures { result ≡ record { root = root; included = [] } }
+    {
+        Levels {
+            root,
+            included: Vec::new(alloc),
+        }
+    }
+
+    /// The text whose items are expanded.
+    pub fn tree(&self) -> &Parsed
+        ensures { result.now ≡ tree_in self.now.root self.now.included }
+    {
+        match self.included.last() {
+            Some(level) => &level.tree,
+            None => &self.root,
+        }
+    }
+
+    /// Whether the title's text is being expanded.
+    #[tactic(auto, using(crate::proofs::LevelLaws::any_reversed))]
+    pub fn is_within(&self, title: &Title) -> bool
+        ensures { result ≡ list_any (λ (l : LevelValue). title_eq l.title title.now) self.now.included }
+    {
+        is_among(&self.included, title)
+    }
+
+    /// How many pages include each other.
+    pub fn depth(&self) -> usize
+        ensures { result ≡ length self.now.included }
+    {
+        self.included.as_slice().len()
+    }
+
+    /// What a name is bound to in the innermost page: a list of the text behind it.
+    pub fn look(&self, name: &str) -> Option<Bound>
+        ensures bound { result ≡ look_in self.now.included name.now }
+        ensures within { IfSome result (λ bound. 0 < length self.now.included) }
+        ensures list { IfSome result
+            (λ bound. IsSome (list_with (tree_in self.now.root (drop 1 self.now.included)) bound.value)) }
+    {
+        let level = self.included.last()?;
+        level.args.look(name).copied()
+    }
+
+    /// A page is included in the innermost text, in which the values of its arguments stand.
+    pub fn enter(&mut self, level: Level) -> Result<(), Memory>
+        requires { HasLists (tree_in self.old.root self.old.included) level.args }
+        ensures { OnOk result (self.new ≡ record self.old { included = level ∷ self.old.included }) }
+    {
+        self.included.push(level)?;
+        Ok(())
+    }
+
+    /// The innermost page, which is left.
+    pub fn leave(&mut self) -> Level
+        requires { 0 < length self.old.included }
+        ensures included { self.old.included ≡ result ∷ self.new.included }
+        ensures root { self.new.root ≡ self.old.root }
+        ensures lists { HasLists (tree_in self.new.root self.new.included) result.args }
+    {
+        let Some(level) = self.included.pop() else {
+            unreachable!()
+        };
+        level
+    }
+}

@@ -1,0 +1,40 @@
+//! The limits on the bytes of arguments and of included texts.
+ghost use Rattle.wk_view_rules.specs.Expansions.{argument_within_limit, inclusion_within_limit};
+ghost use Rattle.wk_view_rules.specs.Worlds.{Seen};
+ghost use Rattle.wk_expand.specs.Running.{Ends};
+
+use crate::state::{Expander, Stop};
+use crate::texts::{argument_error, link_text};
+use wk_out::Out;
+use wk_title::Title;
+
+/// The bytes of arguments, and of included texts, at most (own).
+const MOST_BYTES: u64 = 2_097_152;
+
+impl Expander {
+    /// An argument's text, or the error where arguments would have too many bytes in all.
+    pub fn within_argument_limit(&mut self, out: Out) -> Result<Out, Stop>
+        ensures { (seen : Seen) → Ends seen (argument_within_limit out) self.old result self.new }
+    {
+        match self.counts.argument.checked_add(out.len() as u64) {
+            Some(sum) if sum <= MOST_BYTES => {
+                self.counts.argument = sum;
+                Ok(out)
+            }
+            _ => Ok(argument_error(self.alloc)?),
+        }
+    }
+
+    /// The text of an inclusion, or a link to the page where inclusions would have too many bytes in all.
+    pub fn within_inclusion_limit(&mut self, title: &Title, out: Out) -> Result<Out, Stop>
+        ensures { (seen : Seen) → Ends seen (inclusion_within_limit title.now out) self.old result self.new }
+    {
+        match self.counts.include.checked_add(out.len() as u64) {
+            Some(sum) if sum <= MOST_BYTES => {
+                self.counts.include = sum;
+                Ok(out)
+            }
+            _ => Ok(link_text(self.alloc, title)?),
+        }
+    }
+}

@@ -1,0 +1,216 @@
+//! Where a text redirects to.
+ghost use Rattle.std.specs.Prelude.{◌≡◌, ◌==◌, ◌<◌, ◌≤◌, ℕ, Some, codes, drop, is_some, length, option_and_then, if◌then◌else◌, IfOk, None};
+ghost use Rattle.std.specs.List.{prefix_len};
+ghost use Rattle.std.specs.Option.{option_copied};
+ghost use Rattle.wk_text_rules.specs.Blank.{trimmed_start};
+ghost use Rattle.wk_text_rules.specs.Shapes.{exactly, in_any_case, perhaps, up_to, without_byte};
+ghost use Rattle.wk_tree_rules.specs.Redirects.{is_target_byte, redirect_start, redirect_target, target_end};
+ghost use Rattle.wk_expand.specs.Targets.{target_in};
+
+use std::alloc::Global;
+use wk_memory::Memory;
+use wk_title::{Title, TitleRefusal, normalize};
+
+/// The bytes without the blank bytes at the front.
+fn trim_start(text: &[u8]) -> &[u8]
+    ensures { result.now ≡ trimmed_start text.now }
+{
+    let mut start = 0;
+    while start < text.len() && matches!(text[start], b' ' | b'\t' | b'\n' | b'\r') {
+        start += 1;
+    }
+    &text[start..]
+}
+
+/// What stands behind the word, where the text begins with it.
+fn behind_word<'a>(text: &'a [u8], word: &[u8]) -> Option<&'a [u8]>
+    ensures { option_copied result ≡ exactly word.now text.now }
+{
+    if text.starts_with(word) {
+        Some(&text[word.len()..])
+    } else {
+        None
+    }
+}
+
+/// The same in whichever case the letters of the text are written.
+fn behind_name<'a>(text: &'a [u8], name: &[u8]) -> Option<&'a [u8]>
+    requires { 0 < length name.now }
+    ensures { option_copied result ≡ in_any_case name.now text.now }
+{
+    if text.len() < name.len() {
+        return None;
+    }
+    if text[..name.len()].eq_ignore_ascii_case(name) {
+        Some(&text[name.len()..])
+    } else {
+        None
+    }
+}
+
+/// What stands behind a colon, where the text begins with one, and else the text.
+fn behind_colon(text: &[u8]) -> &[u8]
+    ensures { Some result.now ≡ perhaps (exactly (codes ":")) text.now }
+{
+    match behind_word(text, b":") {
+        Some(rest) => rest,
+        None => text,
+    }
+}
+
+/// What stands behind the start of a redirect, up to the brackets of its target.
+fn behind_start(text: &[u8]) -> Option<&[u8]>
+    ensures { option_copied result ≡ redirect_start text.now }
+{
+    let rest = behind_name(trim_start(text), b"#redirect")?;
+    let rest = behind_colon(trim_start(rest));
+    behind_word(trim_start(rest), b"[[")
+}
+
+/// The number of bytes of the target at the front.
+fn target_len(inside: &[u8]) -> usize
+    ensures value { result ≡ prefix_len is_target_byte inside.now }
+    ensures within { result ≤ length inside.now }
+{
+    let mut len = 0;
+    while len < inside.len() && is_target_byte(inside[len]) {
+        len += 1;
+    }
+    len
+}
+
+/// A byte other than the brackets, braces, the bar, the angle brackets and the newline.
+fn is_target_byte(byte: u8) -> bool
+    ensures { result ≡ is_target_byte byte }
+{
+    !matches!(byte, b'\n' | b'[' | b']' | b'|' | b'{' | b'}' | b'<' | b'>')
+}
+
+/// Whether the nearest `]]` ends a label without newline. It reads no further than a newline.
+fn ends_label(text: &[u8]) -> bool
+    ensures { result ≡ is_some (without_byte 10 (up_to (exactly (codes "]]"))) text.now) }
+{
+    for at in 0..text.len() {
+        if text[at..].starts_with(b"]]") {
+            return true;
+        }
+        if text[at] == b'\n' {
+            return false;
+        }
+    }
+    false
+}
+
+/// Whether the text begins with the end of a target.
+fn ends_target(text: &[u8]) -> bool
+    ensures { result ≡ is_some (target_end text.now) }
+{
+    match text {
+        [b']', b']', ..] => true,
+        [b'|', label @ ..] => ends_label(label),
+        _ => false,
+    }
+}
+
+/// The target of the redirect that the text begins with.
+fn target_in(text: &str) -> Option<&str>
+    ensures { option_copied result ≡ target_in text.now }
+{
+    let inside = behind_start(text.as_bytes())?;
+    let len = target_len(inside);
+    if !ends_target(&inside[len..]) {
+        return None;
+    }
+    let start = text.len() - inside.len();
+    Some(&text[start..start + len])
+}
+
+/// The title that a text redirects to (MediaWiki's Help:Redirects).
+pub fn redirect_target(alloc: Global, text: &str) -> Result<Option<Title>, Memory>
+    ensures { IfOk result (λ found. found ≡ redirect_target text.now) }
+{
+    let Some(target) = target_in(text) else {
+        return Ok(None);
+    };
+    match normalize(alloc, target, 0) {
+        Ok(title) if title.is_virtual() => Ok(None),
+        Ok(title) => Ok(Some(title)),
+        Err(TitleRefusal::Illegal) => Ok(None),
+        Err(TitleRefusal::Memory) => Err(Memory),
+    }
+}
+
+#[cfg(test)]
+mod tests {
+    use super::*;
+    use std::alloc::AllocError;
+    use std::test::Fail;
+
+    /// A text, and the title that it redirects to, if it does.
+    const TEXTS: [(&str, &str); 42] = [
+        ("#REDIRECT [[B]]", "0:B"),
+        ("  #redirect:[[b|l]]", "0:B"),
+        ("#REDIRECT [[Template:T]] rest", "10:T"),
+        ("#redirect[[a]]", "0:A"),
+        ("#ReDiReCt\t\n\r [[a]]", "0:A"),
+        ("\n#redirect : [[a b]]", "0:A_b"),
+        ("#redirect [[ :Category:x ]]", "14:X"),
+        ("#redirect [[Category:x]]", "14:X"),
+        ("#redirect [[a#b]]", "0:A"),
+        ("#redirect [[\u{e9}]]", "0:\u{e9}"),
+        ("\n #redirect [[a|\u{fc}]]\u{fc}", "0:A"),
+        ("#redirect [[a|]]", "0:A"),
+        ("#redirect [[a|b]c]]", "0:A"),
+        ("#redirect [[a|b|c]]", "0:A"),
+        ("#redirect [[a|[[b]]", "0:A"),
+        ("#REDIRECT[[A||b]]", "0:A"),
+        ("#redirect [[a|b]]\n]]", "0:A"),
+        ("#redirect [[a]]\n[[b]]", "0:A"),
+        ("#redirect [[a]]]", "0:A"),
+        ("", ""),
+        ("#redirect", ""),
+        ("#redirec [[a]]", ""),
+        ("redirect [[a]]", ""),
+        ("x #redirect [[a]]", ""),
+        ("\u{a0}#redirect [[a]]", ""),
+        ("<!--c-->#redirect [[a]]", ""),
+        ("#redirect <!--c-->[[a]]", ""),
+        ("#redirect to [[a]]", ""),
+        ("#redirect :: [[A]]", ""),
+        ("#redirect : : [[A]]", ""),
+        ("#redirect [ [a]]", ""),
+        ("#redirect [[a", ""),
+        ("#redirect [[a]", ""),
+        ("#redirect [[a] ]", ""),
+        ("#redirect [[a|b\nc]]", ""),
+        ("#redirect [[a|b", ""),
+        ("#redirect [[a\nb]]", ""),
+        ("#redirect [[[a]]", ""),
+        ("#redirect [[]]", ""),
+        ("#redirect [[|a]]", ""),
+        ("#redirect [[Special:X]]", ""),
+        ("#redirect [[Media:X]]", ""),
+    ];
+
+    fn described(alloc: Global, text: &str) -> Result<String, AllocError> {
+        match redirect_target(alloc, text) {
+            Ok(Some(title)) => {
+                let ns = title.ns();
+                let key = title.key();
+                format!(in alloc; "{ns}:{key}")
+            }
+            Ok(None) => Ok(String::new(alloc)),
+            Err(Memory) => Err(AllocError),
+        }
+    }
+
+    #[test]
+    fn finds_targets(rt: HostRuntime) -> Result<(), Fail> {
+        let alloc = rt.alloc();
+        for (text, title) in TEXTS {
+            let described = described(alloc, text)?;
+            assert_eq!(rt; described.as_str(), title, "in {text:?}");
+        }
+        Ok(())
+    }
+}

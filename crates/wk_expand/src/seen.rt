@@ -1,0 +1,121 @@
+//! The answers that were seen so far.
+ghost use Rattle.std.specs.Prelude.{◌≡◌, [], ◌∷◌, ◌++◌, map, option_map, None, IfOk, IfSome, IsTrue, OnOk, OnErr};
+ghost use Rattle.std.specs.Option.{option_copied};
+ghost use Rattle.wk_view_rules.specs.Plans.{noted};
+ghost use Rattle.wk_view_rules.specs.Worlds.{ask, fits_kind, of_seen};
+ghost use Rattle.wk_expand.specs.Answers.{answer_of, read_with};
+ghost use Rattle.wk_expand.specs.Drafts.{marked};
+ghost use Rattle.wk_expand.specs.Entries.{entry_reads};
+
+use crate::answer::{Answer, Read, mark};
+use indexmap::IndexMap;
+use std::alloc::Global;
+use std::marker::Model;
+use wk_memory::Memory;
+use wk_title::Title;
+use wk_view_rules::Kind;
+
+/// A title, and what is asked of it.
+#[derive(Debug, Drop, PartialEq, Eq)]
+#[derive_where(Hash)]
+struct Asked {
+    title: Title,
+    #[derive_where(skip(Hash))]
+    kind: Kind,
+}
+
+/// Answers that were seen, each to another pair of a title and a kind, in the order in which they came. Contracts see
+/// them as a list of titles, kinds and answers.
+#[derive(Drop)]
+pub struct Seen {
+    answers: IndexMap<Asked, Answer>,
+}
+
+impl Model for Seen {
+    ghost use Rattle.wk_view_rules.specs.Worlds as rule;
+    ghost use Rattle.wk_expand.specs.Entries.{entry_reads};
+
+    ghost Value = { rule.Seen };
+
+    ghost view = { λ s. entry_reads s.answers.entries };
+
+    ghost invariant = { λ s. rule.IsSeen (entry_reads s.answers.entries) };
+}
+
+impl Seen {
+    /// No answer was seen. Takes no memory.
+    pub fn new(alloc: Global) -> Seen
+        ensures { result ≡ [] }
+    {
+        Seen {
+            answers: IndexMap::new(alloc),
+        }
+    }
+
+    /// Keeps an answer behind those that there are. After an `Err` nothing is kept.
+    pub fn add(&mut self, title: Title, kind: Kind, answer: Answer) -> Result<(), Memory>
+        requires absent { ask (of_seen self.old) title kind ≡ None }
+        requires formed { IsTrue (fits_kind kind (answer_of answer)) }
+        ensures ok { OnOk result (self.new ≡ self.old ++ read_with title kind (answer_of answer) ∷ []) }
+        ensures err { OnErr result (self.new ≡ self.old) }
+    {
+        self.answers.insert(Asked { title, kind }, answer)?;
+        Ok(())
+    }
+
+    /// The answer to a title and a kind, or `None` exactly where none was seen.
+    pub fn get(&self, title: &Title, kind: Kind) -> Result<Option<&Answer>, Memory>
+        ensures answer { IfOk result
+            (λ found. option_map answer_of (option_copied found) ≡ ask (of_seen self.now) title.now kind) }
+        ensures formed { IfOk result (λ found. IfSome (option_copied found)
+            (λ answer. IsTrue (fits_kind kind (answer_of answer)))) }
+    {
+        let asked = Asked {
+            title: title.share()?,
+            kind,
+        };
+        Ok(self.answers.get(&asked))
+    }
+
+    /// Keeps an answer behind those that there are, where none is kept for its title and kind yet.
+    pub(crate) fn note(&mut self, title: &Title, kind: Kind, answer: &Answer) -> Result<(), Memory>
+        requires { IsTrue (fits_kind kind (answer_of answer.now)) }
+        ensures { OnOk result (self.new ≡ noted self.old (read_with title.now kind (answer_of answer.now))) }
+    {
+        match self.get(title, kind)? {
+            Some(_) => return Ok(()),
+            None => {}
+        }
+        let title = title.share()?;
+        let answer = answer.share()?;
+        self.add(title, kind, answer)
+    }
+
+    /// How many answers were seen. Takes no memory.
+    pub fn len(&self) -> usize {
+        self.answers.len()
+    }
+
+    /// The reads with their marks, in order.
+    pub(crate) fn marked(&self, alloc: Global) -> Result<Vec<Read>, Memory>
+        ensures { IfOk result (λ reads. reads.items ≡ map marked self.now) }
+    {
+        marks(alloc, &self.answers)
+    }
+}
+
+/// The answers with their marks, in order.
+fn marks(alloc: Global, answers: &IndexMap<Asked, Answer>) -> Result<Vec<Read>, Memory>
+    ensures { IfOk result (λ reads. reads.items ≡ map marked (entry_reads answers.now.entries)) }
+{
+    let mut reads = Vec::new(alloc);
+    'entries: for (asked, answer) in answers.iter() {
+        let title = asked.title.share()?;
+        reads.push(Read {
+            title,
+            kind: asked.kind,
+            mark: mark(answer),
+        })?;
+    }
+    Ok(reads)
+}
