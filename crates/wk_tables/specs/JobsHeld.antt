@@ -1,0 +1,8 @@
+-- What a list of jobs stands for.
+use Rattle.std.specs.Prelude.{ℕ, List}
+use Rattle.wk_table_rules.specs.Rows.{JobColumns}
+
+-- the rows, and for how many more there is room
+pub record JobsHeld : Type 0 where
+  pub rows : List JobColumns
+  pub spare : ℕ

@@ -1,0 +1,18 @@
+//! The tables of a store: their rows, changes of them that can't be refused once room was made, and the rules of a
+//! good store.
+#![tactic(auto)]
+
+mod change;
+mod job_list;
+mod link_rows;
+mod links;
+mod number;
+mod rows;
+mod share;
+mod shared_rows;
+mod tables;
+
+pub use change::{Change, PageLists, RowEdit};
+pub use rows::{CategoryRow, JobRow, LinkRow, PageRow, RedirectRow, RevisionRow, TableRows};
+pub use tables::{Tables, apply, make_room};
+pub use wk_table_rules::{BadStore, Reach};
