@@ -95,7 +95,7 @@ module _ (mode : Mode) (text : List ℕ) where
   either-mark side source braces long e = inl (record { long = long; marks = sym e })
   either-mark side source brackets long e = inr (record { long = long; marks = sym e })
 
-  run-by_kind : (kind : AtomKind) (source : List ℕ) → IsSourceOf kind source → IsRunByKind kind source
+  pub run-by_kind : (kind : AtomKind) (source : List ℕ) → IsSourceOf kind source → IsRunByKind kind source
   run-by_kind LineComment source h = tt
   run-by_kind Comment source h = tt
   run-by_kind Sealed source h = tt

@@ -1,5 +1,6 @@
 pub mod AtomSteps
 pub mod ElementLemmas
+pub mod LexerLemmas
 pub mod NameLemmas
 pub mod PartSteps
 pub mod PlaceLemmas

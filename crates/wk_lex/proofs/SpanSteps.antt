@@ -5,7 +5,7 @@ use Rattle.wk_text_rules.specs.Shapes.{Span, spans_from}
 use Rattle.wk_tree_laws.proofs.SpanLemmas.{before_at, spans_from-skip}
 use Rattle.wk_lex.specs.Places.{byte_before}
 
-get-is : (text : List ℕ) (at : ℕ) → at < length text → slice_get text at ≡ Some (get_or text at 0)
+pub get-is : (text : List ℕ) (at : ℕ) → at < length text → slice_get text at ≡ Some (get_or text at 0)
 get-is [] at h = absurd (omega arith)
 get-is (b ∷ text) zero h = refl
 get-is (b ∷ text) (suc at) h = get-is text at (omega arith)

@@ -15,14 +15,14 @@ use wk_memory::Memory;
 use wk_tree_rules::{AtomKind, Mode};
 
 /// Whether no atom but a line of comments or a single byte begins with the byte.
-fn is_plain(byte: u8) -> bool
+pub fn is_plain(byte: u8) -> bool
     ensures { OnTrue result (IsPlain byte) }
 {
     !matches!(byte, b'<' | b'{' | b'[' | b'}' | b']' | b'|' | b'=')
 }
 
 /// The kind of the atom that begins at the place, and the place behind it.
-fn atom_at(tags: &mut Tags, mode: Mode, at: usize) -> (AtomKind, usize)
+pub fn atom_at(tags: &mut Tags, mode: Mode, at: usize) -> (AtomKind, usize)
     requires { at < length tags.old }
     ensures atom { IsAtomAt mode tags.old at result }
     ensures text { tags.new ≡ tags.old }

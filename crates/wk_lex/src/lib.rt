@@ -6,6 +6,7 @@ mod atoms;
 mod comment;
 mod elements;
 mod ends;
+mod lexer;
 mod marks;
 mod places;
 mod selection;
@@ -13,6 +14,7 @@ mod tags;
 
 pub use atom::Atom;
 pub use atoms::lex;
+pub use lexer::Lexer;
 pub use selection::select;
 pub use wk_tree_rules::{AtomKind, Mode};
 

@@ -1,5 +1,5 @@
 //! Selections and atoms of texts; the expected values follow from the rules by hand.
-use crate::{AtomKind, Mode, lex, select};
+use crate::{AtomKind, Lexer, Mode, lex, select};
 use std::alloc::Global;
 use std::test::Fail;
 use wk_memory::Memory;
@@ -310,6 +310,85 @@ fn reads_long_texts(rt: HostRuntime) -> Result<(), Fail> {
         assert!(rt; text.len() <= 65536, "in {part:?}");
         assert!(rt; select(alloc, mode, &text)?.is_none(), "in {part:?}");
         assert_eq!(rt; lex(alloc, mode, &text)?.len(), atoms, "in {part:?}");
+    }
+    Ok(())
+}
+
+/// A mode, a text, and what is read of it one after another.
+const READINGS: [(Mode, &str, &[(AtomKind, &str)]); 6] = [
+    (Mode::View, "", &[]),
+    (
+        Mode::View,
+        "ab\ncd{{e",
+        &[
+            (AtomKind::Byte, "ab\n"),
+            (AtomKind::Byte, "cd"),
+            (AtomKind::Open, "{{"),
+            (AtomKind::Byte, "e"),
+        ],
+    ),
+    (
+        Mode::View,
+        "a{b<c",
+        &[
+            (AtomKind::Byte, "a"),
+            (AtomKind::Byte, "{"),
+            (AtomKind::Byte, "b"),
+            (AtomKind::Byte, "<"),
+            (AtomKind::Byte, "c"),
+        ],
+    ),
+    (
+        Mode::Include,
+        "x\n <!--y-->\nz",
+        &[
+            (AtomKind::Byte, "x\n"),
+            (AtomKind::LineComment, " <!--y-->\n"),
+            (AtomKind::Byte, "z"),
+        ],
+    ),
+    (
+        Mode::View,
+        "x\n y|z",
+        &[
+            (AtomKind::Byte, "x\n"),
+            (AtomKind::Byte, " y"),
+            (AtomKind::Bar, "|"),
+            (AtomKind::Byte, "z"),
+        ],
+    ),
+    (
+        Mode::View,
+        "a<nowiki>{{</nowiki>=",
+        &[
+            (AtomKind::Byte, "a"),
+            (AtomKind::Sealed, "<nowiki>{{</nowiki>"),
+            (AtomKind::Equals, "="),
+        ],
+    ),
+];
+
+/// The kind and the source of the next atom.
+fn next_read<'a>(lexer: &mut Lexer<'_>, text: &'a [u8]) -> Option<(AtomKind, &'a [u8])> {
+    let atom = lexer.next()?;
+    let start = atom.start as usize;
+    let source = text.get(start..start + atom.len as usize)?;
+    Some((atom.kind, source))
+}
+
+#[test]
+fn reads_atoms_one_after_another(rt: HostRuntime) -> Result<(), Fail> {
+    for (mode, text, atoms) in READINGS {
+        if text.len() > 65536 {
+            return Err("too long".into());
+        }
+        let mut lexer = Lexer::new(mode, text.as_bytes());
+        for (wanted, part) in atoms {
+            let (kind, source) = next_read(&mut lexer, text.as_bytes()).ok_or("too few atoms")?;
+            assert_eq!(rt; kind, *wanted, "in {text:?}");
+            assert_eq!(rt; source, part.as_bytes(), "in {text:?}");
+        }
+        assert!(rt; lexer.next().is_none(), "in {text:?}");
     }
     Ok(())
 }

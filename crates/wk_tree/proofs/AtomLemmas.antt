@@ -1,21 +1,24 @@
 -- The next atom behind all that was seen.
-use Rattle.std.proofs.Common.{◌≡◌, ℕ, zero, suc, ◌+◌, ◌-◌, ◌<◌, ◌≤◌, ◌==◌, ◌≢◌, inl, inr, true, false, if◌then◌else◌, List, [], ◌∷◌, ◌++◌, length, map, take, drop, refl, ap, ap₂, sym, subst, ◌∙◌, arith, append-nil, length-drop}
-use Rattle.std.proofs.lemmas.List.{length-take, drop_more, take_more, take_all, map-append}
-use Rattle.std.specs.List.{All}
+use Rattle.std.proofs.Common.{◌≡◌, ℕ, zero, suc, ◌+◌, ◌-◌, ◌<◌, ◌≤◌, ◌==◌, ◌≢◌, ◌⊎◌, inl, inr, Bool, true, false, if◌then◌else◌, List, [], ◌∷◌, ◌++◌, length, map, replicate, take, drop, refl, ap, ap₂, sym, subst, ◌∙◌, arith, append-nil, length-append, length-drop}
+use Rattle.std.proofs.lemmas.Bool.Decides.{nat_tests}
+use Rattle.std.proofs.lemmas.List.{length-take, drop_more, map-append}
 use Rattle.std.specs.Prelude.{slice_index_or}
+use Rattle.wk_lex.specs.Ahead.{byte_atoms, IsOneText, IsNextAtom}
+use Rattle.wk_tree.specs.Layout.{laid}
+use Rattle.wk_tree.proofs.AlikeLemmas.{SeenAlike, nothing-alike, passed-alike, passed-all, bytes-alike, seen-laid}
 use Rattle.wk_lex.specs.Spans.{source_in, span_of, IsWithin, IsRunWhereMarks, IsRunOfEither}
 use Rattle.wk_lex.specs.declared.atom.Atom.{Atom}
 use Rattle.wk_tree.proofs.MatchingLemmas.{plained-all}
 use Rattle.wk_tree.proofs.MeetingLemmas.{item-kept}
 use Rattle.wk_tree.specs.Matching.{marks_by, as_run, is_bracket, brackets_at, plained, tokens_by, IsKept, Keeps}
-use Rattle.wk_tree.specs.Tokens.{plain_tokens, item_tokens, items_tokens}
+use Rattle.wk_tree.specs.Tokens.{opens, fills, item_tokens, items_tokens}
 use Rattle.wk_tree.specs.declared.matching.Matching.{Matching}
 use Rattle.wk_tree.specs.declared.matching.Level.{Level as OpenLevel}
 use Rattle.wk_tree.specs.declared.matching.Run.{Run as OpenRun}
 use Rattle.wk_tree.specs.declared.token.Token.{Token}
 use Rattle.wk_tree.specs.declared.token.Token.TheVariants as token
 use Rattle.wk_tree_laws.specs.OnePass.{PassState, added, opened, closed, passed, nothing_seen, pieces_seen}
-use Rattle.wk_tree_rules.specs.Reduction.{Run, Piece, entry, opening, closing, marks_of, run_of_atom, piece_by, piece_of}
+use Rattle.wk_tree_rules.specs.Reduction.{Run, entry, opening, closing, marks_of, run_of_atom, piece_by, piece_of}
 use Rattle.wk_tree_rules.specs.Tree.{item_of}
 use Rattle.wk_tree_rules.specs.Trees.{plain, sealed, nothing, Entry, item, bar, equals, height}
 use Rattle.wk_tree_rules.specs.declared.AtomKind.{AtomKind}
@@ -33,13 +36,6 @@ passed-opening seen run = refl
 pub passed-closing : (seen : PassState) (run : Run) → passed seen (closing run ∷ []) ≡ closed run.count run seen
 unfolding passed
 passed-closing seen run = refl
-
-pub passed-append : (seen : PassState) (xs : List Piece) (p : Piece) → passed seen (xs ++ p ∷ []) ≡ passed (passed seen xs) (p ∷ [])
-unfolding passed
-passed-append seen [] p = refl
-passed-append seen (entry e ∷ xs) p = passed-append (added (e ∷ []) seen) xs p
-passed-append seen (opening run ∷ xs) p = passed-append (opened run seen) xs p
-passed-append seen (closing run ∷ xs) p = passed-append (closed run.count run seen) xs p
 
 -- ---- an atom's source
 
@@ -73,6 +69,21 @@ either-long : (a b : ℕ) (source : List ℕ) → IsRunOfEither a b source → 2
 either-long a b source (inl r) = r.long
 either-long a b source (inr r) = r.long
 
+-- text that comes as one has one token
+fills-none : (source : List ℕ) → IsOneText source → fills source ≡ []
+fills-none [] one = refl
+fills-none (b ∷ source) (inl e) =
+    let none : length source ≡ 0 = omega arith in
+    by_test (opens b) ∙ ap (λ n. replicate n token.Fill) none
+  where
+    by_test : (t : Bool) → (if t then replicate (length source) token.Fill else []) ≡ replicate (length source) token.Fill
+    by_test true = refl
+    by_test false = ap (λ n. replicate n token.Fill) (let none : 0 ≡ length source = omega arith in none)
+fills-none (b ∷ source) (inr ne) = ap (λ t. if t then replicate (length source) token.Fill else []) (no-opening b ne.0 ne.1)
+  where
+    no-opening : (b : ℕ) → b ≢ 123 → b ≢ 91 → opens b ≡ false
+    no-opening b x y = grind (arith, nat_tests)
+
 -- ---- the steps
 
 module _ (text : List ℕ) (atom : Atom) (seen : PassState) (within : IsWithin (length text) atom) where
@@ -99,11 +110,12 @@ module _ (text : List ℕ) (atom : Atom) (seen : PassState) (within : IsWithin (
   step-entry {tokens = tokens} {places = places} {levels = levels} e is h =
       subst (λ s. Keeps s tokens places levels) (sym (passed-entry seen e) ∙ ap (λ p. passed seen (p ∷ [])) (sym is)) h
 
-  pub step-byte : {tokens tokens' : List Token} {places : List ℕ} {levels : List OpenLevel} → atom.kind ≡ Byte → tokens' ≡ tokens ++ plain_tokens atom.start atom.len → Keeps seen tokens places levels → Keeps next tokens' places levels
+  pub step-byte : {tokens tokens' : List Token} {places : List ℕ} {levels : List OpenLevel} → atom.kind ≡ Byte → IsOneText (source_in text atom) → tokens' ≡ tokens ++ token.Plain atom.start atom.len ∷ [] → Keeps seen tokens places levels → Keeps next tokens' places levels
   unfolding item_tokens height
-  step-byte {tokens = tokens} is t k =
+  step-byte {tokens = tokens} is one t k =
       step-entry (item (plain atom.start (source_in text atom))) (ap (λ k. piece_by k (span_of text atom)) is)
-      (item-kept (plain atom.start (source_in text atom)) seen refl (t ∙ ap (λ n. tokens ++ plain_tokens atom.start n) (sym (source-length text atom within))) k)
+      (item-kept (plain atom.start (source_in text atom)) seen refl
+      (t ∙ ap₂ (λ n f. tokens ++ token.Plain atom.start n ∷ f) (sym (source-length text atom within)) (sym (fills-none (source_in text atom) one))) k)
 
   pub step-sealed : {tokens tokens' : List Token} {places : List ℕ} {levels : List OpenLevel} → atom.kind ≡ Sealed → tokens' ≡ tokens ++ token.Sealed atom.start atom.len ∷ [] → Keeps seen tokens places levels → Keeps next tokens' places levels
   unfolding item_tokens height
@@ -137,29 +149,101 @@ default-nothing Byte atom o cl b e y s = absurd (y refl)
 
 -- ---- all atoms
 
-pub matched-more : (text : List ℕ) (atoms : List Atom) (i : ℕ) (d : Atom) (m m' : Matching) → i < length atoms → All (IsRunWhereMarks text) atoms
-    → IsKept (passed nothing_seen (map piece_of (map (span_of text) (take i atoms)))) m
-    → ((seen : PassState) → IsKept seen m → IsRunWhereMarks text (slice_index_or atoms i d) → IsKept (passed seen (piece_of (span_of text (slice_index_or atoms i d)) ∷ [])) m')
-    → IsKept (passed nothing_seen (map piece_of (map (span_of text) (take (i + 1) atoms)))) m'
-matched-more text atoms i d m m' h runs k next =
-    let atom : Atom = slice_index_or atoms i d in
-    let pieces : List Piece = map piece_of (map (span_of text) (take i atoms)) in
-    let same : map piece_of (map (span_of text) (take (i + 1) atoms)) ≡ pieces ++ piece_of (span_of text atom) ∷ [] =
-    ap (λ t. map piece_of (map (span_of text) t)) (take_more atoms i d h)
-    ∙ ap (map piece_of) (map-append (span_of text) (take i atoms) (atom ∷ []))
-    ∙ map-append piece_of (map (span_of text) (take i atoms)) (span_of text atom ∷ []) in
-    subst (λ s. IsKept s m') (sym (ap (passed nothing_seen) same ∙ passed-append nothing_seen pieces (piece_of (span_of text atom))))
-    (next (passed nothing_seen pieces) k (runs i d h))
+byte-or-other : (kind : AtomKind) → (kind ≡ Byte) ⊎ (kind ≢ Byte)
+byte-or-other LineComment = inr (λ e. absurd (cc))
+byte-or-other Comment = inr (λ e. absurd (cc))
+byte-or-other Sealed = inr (λ e. absurd (cc))
+byte-or-other Ignored = inr (λ e. absurd (cc))
+byte-or-other Tag = inr (λ e. absurd (cc))
+byte-or-other Open = inr (λ e. absurd (cc))
+byte-or-other Close = inr (λ e. absurd (cc))
+byte-or-other Bar = inr (λ e. absurd (cc))
+byte-or-other Equals = inr (λ e. absurd (cc))
+byte-or-other Byte = inl refl
 
-pub matched-ends : (text : List ℕ) (atoms : List Atom) (i : ℕ) (m : Matching) {tokens : List Token} → length atoms ≤ i → IsKept (passed nothing_seen (map piece_of (map (span_of text) (take i atoms)))) m
-    → tokens ≡ plained (drop 0 m.bars.items) m.tokens.items
-    → tokens ≡ items_tokens (map item_of (pieces_seen (passed nothing_seen (map piece_of (map (span_of text) atoms)))))
-matched-ends text atoms i m h k t =
-    let seen : PassState = passed nothing_seen (map piece_of (map (span_of text) (take i atoms))) in
-    t ∙ ap₂ plained k.bars_are (k.tokens_are ∙ sym (append-nil (tokens_by seen.first seen.levels)))
-    ∙ plained-all seen.first seen.levels [] ∙ append-nil (items_tokens (map item_of (pieces_seen seen)))
-    ∙ ap (λ a. items_tokens (map item_of (pieces_seen (passed nothing_seen (map piece_of (map (span_of text) a)))))) (take_all i atoms h)
+-- what is kept of the atoms that were read, with those ahead
+pub record AreMatched (all ahead : List Atom_at) (m : Matching) : Type 0 where
+  pub seen : PassState
+  pub kept_of : PassState
+  pub kept : IsKept kept_of m
+  pub alike : SeenAlike seen kept_of
+  pub goes_on : passed seen (map piece_of ahead) ≡ passed nothing_seen (map piece_of all)
 
-pub matched-begins : (m : Matching) → m.tokens.items ≡ [] → m.bars.items ≡ [] → m.levels.items ≡ [] → IsKept (passed nothing_seen []) m
+-- an atom that was read, and what was seen of the text then
+record IsPassed (before after : List Atom_at) (seen other : PassState) (atom : Atom_at) : Type 0 where
+  then_seen : PassState
+  same : passed seen (map piece_of before) ≡ passed then_seen (map piece_of after)
+  alike : SeenAlike then_seen (passed other (piece_of atom ∷ []))
+
+atom-passed : (text : List ℕ) (before after : List Atom_at) (atom : Atom) (seen other : PassState) → IsNextAtom text before after atom → SeenAlike seen other → IsPassed before after seen other (span_of text atom)
+atom-passed text before after atom seen other next k = either (byte-or-other atom.kind)
+  where
+    source : List ℕ
+    source = source_in text atom
+
+    either : (atom.kind ≡ Byte) ⊎ (atom.kind ≢ Byte) → IsPassed before after seen other (span_of text atom)
+    either (inl is) =
+        let bytes : List Atom_at = byte_atoms atom.start source in
+        let some : 0 < length source = omega (arith, source-length text atom next.within, next.within.some) in
+        let one : added (item (plain atom.start source) ∷ []) other ≡ passed other (piece_of (span_of text atom) ∷ []) =
+        sym (passed-entry other (item (plain atom.start source))) ∙ ap (λ k. passed other (piece_by k (span_of text atom) ∷ [])) (sym is) in
+        record {
+          then_seen = passed seen (map piece_of bytes);
+          same =
+              ap (λ t. passed seen (map piece_of t)) (next.bytes is).0
+              ∙ ap (passed seen) (map-append piece_of bytes after)
+              ∙ passed-all seen (map piece_of bytes) (map piece_of after);
+          alike = subst (SeenAlike (passed seen (map piece_of bytes))) one (bytes-alike atom.start source some k);
+        }
+    either (inr ne) = record {
+      then_seen = passed seen (piece_of (span_of text atom) ∷ []);
+      same = ap (λ t. passed seen (map piece_of t)) (next.other ne) ∙ passed-all seen (piece_of (span_of text atom) ∷ []) (map piece_of after);
+      alike = passed-alike (piece_of (span_of text atom)) k;
+    }
+
+pub matched-more : (text : List ℕ) (all before after : List Atom_at) (atom : Atom) (m m' : Matching) → IsNextAtom text before after atom → AreMatched all before m
+    → ((seen : PassState) → IsKept seen m → IsRunWhereMarks text atom → (atom.kind ≡ Byte → IsOneText (source_in text atom)) → IsKept (passed seen (piece_of (span_of text atom) ∷ [])) m')
+    → AreMatched all after m'
+matched-more text all before after atom m m' next k step =
+    let p = atom-passed text before after atom k.seen k.kept_of next k.alike in
+    record {
+      seen = p.then_seen;
+      kept_of = passed k.kept_of (piece_of (span_of text atom) ∷ []);
+      kept = step k.kept_of k.kept next.marks (λ is. (next.bytes is).1);
+      alike = p.alike;
+      goes_on = sym p.same ∙ k.goes_on;
+    }
+
+pub matched-ends : (all ahead : List Atom_at) (m : Matching) {tokens : List Token} → ahead ≡ [] → AreMatched all ahead m → tokens ≡ plained (drop 0 m.bars.items) m.tokens.items
+    → laid tokens ≡ laid (items_tokens (map item_of (pieces_seen (passed nothing_seen (map piece_of all)))))
 unfolding passed
-matched-begins m t b l = record { tokens_are = t; bars_are = b; levels_are = l; fit = tt }
+matched-ends all ahead m none k t =
+    let seen : PassState = k.kept_of in
+    let end : k.seen ≡ passed nothing_seen (map piece_of all) = ap (λ a. passed k.seen (map piece_of a)) (sym none) ∙ k.goes_on in
+    ap laid
+    (t ∙ ap₂ plained k.kept.bars_are (k.kept.tokens_are ∙ sym (append-nil (tokens_by seen.first seen.levels)))
+    ∙ plained-all seen.first seen.levels [] ∙ append-nil (items_tokens (map item_of (pieces_seen seen))))
+    ∙ sym (seen-laid k.alike)
+    ∙ ap (λ s. laid (items_tokens (map item_of (pieces_seen s)))) end
+
+pub matched-begins : (all : List Atom_at) (m : Matching) → m.tokens.items ≡ [] → m.bars.items ≡ [] → m.levels.items ≡ [] → AreMatched all all m
+matched-begins all m t b l = record {
+  seen = nothing_seen;
+  kept_of = nothing_seen;
+  kept = record { tokens_are = t; bars_are = b; levels_are = l; fit = tt };
+  alike = nothing-alike nothing_seen refl;
+  goes_on = refl;
+}
+
+-- fewer atoms are ahead
+pub fewer-ahead : (text : List ℕ) (before after : List Atom_at) (atom : Atom) → IsNextAtom text before after atom → length after < length before
+fewer-ahead text before after atom next = either (byte-or-other atom.kind)
+  where
+    long : (at : ℕ) (source : List ℕ) → length (byte_atoms at source) ≡ length source
+    long at [] = refl
+    long at (b ∷ source) = ap suc (long (at + 1) source)
+
+    either : (atom.kind ≡ Byte) ⊎ (atom.kind ≢ Byte) → length after < length before
+    either (inl is) =
+        omega (arith, ap length (next.bytes is).0, length-append (byte_atoms atom.start (source_in text atom)) after, long atom.start (source_in text atom), source-length text atom next.within, next.within.some)
+    either (inr ne) = omega (arith, ap length (next.other ne))

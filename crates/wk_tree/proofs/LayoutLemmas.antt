@@ -1,11 +1,11 @@
 -- What the tokens of a tree are laid out to.
-use Rattle.std.proofs.Common.{◌≡◌, ◌≢◌, ℕ, zero, suc, ◌+◌, ◌*◌, ◌==◌, true, false, if◌then◌else◌, List, [], ◌∷◌, ◌++◌, length, map, replicate, codes, Option, Some, None, refl, ap, sym, subst, ◌∙◌, arith, append_assoc, append-nil, length-append}
+use Rattle.std.proofs.Common.{◌≡◌, ◌≢◌, ℕ, zero, suc, ◌+◌, ◌*◌, ◌==◌, Bool, true, false, if◌then◌else◌, List, [], ◌∷◌, ◌++◌, length, map, replicate, codes, Option, Some, None, refl, ap, sym, subst, ◌∙◌, arith, append_assoc, append-nil, length-append}
 use Rattle.std.proofs.lemmas.Bool.Decides.{nat_tests}
 use Rattle.std.proofs.lemmas.List.{map-append, length-replicate}
 use Rattle.std.proofs.lemmas.List.Concat.{flat_map-append}
-use Rattle.wk_tree.specs.Layout.{SectionShown, ValueShown, NodeShown, FrameShown, LayoutShown, no_section, no_frame, put, put_all, joined, with_item, with_equals, new_part, with_bar, braces_of, new_node, with_node, laid}
+use Rattle.wk_tree.specs.Layout.{SectionShown, ValueShown, NodeShown, FrameShown, LayoutShown, no_section, no_frame, put, put_each, joined, with_item, with_equals, new_part, with_bar, braces_of, new_node, with_node, laid}
 use Rattle.wk_tree.specs.Shown.{from_end, ShowsItem, shows_plain, shows_sealed, shows_nothing, shows_node, ShowsItems, no_items, one_more, no_name, a_name, ShowsPart, no_parts, part_more, ShowsNode, ShowsNodes, no_nodes, node_more, ShowsSection, ShowsSegment, no_equals, at_equals, ShowsFrame, ShowsFrames, no_frames, frame_more, ShowsLayout}
-use Rattle.wk_tree.specs.Tokens.{plain_tokens, is_argument, opening_tokens, item_tokens, row_tokens, items_tokens}
+use Rattle.wk_tree.specs.Tokens.{opens, fills, text_tokens, is_argument, opening_tokens, item_tokens, row_tokens, items_tokens}
 use Rattle.wk_tree.specs.Tree.{IsLaidAs}
 use Rattle.wk_tree.specs.declared.item.Item.{Item}
 use Rattle.wk_tree.specs.declared.item.Item.TheVariants as code
@@ -30,13 +30,32 @@ put-shows (shows_sealed start source) k = one_more (shows_sealed start source) k
 put-shows (shows_nothing start source) k = one_more (shows_nothing start source) k
 put-shows (shows_node id kind start content is) k = one_more (shows_node id kind start content is) k
 
-pub put_all-shows : {ns : List Node} {cs : List Item} {items : List TreeItem} → ShowsItems ns cs items → ShowsItems ns (put_all cs) (merged items)
-put_all-shows no_items = no_items
-put_all-shows (one_more h k) = put-shows h (put_all-shows k)
+put_each-shows : {ns : List Node} {cs ds : List Item} {items : List TreeItem} (more : List TreeItem) → ShowsItems ns cs items → ShowsItems ns ds (merged more) → ShowsItems ns (put_each cs ds) (merged (items ++ more))
+put_each-shows more no_items k = k
+put_each-shows more (one_more h rest) k = put-shows h (put_each-shows more rest k)
 
-append-shows : {ns : List Node} {cs ds : List Item} {items more : List TreeItem} → ShowsItems ns cs items → ShowsItems ns ds more → ShowsItems ns (cs ++ ds) (items ++ more)
-append-shows no_items k = k
-append-shows (one_more h rest) k = one_more h (append-shows rest k)
+-- ---- plain text that goes together twice
+
+put-twice : (start next : ℕ) (source more : List ℕ) (items : List TreeItem) → put_before (plain start (source ++ more)) items ≡ put_before (plain start source) (put_before (plain next more) items)
+put-twice start next source more [] = refl
+put-twice start next source more (plain at last ∷ items) = ap (λ s. plain start s ∷ items) (append_assoc source more last)
+put-twice start next source more (sealed at last ∷ items) = refl
+put-twice start next source more (nothing at last ∷ items) = refl
+put-twice start next source more (node kind at content ∷ items) = refl
+
+put-merged : (i : TreeItem) (items more : List TreeItem) → merged (put_before i items ++ more) ≡ put_before i (merged (items ++ more))
+put-merged (plain start source) [] more = refl
+put-merged (plain start source) (plain next last ∷ items) more = put-twice start next source last (merged (items ++ more))
+put-merged (plain start source) (sealed next last ∷ items) more = refl
+put-merged (plain start source) (nothing next last ∷ items) more = refl
+put-merged (plain start source) (node kind next content ∷ items) more = refl
+put-merged (sealed start source) items more = refl
+put-merged (nothing start source) items more = refl
+put-merged (node kind start content) items more = refl
+
+merged-merged : (items more : List TreeItem) → merged (merged items ++ more) ≡ merged (items ++ more)
+merged-merged [] more = refl
+merged-merged (i ∷ items) more = put-merged i (merged items) more ∙ ap (put_before i) (merged-merged items more)
 
 -- ---- sections
 
@@ -51,9 +70,9 @@ size-item i = ap length (append-nil (source_of i))
 size-append : (xs ys : List Entry) → length (entries_source (xs ++ ys)) ≡ length (entries_source xs) + length (entries_source ys)
 size-append xs ys = ap length (flat_map-append entry_source xs ys) ∙ length-append (entries_source xs) (entries_source ys)
 
-section-item : {ns : List Node} {s : SectionShown} {parts : List Entry} {c : Item} {i : TreeItem} {n : ℕ} → ShowsItem ns c i → n ≡ length (source_of i) → ShowsSection ns s parts → ShowsSection ns (record { items = c ∷ s.items; len = n + s.len }) (item i ∷ parts)
+section-item : {ns : List Node} {s : SectionShown} {parts : List Entry} {c : Item} {i : TreeItem} {n : ℕ} → ShowsItem ns c i → n ≡ length (source_of i) → ShowsSection ns s parts → ShowsSection ns (record { items = put c s.items; len = n + s.len }) (item i ∷ parts)
 section-item {s = s} {parts = parts} {i = i} {n = n} h e k = record {
-  items = one_more h k.items;
+  items = put-shows h k.items;
   len = omega (arith, k.len, e, size-cons (item i) parts (length (source_of i)) (size-item i));
 }
 
@@ -64,15 +83,16 @@ joined-shows : {ns : List Node} {s : SectionShown} {v : Option ValueShown} {part
 joined-shows (no_equals h) = h
 joined-shows {ns = ns} {s = s} (at_equals {v = v} {name = name} {value = value} h k) = record {
   items =
-      subst (λ t. ShowsItems ns (s.items ++ code.Plain v.equals 1 ∷ v.section.items) t) (sym (map-append plain_entry name (equals v.equals ∷ value)))
-      (append-shows h.items (one_more (shows_plain v.equals (codes "=")) k.items));
+      subst (λ t. ShowsItems ns (put_each s.items (put (code.Plain v.equals 1) v.section.items)) t)
+      (merged-merged (map plain_entry name) (map plain_entry (equals v.equals ∷ value)) ∙ ap merged (sym (map-append plain_entry name (equals v.equals ∷ value))))
+      (put_each-shows (map plain_entry (equals v.equals ∷ value)) h.items (put-shows (shows_plain v.equals (codes "=")) k.items));
   len = omega (arith, h.len, k.len, size-append name (equals v.equals ∷ value), size-cons (equals v.equals) value 1 refl);
 }
 
 -- ---- segments
 
 segment-item : {ns : List Node} {s : SectionShown} {v : Option ValueShown} {parts : List Entry} {found : Option (List Entry × ℕ × List Entry)} {c : Item} {i : TreeItem} {n : ℕ} → ShowsItem ns c i → n ≡ length (source_of i)
-    → ShowsSegment ns s v parts found → ShowsSegment ns (record { items = c ∷ s.items; len = n + s.len }) v (item i ∷ parts) (name_by (item i) parts found)
+    → ShowsSegment ns s v parts found → ShowsSegment ns (record { items = put c s.items; len = n + s.len }) v (item i ∷ parts) (name_by (item i) parts found)
 segment-item h e (no_equals k) = no_equals (section-item h e k)
 segment-item h e (at_equals k l) = at_equals (section-item h e k) l
 
@@ -92,8 +112,8 @@ part_by start parts found = elim found [
 ]
 
 part-shows : {ns : List Node} {s : SectionShown} {v : Option ValueShown} {parts : List Entry} {found : Option (List Entry × ℕ × List Entry)} (start : ℕ) → ShowsSegment ns s v parts found → ShowsPart ns (new_part start s v) (part_by (start + 1) parts found)
-part-shows {parts = parts} start (no_equals k) = record { name = no_name; value = put_all-shows k.items; start = refl; len = k.len ∙ sym (value-size parts) }
-part-shows start (at_equals {value = value} k l) = record { name = a_name (put_all-shows k.items); value = put_all-shows l.items; start = refl; len = l.len ∙ sym (value-size value) }
+part-shows {parts = parts} start (no_equals k) = record { name = no_name; value = k.items; start = refl; len = k.len ∙ sym (value-size parts) }
+part-shows start (at_equals {value = value} k l) = record { name = a_name k.items; value = l.items; start = refl; len = l.len ∙ sym (value-size value) }
 
 -- ---- frames
 
@@ -137,7 +157,7 @@ node-shows kind start content k = record {
   argument = refl;
   start = refl;
   len = omega (arith, k.total, kind-argument kind, ap length (entries-text content));
-  title = put_all-shows (joined-shows k.segment).items;
+  title = (joined-shows k.segment).items;
   parts = k.further;
 }
 
@@ -165,9 +185,16 @@ fills-laid : (n : ℕ) (tokens : List Token) → laid (replicate n Fill ++ token
 fills-laid zero tokens = refl
 fills-laid (suc n) tokens = fills-laid n tokens
 
-plain-laid : (start len : ℕ) (tokens : List Token) → laid (plain_tokens start len ++ tokens) ≡ record (laid tokens) { frame = with_item (code.Plain start len) len (laid tokens).frame }
-plain-laid start zero tokens = refl
-plain-laid start (suc n) tokens = ap (λ (l : LayoutShown). record l { frame = with_item (code.Plain start (suc n)) (suc n) l.frame }) (fills-laid n tokens)
+source-laid : (source : List ℕ) (tokens : List Token) → laid (fills source ++ tokens) ≡ laid tokens
+source-laid [] tokens = refl
+source-laid (b ∷ source) tokens = by_test (opens b)
+  where
+    by_test : (t : Bool) → laid ((if t then replicate (length source) Fill else []) ++ tokens) ≡ laid tokens
+    by_test true = fills-laid (length source) tokens
+    by_test false = refl
+
+pub plain-laid : (start : ℕ) (source : List ℕ) (tokens : List Token) → laid (text_tokens start source ++ tokens) ≡ record (laid tokens) { frame = with_item (code.Plain start (length source)) (length source) (laid tokens).frame }
+plain-laid start source tokens = ap (λ (l : LayoutShown). record l { frame = with_item (code.Plain start (length source)) (length source) l.frame }) (source-laid source tokens)
 
 -- what is laid out with an item in front
 layout-item : {ns : List Node} {l : LayoutShown} {parts : List Entry} {outer : List (List Entry)} {met : List Node} {c : Item} {i : TreeItem} (n : ℕ) → ShowsItem ns c i → n ≡ length (source_of i) → ShowsLayout ns l parts outer met
@@ -198,7 +225,7 @@ mutual
   item-laid : (ns : List Node) (i : TreeItem) (before : List Node) (ts : List Token) {parts : List Entry} {outer : List (List Entry)} {met : List Node} → ns ≡ before ++ (nodes_of i ++ met) → ShowsLayout ns (laid ts) parts outer met
       → ShowsLayout ns (laid (item_tokens i ++ ts)) (item i ∷ parts) outer (nodes_of i ++ met)
   item-laid ns (plain start source) before ts {parts = parts} {outer = outer} {met = met} e k =
-      subst (λ l. ShowsLayout ns l (item (plain start source) ∷ parts) outer met) (sym (plain-laid start (length source) ts)) (layout-item (length source) (shows_plain start source) refl k)
+      subst (λ l. ShowsLayout ns l (item (plain start source) ∷ parts) outer met) (sym (plain-laid start source ts)) (layout-item (length source) (shows_plain start source) refl k)
   item-laid ns (sealed start source) before ts e k = layout-item (length source) (shows_sealed start source) refl k
   item-laid ns (nothing start source) before ts e k = layout-item (length source) (shows_nothing start source) refl k
   item-laid ns (node kind start content) before ts {parts = parts} {outer = outer} {met = met} e k =
@@ -255,17 +282,17 @@ merged-nodes : (items : List TreeItem) → nodes (merged items) ≡ nodes items
 merged-nodes [] = refl
 merged-nodes (i ∷ items) = put-nodes i (merged items) ∙ ap (λ t. nodes_of i ++ t) (merged-nodes items)
 
-pub is-laid : (items : List TreeItem) (tokens : List Token) (l : LayoutShown) (root : List Item) (found : List NodeShown) → tokens ≡ items_tokens items → l ≡ laid tokens
-    → root ≡ put_all (joined l.frame.section l.frame.value).items → found ≡ l.nodes → IsLaidAs items root found
+pub is-laid : (items : List TreeItem) (tokens : List Token) (l : LayoutShown) (root : List Item) (found : List NodeShown) → laid tokens ≡ laid (items_tokens items) → l ≡ laid tokens
+    → root ≡ (joined l.frame.section l.frame.value).items → found ≡ l.nodes → IsLaidAs items root found
 is-laid items tokens l root found t e r f =
-    let is : l ≡ laid (items_tokens items) = e ∙ ap laid t in
+    let is : l ≡ laid (items_tokens items) = e ∙ t in
     let same = merged-nodes items in
     let ns : List Node = nodes (merged items) in
     let k = items-laid ns items [] same in
-    let first : ShowsItems ns (put_all (joined (laid (items_tokens items)).frame.section (laid (items_tokens items)).frame.value).items) (merged items) =
-    subst (λ t. ShowsItems ns (put_all (joined (laid (items_tokens items)).frame.section (laid (items_tokens items)).frame.value).items) (merged t)) (ap (map plain_entry) (first-items items) ∙ plain-items items)
-    (put_all-shows (joined-shows k.frame.segment).items) in
+    let first : ShowsItems ns (joined (laid (items_tokens items)).frame.section (laid (items_tokens items)).frame.value).items (merged items) =
+    subst (λ t. ShowsItems ns (joined (laid (items_tokens items)).frame.section (laid (items_tokens items)).frame.value).items (merged t)) (ap (map plain_entry) (first-items items) ∙ plain-items items)
+    (joined-shows k.frame.segment).items in
     record {
-      root_shows = subst (λ x. ShowsItems ns x (merged items)) (sym (r ∙ ap (λ (m : LayoutShown). put_all (joined m.frame.section m.frame.value).items) is)) first;
+      root_shows = subst (λ x. ShowsItems ns x (merged items)) (sym (r ∙ ap (λ (m : LayoutShown). (joined m.frame.section m.frame.value).items) is)) first;
       nodes_show = subst (λ x. ShowsNodes ns x ns) (sym (f ∙ ap (λ (m : LayoutShown). m.nodes) is)) (subst (λ m. ShowsNodes ns (laid (items_tokens items)).nodes m) (sym same) k.nodes);
     }

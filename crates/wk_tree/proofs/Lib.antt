@@ -1,3 +1,4 @@
+pub mod AlikeLemmas
 pub mod AtomLemmas
 pub mod LayoutLemmas
 pub mod MatchingLemmas

@@ -5,12 +5,12 @@ use Rattle.std.proofs.lemmas.List.Concat.{flat_map-append}
 use Rattle.std.specs.List.{AllByRecursion}
 use Rattle.std.specs.Prelude.{slice_set, slice_index_or}
 use Rattle.wk_tree.specs.Matching.{are_brackets, of_run, run_tokens, bar_places, plain_token, plain_at, plained, raised, tokens_by, bars_by, level_behind, levels_by, IsFit, Keeps, left_tokens, still_open}
-use Rattle.wk_tree.specs.Tokens.{plain_tokens, item_tokens, row_tokens, entry_tokens, entries_tokens, items_tokens}
+use Rattle.wk_tree.specs.Tokens.{plain_tokens, text_tokens, item_tokens, row_tokens, entry_tokens, entries_tokens, items_tokens}
 use Rattle.wk_tree.specs.declared.matching.Level.{Level as OpenLevel}
 use Rattle.wk_tree.specs.declared.token.Token.{Token}
 use Rattle.wk_tree.specs.declared.token.Token.TheVariants.{Plain, Bar, Equals, Fill}
 use Rattle.wk_tree_laws.specs.OnePass.{Level, PassState, pieces_by, added_by, added, opened, reopened}
-use Rattle.wk_tree_rules.specs.Reduction.{Marks, Run, Piece, entry, opening, opening_mark, plain_opening, most_height}
+use Rattle.wk_tree_rules.specs.Reduction.{Marks, braces, brackets, Run, Piece, entry, opening, opening_mark, plain_opening, most_height}
 use Rattle.wk_tree_rules.specs.Tree.{item_of}
 use Rattle.wk_tree_rules.specs.Trees.{Item, Entry, item, bar, equals, row, row_height, height, plain_entry}
 
@@ -134,7 +134,8 @@ keeps-opened run seen {tokens = tokens} {bars = bars} {levels = levels} long k =
 keeps-one : (marks : Marks) (start : ℕ) (seen : PassState) {tokens : List Token} {bars : List ℕ} {levels : List OpenLevel} → Keeps seen tokens bars levels
     → Keeps (added (item (plain_opening (record { marks = marks; start = start; count = 1 })) ∷ []) seen) (tokens ++ plain_tokens start 1) (bars ++ []) (raised 0 levels)
 unfolding row_height height item_tokens
-keeps-one marks start seen k = keeps-added (item (plain_opening (record { marks = marks; start = start; count = 1 })) ∷ []) seen (omega arith) k
+keeps-one braces start seen k = keeps-added (item (plain_opening (record { marks = braces; start = start; count = 1 })) ∷ []) seen (omega arith) k
+keeps-one brackets start seen k = keeps-added (item (plain_opening (record { marks = brackets; start = start; count = 1 })) ∷ []) seen (omega arith) k
 
 -- what is left of an opening run behind what was seen
 pub keeps-reopened : (marks : Marks) (start count : ℕ) (seen : PassState) {tokens : List Token} {bars : List ℕ} {levels : List OpenLevel} → Keeps seen tokens bars levels
@@ -216,16 +217,22 @@ pub plained-append : (xs ys : List ℕ) (tokens : List Token) → plained (xs ++
 plained-append [] ys tokens = refl
 plained-append (x ∷ xs) ys tokens = ap (λ t. plain_at t x) (plained-append xs ys tokens)
 
-items-entries : (es : List Entry) → items_tokens (map plain_entry es) ≡ items_tokens (map item_of (map entry es))
+pub items-entries : (es : List Entry) → items_tokens (map plain_entry es) ≡ items_tokens (map item_of (map entry es))
 items-entries [] = refl
 items-entries (e ∷ es) = ap (λ t. item_tokens (plain_entry e) ++ t) (items-entries es)
 
-items-append : (xs ys : List Piece) → items_tokens (map item_of (xs ++ ys)) ≡ items_tokens (map item_of xs) ++ items_tokens (map item_of ys)
+pub items-append : (xs ys : List Piece) → items_tokens (map item_of (xs ++ ys)) ≡ items_tokens (map item_of xs) ++ items_tokens (map item_of ys)
 items-append xs ys = ap items_tokens (map-append item_of xs ys) ∙ flat_map-append item_tokens (map item_of xs) (map item_of ys)
 
-run-item : (run : Run) → item_tokens (plain_opening run) ≡ run_tokens run
+opening-tokens : (marks : Marks) (start count : ℕ) → text_tokens start (replicate count (opening_mark marks)) ≡ plain_tokens start count
+opening-tokens braces start zero = refl
+opening-tokens brackets start zero = refl
+opening-tokens braces start (suc n) = ap (λ k. Plain start (suc k) ∷ replicate k Fill) (length-replicate n 123)
+opening-tokens brackets start (suc n) = ap (λ k. Plain start (suc k) ∷ replicate k Fill) (length-replicate n 91)
+
+pub run-item : (run : Run) → item_tokens (plain_opening run) ≡ run_tokens run
 unfolding item_tokens
-run-item run = ap (plain_tokens run.start) (length-replicate run.count (opening_mark run.marks))
+run-item run = opening-tokens run.marks run.start run.count
 
 behind : (first : List Entry) (level : Level) (levels : List Level) (more : List Token) → items_tokens (map item_of (pieces_by first levels)) ++ (run_tokens level.run ++ (items_tokens (map item_of (map entry level.stretch)) ++ more)) ≡ items_tokens (map item_of (pieces_by first (level ∷ levels))) ++ more
 behind first level levels more =

@@ -5,9 +5,9 @@ use Rattle.std.proofs.lemmas.Bool.{eqb-false, cases_lt}
 use Rattle.std.proofs.lemmas.List.Concat.{flat_map-append}
 use Rattle.std.specs.List.{AllByRecursion}
 use Rattle.std.specs.Prelude.{slice_set}
-use Rattle.wk_tree.proofs.MatchingLemmas.{height-append, height-plain, row-tokens, bars-none, raised-zero, keeps-added, keeps-as, keeps-opened, keeps-reopened, split-run, plained-stretch}
+use Rattle.wk_tree.proofs.MatchingLemmas.{height-append, height-plain, row-tokens, run-item, bars-none, raised-zero, keeps-added, keeps-as, keeps-opened, keeps-reopened, split-run, plained-stretch}
 use Rattle.wk_tree.specs.Matching.{are_brackets, marks_by, as_run, of_run, run_tokens, bar_places, plained, raised, tokens_by, bars_by, level_behind, levels_by, IsFit, Keeps, IsKept, IsPopped, IsBarOf, IsClosing, MeetsAs, left_tokens, still_open, way_of, met_by_way}
-use Rattle.wk_tree.specs.Tokens.{plain_tokens, opening_tokens, item_tokens, row_tokens, entry_tokens, entries_tokens, items_tokens}
+use Rattle.wk_tree.specs.Tokens.{plain_tokens, text_tokens, opening_tokens, item_tokens, row_tokens, entry_tokens, entries_tokens, items_tokens}
 use Rattle.wk_tree.specs.declared.matching.Level.{Level as OpenLevel}
 use Rattle.wk_tree.specs.declared.matching.Matching.{Matching}
 use Rattle.wk_tree.specs.declared.matching.Run.{Run as OpenRun}
@@ -62,18 +62,24 @@ bar-kept (equals start) token seen n {tokens = tokens} {places = places} {levels
     keeps-as (added (equals start ∷ []) seen) (t ∙ ap (λ x. tokens ++ x ∷ []) is) (p ∙ ap (λ x. places ++ x ∷ []) at) (sym (raised-zero levels))
     (keeps-added (equals start ∷ []) seen (omega arith) k)
 
-closing-tokens : (run : Run) → item_tokens (plain_closing run) ≡ plain_tokens run.start run.count
+closing-text : (marks : Marks) (start count : ℕ) → text_tokens start (replicate count (closing_mark marks)) ≡ Plain start count ∷ []
+closing-text braces start zero = refl
+closing-text brackets start zero = refl
+closing-text braces start (suc n) = ap (λ k. Plain start (suc k) ∷ []) (length-replicate n 125)
+closing-text brackets start (suc n) = ap (λ k. Plain start (suc k) ∷ []) (length-replicate n 93)
+
+closing-tokens : (run : Run) → item_tokens (plain_closing run) ≡ Plain run.start run.count ∷ []
 unfolding item_tokens
-closing-tokens run = ap (plain_tokens run.start) (length-replicate run.count (closing_mark run.marks))
+closing-tokens run = closing-text run.marks run.start run.count
 
 closing-height : (run : Run) → height (plain_closing run) ≡ 0
 unfolding height
 closing-height run = refl
 
-pub closing-kept : (run : Run) (seen : PassState) (start count : ℕ) {tokens tokens' : List Token} {places : List ℕ} {levels : List OpenLevel} → start ≡ run.start → count ≡ run.count → tokens' ≡ tokens ++ plain_tokens start count
+pub closing-kept : (run : Run) (seen : PassState) (start count : ℕ) {tokens tokens' : List Token} {places : List ℕ} {levels : List OpenLevel} → start ≡ run.start → count ≡ run.count → tokens' ≡ tokens ++ Plain start count ∷ []
     → Keeps seen tokens places levels → Keeps (added (item (plain_closing run) ∷ []) seen) tokens' places levels
 closing-kept run seen start count {tokens = tokens} at n t k =
-    item-kept (plain_closing run) seen (closing-height run) (t ∙ ap (λ x. tokens ++ x) (ap₂ plain_tokens at n ∙ sym (closing-tokens run))) k
+    item-kept (plain_closing run) seen (closing-height run) (t ∙ ap (λ x. tokens ++ x) (ap₂ (λ s m. Plain s m ∷ []) at n ∙ sym (closing-tokens run))) k
 
 -- ---- a level that was taken
 
@@ -94,7 +100,7 @@ width-tokens (suc (suc zero)) start low high = refl
 width-tokens (suc (suc (suc zero))) start low high = refl
 width-tokens (suc (suc (suc (suc n)))) start low high = absurd (omega arith)
 
-node-height : (kind : _) (start : ℕ) (es : List Entry) → row_height (row (item (node kind start (row es)) ∷ [])) ≡ suc (row_height (row es))
+pub node-height : (kind : _) (start : ℕ) (es : List Entry) → row_height (row (item (node kind start (row es)) ∷ [])) ≡ suc (row_height (row es))
 unfolding row_height height
 node-height kind start es = omega arith
 
@@ -162,7 +168,7 @@ length-plain : (start n : ℕ) → 1 ≤ n → length (plain_tokens start n) ≡
 length-plain start zero h = absurd (omega arith)
 length-plain start (suc n) h = ap suc (length-replicate n Fill)
 
-plain-tokens : (es : List Entry) → entries_tokens (map (λ e. item (plain_entry e)) es) ≡ items_tokens (map plain_entry es)
+pub plain-tokens : (es : List Entry) → entries_tokens (map (λ e. item (plain_entry e)) es) ≡ items_tokens (map plain_entry es)
 plain-tokens [] = refl
 plain-tokens (e ∷ es) = ap (λ t. item_tokens (plain_entry e) ++ t) (plain-tokens es)
 
@@ -178,15 +184,17 @@ bracketed-height top closer =
     let f : row_height (row es) ≡ row_height (row top.stretch) = height-plain top.stretch in
     omega arith
 
-bracketed-tokens : (top : Level) (closer : Run) → entries_tokens (bracketed top closer) ≡ (Plain (top.run.start + (top.run.count - 2)) 2 ∷ Fill ∷ []) ++ (items_tokens (map plain_entry top.stretch) ++ plain_tokens closer.start 2)
-unfolding item_tokens
+bracketed-tokens : (top : Level) (closer : Run) → entries_tokens (bracketed top closer) ≡ (Plain (top.run.start + (top.run.count - 2)) 2 ∷ Fill ∷ []) ++ (items_tokens (map plain_entry top.stretch) ++ Plain closer.start 2 ∷ [])
 bracketed-tokens top closer =
     let es : List Entry = map (λ e. item (plain_entry e)) top.stretch in
-    ap (λ t. Plain (top.run.start + (top.run.count - 2)) 2 ∷ Fill ∷ t) (flat_map-append entry_tokens es (item (plain_closing (first_marks 2 closer)) ∷ []) ∙ ap (λ t. t ++ plain_tokens closer.start 2) (plain-tokens top.stretch))
+    let last : List Entry = item (plain_closing (first_marks 2 closer)) ∷ [] in
+    ap₂ (λ o t. o ++ t) (run-item (last_marks 2 top.run))
+    (flat_map-append entry_tokens es last
+    ∙ ap₂ (λ t c. t ++ c) (plain-tokens top.stretch) (append-nil (item_tokens (plain_closing (first_marks 2 closer))) ∙ closing-tokens (first_marks 2 closer)))
 
 brackets-base : (first : List Entry) (top : Level) (levels : List Level) (closer : Run) (k : ℕ) → k ≡ top.run.count - 2 → AllByRecursion IsFit (top ∷ levels)
     → Keeps (added (bracketed top closer) (reopened k (first_marks k top.run) (outer first levels)))
-    (plained (bar_places (length (tokens_by first levels ++ run_tokens top.run)) top.stretch) (slice_set (slice_set (tokens_by first (top ∷ levels)) (length (tokens_by first levels)) (Plain top.run.start k)) (length (tokens_by first levels) + k) (Plain (top.run.start + k) 2)) ++ plain_tokens closer.start 2)
+    (plained (bar_places (length (tokens_by first levels ++ run_tokens top.run)) top.stretch) (slice_set (slice_set (tokens_by first (top ∷ levels)) (length (tokens_by first levels)) (Plain top.run.start k)) (length (tokens_by first levels) + k) (Plain (top.run.start + k) 2)) ++ (Plain closer.start 2 ∷ []))
     (bars_by first levels)
     (raised (row_height (row top.stretch)) (levels_by first levels ++ still_open k (left_level first levels top k)))
 brackets-base first top levels closer k left fit =
@@ -198,10 +206,10 @@ brackets-base first top levels closer k left fit =
     let long : length front ≡ n =
     omega (arith, length-append (before ++ left_tokens top.run.start k) (Plain (top.run.start + k) 2 ∷ Fill ∷ []), length-append before (left_tokens top.run.start k), length-left top.run.start k, length-append before (run_tokens top.run), length-plain top.run.start top.run.count (omega (arith, fit.0.long))) in
     keeps-as (added (bracketed top closer) (reopened k (first_marks k top.run) (outer first levels)))
-    (ap (λ t. plained (bar_places n top.stretch) t ++ plain_tokens closer.start 2) (split-run before stretch top.run.start top.run.count k 1 (Plain (top.run.start + k) 2) many ∙ ap (λ t. front ++ t) (sym (append-nil stretch)))
-    ∙ ap (λ t. t ++ plain_tokens closer.start 2) (plained-stretch front top.stretch [] n long)
-    ∙ regroup (before ++ left_tokens top.run.start k) (Plain (top.run.start + k) 2 ∷ Fill ∷ []) (items_tokens (map plain_entry top.stretch)) (plain_tokens closer.start 2)
-    ∙ ap (λ m. (before ++ left_tokens top.run.start k) ++ ((Plain (top.run.start + m) 2 ∷ Fill ∷ []) ++ (items_tokens (map plain_entry top.stretch) ++ plain_tokens closer.start 2))) left
+    (ap (λ t. plained (bar_places n top.stretch) t ++ (Plain closer.start 2 ∷ [])) (split-run before stretch top.run.start top.run.count k 1 (Plain (top.run.start + k) 2) many ∙ ap (λ t. front ++ t) (sym (append-nil stretch)))
+    ∙ ap (λ t. t ++ (Plain closer.start 2 ∷ [])) (plained-stretch front top.stretch [] n long)
+    ∙ regroup (before ++ left_tokens top.run.start k) (Plain (top.run.start + k) 2 ∷ Fill ∷ []) (items_tokens (map plain_entry top.stretch)) ((Plain closer.start 2 ∷ []))
+    ∙ ap (λ m. (before ++ left_tokens top.run.start k) ++ ((Plain (top.run.start + m) 2 ∷ Fill ∷ []) ++ (items_tokens (map plain_entry top.stretch) ++ (Plain closer.start 2 ∷ [])))) left
     ∙ ap (λ t. (before ++ left_tokens top.run.start k) ++ t) (sym (bracketed-tokens top closer)))
     (sym (ap (λ t. bars_by first levels ++ t) (bars-none _ top.stretch (plain_closing (first_marks 2 closer))) ∙ append-nil (bars_by first levels)))
     (ap (λ h. raised h (levels_by first levels ++ still_open k (left_level first levels top k))) (sym (bracketed-height top closer)))
@@ -217,7 +225,7 @@ pub brackets-kept : (first : List Entry) (top : Level) (levels : List Level) (cl
     → tokens ≡ tokens_by first (top ∷ levels) → places ≡ bars_by first (top ∷ levels) → others ≡ levels_by first levels
     → slot ≡ length (tokens_by first levels) → bars ≡ length (bars_by first levels) → br ≡ are_brackets top.run.marks
     → at ≡ top.run.start → k ≡ top.run.count - 2 → start ≡ top.run.start + k → end ≡ top.run.start + k → high ≡ row_height (row top.stretch) → behind ≡ closer.start
-    → tokens' ≡ plained (drop bars places) (slice_set (slice_set tokens slot (Plain at k)) (slot + k) (Plain start 2)) ++ plain_tokens behind 2
+    → tokens' ≡ plained (drop bars places) (slice_set (slice_set tokens slot (Plain at k)) (slot + k) (Plain start 2)) ++ Plain behind 2 ∷ []
     → places' ≡ take bars places
     → others' ≡ raised high (others ++ still_open k (record { run = record { brackets = br; count = k; end = end }; slot = slot; bars = bars; height = 0 }))
     → Keeps (met_as_brackets top closer (outer first levels)).seen tokens' places' others'
@@ -226,7 +234,7 @@ brackets-kept first top levels closer slot at k start end bars high behind br {t
     let mine : List ℕ = bar_places (length (tokens_by first levels ++ run_tokens top.run)) top.stretch in
     let rest : drop (length (bars_by first levels)) (bars_by first (top ∷ levels)) ≡ mine = drop_at (bars_by first levels) mine (length (bars_by first levels)) refl in
     let cut : take (length (bars_by first levels)) (bars_by first (top ∷ levels)) ≡ bars_by first levels = take_at (bars_by first levels) mine (length (bars_by first levels)) refl in
-    let t1 : tokens' ≡ plained mine (slice_set (slice_set (tokens_by first (top ∷ levels)) (length (tokens_by first levels)) (Plain top.run.start k)) (length (tokens_by first levels) + k) (Plain (top.run.start + k) 2)) ++ plain_tokens closer.start 2 = cc in
+    let t1 : tokens' ≡ plained mine (slice_set (slice_set (tokens_by first (top ∷ levels)) (length (tokens_by first levels)) (Plain top.run.start k)) (length (tokens_by first levels) + k) (Plain (top.run.start + k) 2)) ++ (Plain closer.start 2 ∷ []) = cc in
     let p1 : places' ≡ bars_by first levels = cc in
     let o1 : others' ≡ raised (row_height (row top.stretch)) (levels_by first levels ++ still_open k (left_level first levels top k)) = cc in
     subst (λ n. Keeps (added (bracketed top closer) (reopened n (first_marks n top.run) (outer first levels))) tokens' places' others') ek
@@ -353,7 +361,7 @@ closing-rests left m n k end few c = record {
 }
 
 -- it ends with one mark
-pub closing-one : (left : OpenRun) (m : Matching) (n start : ℕ) (end : PassState) {tokens : List Token} → left.count ≡ 1 → start ≡ left.end - 1 → tokens ≡ m.tokens.items ++ plain_tokens start 1 → IsClosing left m n end → Keeps end tokens m.bars.items m.levels.items
+pub closing-one : (left : OpenRun) (m : Matching) (n start : ℕ) (end : PassState) {tokens : List Token} → left.count ≡ 1 → start ≡ left.end - 1 → tokens ≡ m.tokens.items ++ Plain start 1 ∷ [] → IsClosing left m n end → Keeps end tokens m.bars.items m.levels.items
 closing-one left m n start end {tokens = tokens} one at t c =
     let s : start ≡ left.end - left.count = at ∙ ap (λ j. left.end - j) (sym one) in
     let e : added (item (plain_closing (as_run left)) ∷ []) c.seen ≡ end =

@@ -5,7 +5,7 @@ use Rattle.std.proofs.lemmas.List.{get_or-reverse, length-map, length-reverse}
 use Rattle.std.specs.List.{slice_get, flat_map, AllByRecursion}
 use Rattle.std.specs.Option.{IfSome, IsSome, option_and_then, option_to_list, unwrap_or}
 use Rattle.wk_tree.proofs.LayoutLemmas.{nodes-long}
-use Rattle.wk_tree.specs.Layout.{NodeShown, PartShown, node_of, part_of}
+use Rattle.wk_tree.specs.Layout.{NodeShown, PartShown, laid, node_of, part_of}
 use Rattle.wk_tree.specs.Parsed.{ParsedText, IsParsed, IsTextIn, part_at, node_with, part_with, list_with, nodes_of, tree_of}
 use Rattle.wk_tree.specs.declared.item.ListId.{ListId}
 use Rattle.wk_tree.specs.declared.item.ListId.TheVariants.{Root, Title, Name, Value}
@@ -29,12 +29,12 @@ use Rattle.wk_tree_rules.specs.declared.Mode.{Mode}
 -- ---- a text that is parsed
 
 pub parsed-is : (mode : Mode) (text whole source : List ℕ) (part : Option (List ℕ)) (tokens : List Token) (root : List Item) (found : List NodeShown) → whole ≡ text → part ≡ selection mode whole → source ≡ unwrap_or part whole
-    → tokens ≡ items_tokens (map item_of (reduced (pieces_of mode source))) → ((items : List TreeItem) → tokens ≡ items_tokens items → IsLaidAs items root found) → IsParsed mode text part root found
+    → laid tokens ≡ laid (items_tokens (map item_of (reduced (pieces_of mode source)))) → ((items : List TreeItem) → laid tokens ≡ laid (items_tokens items) → IsLaidAs items root found) → IsParsed mode text part root found
 unfolding tree
 parsed-is mode text whole source part tokens root found w p s t h =
     let is : source ≡ selected mode text = s ∙ ap₂ (λ x y. unwrap_or x y) (p ∙ ap (selection mode) w) w in
-    let laid = h (map item_of (reduced (pieces_of mode (selected mode text)))) (t ∙ ap (λ x. items_tokens (map item_of (reduced (pieces_of mode x)))) is) in
-    record { source_is = p ∙ ap (selection mode) w; root_shows = laid.root_shows; nodes_show = laid.nodes_show }
+    let shown = h (map item_of (reduced (pieces_of mode (selected mode text)))) (t ∙ ap (λ x. laid (items_tokens (map item_of (reduced (pieces_of mode x))))) is) in
+    record { source_is = p ∙ ap (selection mode) w; root_shows = shown.root_shows; nodes_show = shown.nodes_show }
 
 -- ---- options
 

@@ -1,5 +1,5 @@
 -- How tokens are laid out in lists, from the last to the first.
-use Rattle.std.specs.Prelude.{ℕ, ◌+◌, Bool, if◌then◌else◌, List, [], ◌∷◌, ◌++◌, length, map, reverse, Option, Some, None, option_map}
+use Rattle.std.specs.Prelude.{ℕ, ◌+◌, Bool, if◌then◌else◌, List, [], ◌∷◌, length, map, reverse, Option, Some, None, option_map}
 use Rattle.wk_tree.specs.declared.item.Item.{Item}
 use Rattle.wk_tree.specs.declared.item.Item.TheVariants as code
 use Rattle.wk_tree.specs.declared.layout.Frame.{Frame}
@@ -92,21 +92,22 @@ abbrev pub put : Item → List Item → List Item
 put (code.Plain start len) (code.Plain next more ∷ items) = code.Plain start (len + more) ∷ items
 put i items = i ∷ items
 
-abbrev pub put_all : List Item → List Item
-put_all [] = []
-put_all (i ∷ items) = put i (put_all items)
+-- items before others, the last of them first
+abbrev pub put_each : List Item → List Item → List Item
+put_each [] more = more
+put_each (i ∷ items) more = put i (put_each items more)
 
 -- items before an equals sign that is plain, and what stands behind it
 abbrev pub joined : SectionShown → Option ValueShown → SectionShown
 joined section None = section
 joined section (Some value) = record {
-  items = section.items ++ code.Plain value.equals 1 ∷ value.section.items;
+  items = put_each section.items (put (code.Plain value.equals 1) value.section.items);
   len = section.len + (1 + value.section.len);
 }
 
 abbrev pub with_item : Item → ℕ → FrameShown → FrameShown
 with_item i len frame = record frame {
-  section = record { items = i ∷ frame.section.items; len = len + frame.section.len };
+  section = record { items = put i frame.section.items; len = len + frame.section.len };
   total = len + frame.total;
 }
 
@@ -118,8 +119,8 @@ with_equals start frame = record frame {
 }
 
 abbrev pub new_part : ℕ → SectionShown → Option ValueShown → PartShown
-new_part start section None = record { name = None; value = put_all section.items; start = start + 1; len = section.len }
-new_part start section (Some value) = record { name = Some (put_all section.items); value = put_all value.section.items; start = value.equals + 1; len = value.section.len }
+new_part start section None = record { name = None; value = section.items; start = start + 1; len = section.len }
+new_part start section (Some value) = record { name = Some section.items; value = value.section.items; start = value.equals + 1; len = value.section.len }
 
 abbrev pub with_bar : ℕ → FrameShown → FrameShown
 with_bar start frame = record {
@@ -137,7 +138,7 @@ new_node argument start frame = record {
   argument = argument;
   start = start;
   len = braces_of argument + frame.total;
-  title = put_all (joined frame.section frame.value).items;
+  title = (joined frame.section frame.value).items;
   parts = frame.parts;
 }
 

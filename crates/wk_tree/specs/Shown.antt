@@ -6,7 +6,7 @@ use Rattle.wk_tree.specs.declared.item.Item.{Item}
 use Rattle.wk_tree.specs.declared.item.Item.TheVariants as code
 use Rattle.wk_tree.specs.declared.item.NodeId.{NodeId}
 use Rattle.wk_tree_rules.specs.Tree.{Node, Part, node_length, value_length, title_part, further_parts, part_of, split_at_bars, split_at_equals}
-use Rattle.wk_tree_rules.specs.Trees.{Item as TreeItem, plain, sealed, nothing, node, NodeKind, Row, Entry, equals, plain_entry}
+use Rattle.wk_tree_rules.specs.Trees.{Item as TreeItem, plain, sealed, nothing, node, NodeKind, Row, Entry, equals, plain_entry, merged}
 use Rattle.wk_tree_laws.proofs.PieceLemmas.{entries_source}
 
 -- the element that has so many behind it
@@ -53,7 +53,7 @@ pub data ShowsNodes (ns : List Node) : List NodeShown → List Node → Type 0 w
 -- ---- while the tokens are laid out
 
 pub record ShowsSection (ns : List Node) (s : SectionShown) (parts : List Entry) : Type 0 where
-  pub items : ShowsItems ns s.items (map plain_entry parts)
+  pub items : ShowsItems ns s.items (merged (map plain_entry parts))
   pub len : s.len ≡ length (entries_source parts)
 
 -- entries up to the next bar, by their first equals sign

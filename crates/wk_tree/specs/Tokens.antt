@@ -1,13 +1,26 @@
 -- The tokens of a text whose marks are matched (own).
-use Rattle.std.specs.Prelude.{ℕ, zero, suc, Bool, true, false, List, [], ◌∷◌, ◌++◌, length, replicate, flat_map}
+use Rattle.std.specs.Prelude.{ℕ, zero, suc, ◌==◌, if◌then◌else◌, Bool, true, false, List, [], ◌∷◌, ◌++◌, length, replicate, flat_map}
 use Rattle.wk_tree.specs.declared.token.Token.{Token}
 use Rattle.wk_tree.specs.declared.token.Token.TheVariants.{Plain, Sealed, Nothing, Bar, Equals, NodeStart, NodeEnd, Fill}
 use Rattle.wk_tree_rules.specs.Trees.{Item, plain, sealed, nothing, node, Row, empty_row, item_then, bar_then, equals_then, NodeKind, template, argument, Entry, item, bar, equals}
 
--- plain text of so many bytes, with a token for each
+-- opening marks as plain text, with a token for each
 abbrev pub plain_tokens : ℕ → ℕ → List Token
 plain_tokens start zero = Plain start 0 ∷ []
 plain_tokens start (suc n) = Plain start (suc n) ∷ replicate n Fill
+
+-- whether a byte is a mark that opens
+abbrev pub opens : ℕ → Bool
+opens b = if b == 123 then true else b == 91
+
+-- the places of the marks behind the first, where they open
+abbrev pub fills : List ℕ → List Token
+fills [] = []
+fills (b ∷ source) = if opens b then replicate (length source) Fill else []
+
+-- plain text: opening marks have a token each, and other text has one
+abbrev pub text_tokens : ℕ → List ℕ → List Token
+text_tokens start source = Plain start (length source) ∷ fills source
 
 abbrev pub is_argument : NodeKind → Bool
 is_argument template = false
@@ -20,7 +33,7 @@ opening_tokens argument start = NodeStart true start ∷ Fill ∷ Fill ∷ []
 
 unfoldable mutual
   pub item_tokens : Item → List Token
-  item_tokens (plain start source) = plain_tokens start (length source)
+  item_tokens (plain start source) = text_tokens start source
   item_tokens (sealed start source) = Sealed start (length source) ∷ []
   item_tokens (nothing start source) = Nothing start (length source) ∷ []
   item_tokens (node kind start content) = opening_tokens kind start ++ (row_tokens content ++ NodeEnd ∷ [])

@@ -3,7 +3,7 @@ ghost use Rattle.std.specs.Prelude.{◌≡◌, ◌+◌, ◌<◌, ◌^◌, List, 
 ghost use Rattle.wk_tree.specs.Tokens.{items_tokens};
 ghost use Rattle.wk_tree.specs.Tree.{IsLaidAs};
 ghost use Rattle.wk_tree_rules.specs.Trees.{Item as TreeItem};
-ghost use Rattle.wk_tree.specs.Layout.{section_of, value_of, part_of, node_of, frame_of, layout_of, no_section, no_frame, put_all, joined, put, with_item, with_equals, new_part, with_bar, new_node, with_node, with_token, laid};
+ghost use Rattle.wk_tree.specs.Layout.{section_of, value_of, part_of, node_of, frame_of, layout_of, no_section, no_frame, put_each, joined, put, with_item, with_equals, new_part, with_bar, new_node, with_node, with_token, laid};
 
 use crate::item::{Item, NodeId};
 use crate::token::Token;
@@ -90,10 +90,38 @@ fn sum(a: u32, b: u32) -> Result<u32, Memory>
     a.checked_add(b).ok_or(Memory)
 }
 
+/// An item behind items from the last to the first. Plain text goes together.
+fn put(items: &mut Vec<Item>, item: Item) -> Result<(), Memory>
+    ensures { OnOk result (reverse items.new.items ≡ put item (reverse items.old.items)) }
+{
+    let Item::Plain { start, len } = item else {
+        items.push(item)?;
+        return Ok(());
+    };
+    if let Some(Item::Plain { len: more, .. }) = items.last().copied() {
+        let len = sum(len, more)?;
+        items.pop();
+        items.push(Item::Plain { start, len })?;
+        return Ok(());
+    }
+    items.push(item)?;
+    Ok(())
+}
+
+/// Items behind others, all from the last to the first.
+fn put_each(items: &mut Vec<Item>, more: &[Item]) -> Result<(), Memory>
+    ensures { OnOk result (reverse items.new.items ≡ put_each (reverse more.now) (reverse items.old.items)) }
+{
+    for item in more {
+        put(items, *item)?;
+    }
+    Ok(())
+}
+
 fn push_item(frame: &mut Frame, item: Item, len: u32) -> Result<(), Memory>
     ensures { OnOk result (frame_of frame.new ≡ with_item item len (frame_of frame.old)) }
 {
-    frame.section.items.push(item)?;
+    put(&mut frame.section.items, item)?;
     frame.section.len = sum(len, frame.section.len)?;
     frame.total = sum(len, frame.total)?;
     Ok(())
@@ -110,8 +138,8 @@ fn join(section: Section, value: Option<Value>) -> Result<Section, Memory>
             let behind = value.section;
             let len = sum(section.len, sum(1, behind.len)?)?;
             let mut items = behind.items;
-            items.push(Item::Plain { start, len: 1 })?;
-            items.extend_from_slice(&section.items)?;
+            put(&mut items, Item::Plain { start, len: 1 })?;
+            put_each(&mut items, &section.items)?;
             Ok(Section { items, len })
         }
     }
@@ -131,62 +159,38 @@ fn push_equals(alloc: Global, frame: &mut Frame, start: u32) -> Result<(), Memor
     Ok(())
 }
 
-/// An item behind items from the last to the first. Plain text goes together.
-fn put(items: &mut Vec<Item>, item: Item) -> Result<(), Memory>
-    ensures { OnOk result (reverse items.new.items ≡ put item (reverse items.old.items)) }
+/// The items in the order of the text.
+fn in_order(items: Vec<Item>) -> Vec<Item>
+    ensures { result.items ≡ reverse items.items }
 {
-    let Item::Plain { start, len } = item else {
-        items.push(item)?;
-        return Ok(());
-    };
-    if let Some(Item::Plain { len: more, .. }) = items.last().copied() {
-        let len = sum(len, more)?;
-        items.pop();
-        items.push(Item::Plain { start, len })?;
-        return Ok(());
-    }
-    items.push(item)?;
-    Ok(())
-}
-
-/// The list of items that come from the last to the first.
-fn put_all(alloc: Global, items: &[Item]) -> Result<Vec<Item>, Memory>
-    ensures { IfOk result (λ list. list.items ≡ put_all (reverse items.now)) }
-{
-    let mut list = Vec::new(alloc);
-    for item in items {
-        put(&mut list, *item)?;
-    }
+    let mut list = items;
     list.reverse();
-    Ok(list)
+    list
 }
 
-fn new_part(
-    alloc: Global,
-    start: u32,
-    section: Section,
-    value: Option<Value>,
-) -> Result<PartLists, Memory>
+fn new_part(start: u32, section: Section, value: Option<Value>) -> Result<PartLists, Memory>
     ensures { IfOk result (λ part. part_of part ≡ new_part start (section_of section) (option_map value_of value)) }
 {
+    let len = section.len;
+    let items = in_order(section.items);
     match value {
         None => {
-            let value = put_all(alloc, &section.items)?;
             Ok(PartLists {
                 name: None,
-                value,
+                value: items,
                 start: sum(start, 1)?,
-                len: section.len,
+                len,
             })
         }
-        Some(behind) => {
-            let name = put_all(alloc, &section.items)?;
-            let value = put_all(alloc, &behind.section.items)?;
+        Some(value) => {
+            let start = sum(value.equals, 1)?;
+            let behind = value.section;
+            let len = behind.len;
             Ok(PartLists {
-                name: Some(name),
-                value,
-                start: sum(behind.equals, 1)?,
-                len: behind.section.len,
+                name: Some(items),
+                value: in_order(behind.items),
+                start,
+                len,
             })
         }
     }
@@ -197,19 +201,19 @@ fn push_bar(alloc: Global, frame: &mut Frame, start: u32) -> Result<(), Memory>
 {
     let section = mem::replace(&mut frame.section, no_section(alloc));
     let value = mem::replace(&mut frame.value, None);
-    let part = new_part(alloc, start, section, value)?;
+    let part = new_part(start, section, value)?;
     frame.parts.push(part)?;
     frame.total = sum(1, frame.total)?;
     Ok(())
 }
 
-fn new_node(alloc: Global, argument: bool, start: u32, frame: Frame) -> Result<NodeLists, Memory>
+fn new_node(argument: bool, start: u32, frame: Frame) -> Result<NodeLists, Memory>
     ensures { IfOk result (λ n. node_of n ≡ new_node argument start (frame_of frame)) }
 {
     let braces = if argument { 6 } else { 4 };
     let len = sum(braces, frame.total)?;
     let whole = join(frame.section, frame.value)?;
-    let title = put_all(alloc, &whole.items)?;
+    let title = in_order(whole.items);
     let mut parts = frame.parts;
     parts.reverse();
     Ok(NodeLists {
@@ -229,7 +233,7 @@ fn push_node(alloc: Global, layout: &mut Layout, argument: bool, start: u32) -> 
         None => no_frame(alloc),
     };
     let frame = mem::replace(&mut layout.frame, outer);
-    let made = new_node(alloc, argument, start, frame)?;
+    let made = new_node(argument, start, frame)?;
     let len = made.len;
     let id = NodeId(layout.nodes.len());
     layout.nodes.push(made)?;
@@ -289,13 +293,13 @@ pub fn lay(alloc: Global, tokens: &[Token]) -> Result<Layout, Memory>
     Ok(layout)
 }
 
-/// The root's list and the nodes of the tree that the tokens are of, from its last node.
+/// The root's list and the nodes of the tree that the tokens are laid out to, from its last node.
 pub fn finish(alloc: Global, tokens: &[Token]) -> Result<(Vec<Item>, Vec<NodeLists>), Memory>
-    ensures { IfOk result (λ found. (items : List TreeItem) → tokens.now ≡ items_tokens items → IsLaidAs items found.0.items (map node_of (reverse found.1.items))) }
+    ensures { IfOk result (λ found. (items : List TreeItem) → laid tokens.now ≡ laid (items_tokens items) → IsLaidAs items found.0.items (map node_of (reverse found.1.items))) }
 {
     let layout = lay(alloc, tokens)?;
     let frame = layout.frame;
     let whole = join(frame.section, frame.value)?;
-    let root = put_all(alloc, &whole.items)?;
+    let root = in_order(whole.items);
     Ok((root, layout.nodes))
 }

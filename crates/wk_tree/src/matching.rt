@@ -1,7 +1,8 @@
 //! The matching of marks, by one pass from the left over the atoms with a stack of opening runs.
 ghost use Rattle.std.specs.Prelude.{◌≡◌, ℕ, ◌+◌, ◌-◌, ◌<◌, ◌≤◌, ◌^◌, max, List, [], ◌∷◌, ◌++◌, length, take, drop, map, slice_set, OnOk, IfOk};
-ghost use Rattle.std.specs.List.{All};
-ghost use Rattle.wk_lex.specs.Spans.{span_of, IsWithin, IsRunWhereMarks};
+ghost use Rattle.wk_lex.specs.Ahead.{IsOneText};
+ghost use Rattle.wk_lex.specs.Spans.{source_in, span_of, IsWithin, IsRunWhereMarks};
+ghost use Rattle.wk_tree.specs.Layout.{laid};
 ghost use Rattle.wk_tree.specs.Matching.{as_run, brackets_at, plain_token, plained, raised, still_open, way_of, IsBarOf, IsKept, IsPopped, MeetsAs};
 ghost use Rattle.wk_tree.specs.Tokens.{plain_tokens, items_tokens};
 ghost use Rattle.wk_tree_laws.specs.OnePass as pass;
@@ -9,10 +10,11 @@ ghost use Rattle.wk_tree_laws.specs.OnePass.{PassState, added, closed, met, met_
 ghost use Rattle.wk_tree_rules.specs.Reduction.{piece_of};
 ghost use Rattle.wk_tree_rules.specs.Tree.{item_of};
 ghost use Rattle.wk_tree_rules.specs.Trees.{Entry};
+ghost use Rattle.wk_tree_rules.specs.declared.AtomKind.TheVariants.{Byte};
 
 use crate::token::Token;
 use std::alloc::Global;
-use wk_lex::{Atom, AtomKind};
+use wk_lex::{Atom, AtomKind, Lexer};
 use wk_memory::Memory;
 
 /// How many nodes may stand within each other (own).
@@ -53,7 +55,7 @@ pub struct Matching {
     pub levels: Vec<Level>,
 }
 
-/// Appends plain text.
+/// Appends opening marks as plain text, with a token for each mark.
 fn push_plain(tokens: &mut Vec<Token>, start: u32, len: u32) -> Result<(), Memory>
     ensures { OnOk result (tokens.new.items ≡ tokens.old.items ++ plain_tokens start len) }
 {
@@ -204,7 +206,10 @@ fn make_brackets(matching: &mut Matching, level: &Level, run: Run) -> Result<Run
     };
     split(matching, level, taken, token)?;
     plain_bars(&mut matching.tokens, &mut matching.bars, level.bars);
-    push_plain(&mut matching.tokens, run.end.saturating_sub(run.count), 2)?;
+    matching.tokens.push(Token::Plain {
+        start: run.end.saturating_sub(run.count),
+        len: 2,
+    })?;
     raise(&mut matching.levels, level.height);
     Ok(Run {
         brackets: run.brackets,
@@ -244,11 +249,10 @@ fn find_way(level: &Level, run: &Run) -> Way
 fn make_plain(matching: &mut Matching, run: Run) -> Result<Run, Memory>
     ensures { IfOk result (λ left. (seen : PassState) → IsKept seen matching.old → run.count ≤ run.end → MeetsAs (met_as_plain (as_run run) seen) matching.new left) }
 {
-    push_plain(
-        &mut matching.tokens,
-        run.end.saturating_sub(run.count),
-        run.count,
-    )?;
+    matching.tokens.push(Token::Plain {
+        start: run.end.saturating_sub(run.count),
+        len: run.count,
+    })?;
     Ok(Run {
         brackets: run.brackets,
         count: 0,
@@ -303,7 +307,10 @@ fn close(matching: &mut Matching, run: Run) -> Result<(), Memory>
         left = meet_again(matching, left)?;
     }
     if left.count == 1 {
-        push_plain(&mut matching.tokens, left.end.saturating_sub(1), 1)?;
+        matching.tokens.push(Token::Plain {
+            start: left.end.saturating_sub(1),
+            len: 1,
+        })?;
     }
     Ok(())
 }
@@ -345,7 +352,7 @@ fn run_at(text: &[u8], atom: &Atom) -> Run
 fn step(matching: &mut Matching, text: &[u8], atom: &Atom) -> Result<(), Memory>
     requires within { IsWithin (length text.now) atom.now }
     requires short { length text.now < 2 ^ 32 }
-    ensures { OnOk result ((seen : PassState) → IsKept seen matching.old → IsRunWhereMarks text.now atom.now
+    ensures { OnOk result ((seen : PassState) → IsKept seen matching.old → IsRunWhereMarks text.now atom.now → (atom.now.kind ≡ Byte → IsOneText (source_in text.now atom.now))
         → IsKept (passed seen (piece_of (span_of text.now atom.now) ∷ [])) matching.new) }
 {
     let start = atom.start;
@@ -368,7 +375,7 @@ fn step(matching: &mut Matching, text: &[u8], atom: &Atom) -> Result<(), Memory>
             Ok(())
         }
         AtomKind::Byte => {
-            push_plain(&mut matching.tokens, start, len)?;
+            matching.tokens.push(Token::Plain { start, len })?;
             Ok(())
         }
         AtomKind::Sealed => {
@@ -382,21 +389,22 @@ fn step(matching: &mut Matching, text: &[u8], atom: &Atom) -> Result<(), Memory>
     }
 }
 
-/// The tokens of a text by its atoms. Bars and equals signs outside nodes are plain text.
-pub fn matched(alloc: Global, text: &[u8], atoms: &[Atom]) -> Result<Vec<Token>, Memory>
-    requires within { All (IsWithin (length text.now)) atoms.now }
-    requires runs { All (IsRunWhereMarks text.now) atoms.now }
+/// The tokens of a text, by the atoms of it that are to come. Bars and equals signs outside nodes are plain text. No
+/// text has more tokens than bytes.
+pub fn matched(alloc: Global, text: &[u8], atoms: Lexer) -> Result<Vec<Token>, Memory>
+    requires whole { atoms.text ≡ text.now }
     requires short { length text.now < 2 ^ 32 }
-    ensures { IfOk result (λ tokens. tokens.items
-        ≡ items_tokens (map item_of (pieces_seen (passed nothing_seen (map piece_of (map (span_of text.now) atoms.now)))))) }
+    ensures { IfOk result (λ tokens. laid tokens.items
+        ≡ laid (items_tokens (map item_of (pieces_seen (passed nothing_seen (map piece_of atoms.entry.atoms)))))) }
 {
+    let mut ahead = atoms;
     let mut matching = Matching {
-        tokens: Vec::new(alloc),
+        tokens: Vec::with_capacity(alloc, text.len())?,
         bars: Vec::new(alloc),
         levels: Vec::new(alloc),
     };
-    for atom in atoms {
-        step(&mut matching, text, atom)?;
+    while let Some(atom) = ahead.next() {
+        step(&mut matching, text, &atom)?;
     }
     plain_bars(&mut matching.tokens, &mut matching.bars, 0);
     Ok(matching.tokens)

@@ -1,6 +1,6 @@
 //! A text that is parsed.
 ghost use Rattle.std.specs.Prelude.{◌≡◌, ◌+◌, ◌<◌, ◌^◌, length, map, reverse, option_map, unwrap_or, Some, IfOk, IfSome, IsSome};
-ghost use Rattle.wk_tree.specs.Layout.{node_of, part_of};
+ghost use Rattle.wk_tree.specs.Layout.{laid, node_of, part_of};
 ghost use Rattle.wk_tree.specs.Parsed.{ParsedText, tree_of, nodes_of, source_of, node_with, part_with, list_with, IsPart, IsTextIn};
 ghost use Rattle.std.specs.List.{AllByRecursion};
 ghost use Rattle.wk_tree.specs.Shown.{ShowsItems, ShowsNode, ShowsPart};
@@ -17,17 +17,16 @@ use std::alloc::Global;
 use std::marker::Model;
 use std::slice;
 use wk_bytes::Text;
-use wk_lex::{Mode, lex, select};
+use wk_lex::{Lexer, Mode, select};
 use wk_memory::Memory;
 use wk_tree_laws::trees::{every_item_of_utf8_is_utf8, every_item_stands_where_it_says};
 
 /// The tokens of the text that is read.
 fn tokens_of(alloc: Global, mode: Mode, source: &[u8]) -> Result<Vec<Token>, Memory>
     requires { length source.now < 2 ^ 32 }
-    ensures { IfOk result (λ tokens. tokens.items ≡ items_tokens (map item_of (reduced (pieces_of mode source.now)))) }
+    ensures { IfOk result (λ tokens. laid tokens.items ≡ laid (items_tokens (map item_of (reduced (pieces_of mode source.now))))) }
 {
-    let atoms = lex(alloc, mode, source)?;
-    let tokens = matched(alloc, source, &atoms)?;
+    let tokens = matched(alloc, source, Lexer::new(mode, source))?;
     Ok(tokens)
 }
 

@@ -1,6 +1,6 @@
-use Rattle.std.proofs.Common.{◌≡◌, ◌∙◌, ◌+◌, ◌-◌, ◌<◌, ◌++◌, length, take, drop, ap, ap₂, arith}
+use Rattle.std.proofs.Common.{◌≡◌, ◌∙◌, ◌+◌, ◌-◌, ◌<◌, ◌++◌, ◌∷◌, [], length, take, drop, ap, ap₂, arith}
 use Rattle.wk_tree.specs.Matching.{as_run, plained, raised, tokens_by}
-use Rattle.wk_tree.specs.Tokens.{plain_tokens}
+use Rattle.wk_tree.specs.declared.token.Token.TheVariants.{Plain}
 use Rattle.wk_tree.specs.declared.matching.Level.{Level}
 use Rattle.wk_tree.proofs.MeetingLemmas.{brackets-kept, rest-is, slot-within}
 use Rattle.wk_tree_rules.specs.Trees.{row, row_height}
@@ -23,8 +23,8 @@ returns c = λ first top levels p long fits.
           p.fit p.tokens_are p.bars_are p.levels_are
           slot (ap (λ (l : Level). l.bars) p.level_is) (ap (λ (l : Level). l.run.brackets) p.level_is)
           (omega arith) (omega arith) (omega (arith, p.fit.0.long)) (omega (arith, p.fit.0.long)) height c.saturating_sub-2.ensures
-          (c.in_ok-push_plain.ensures
-          ∙ ap (λ t. t ++ plain_tokens c.saturating_sub-2.result 2) (c.plain_bars.ensures.tokens ∙ ap₂ (λ b t. plained (drop level.bars b) t) bars (c.in_ok-split.ensures.tokens within)))
+          (c.in_ok-push.ensures.items
+          ∙ ap (λ t. t ++ Plain c.saturating_sub-2.result 2 ∷ []) (c.plain_bars.ensures.tokens ∙ ap₂ (λ b t. plained (drop level.bars b) t) bars (c.in_ok-split.ensures.tokens within)))
           (c.plain_bars.ensures.bars ∙ ap (take level.bars) bars)
           (c.raise.ensures ∙ ap (raised level.height) c.in_ok-split.ensures.levels);
       left_is = rest-is c.args.run _ _ c.saturating_sub-3.ensures (omega arith) fits;

@@ -1,13 +1,24 @@
-use Rattle.wk_tree_rules.specs.declared.AtomKind.TheVariants.{LineComment}
+use Rattle.std.proofs.Common.{◌∙◌, subst}
+use Rattle.wk_lex.specs.Ahead.{IsNextAtom}
 use Rattle.wk_tree.proofs.AtomLemmas.{matched-begins, matched-more, matched-ends}
 use Rattle.wk_tree.proofs.matching.matched.Goals as goal
 
 pub loop-atom-init : goal.loop-atom-init
-loop-atom-init c = matched-begins (record { tokens = c.new.result; bars = c.new-2.result; levels = c.new-3.result }) c.new.ensures.items c.new-2.ensures.items c.new-3.ensures.items
+loop-atom-init c = record {
+  text = c.requires.whole;
+  matched =
+      matched-begins c.args.atoms.atoms (record { tokens = c.in_ok-with_capacity.field-0; bars = c.new.result; levels = c.new-2.result })
+      c.in_ok-with_capacity.ensures.items c.new.ensures.items c.new-2.ensures.items;
+}
 
 pub loop-atom-preserved : goal.loop-atom-preserved
-loop-atom-preserved c =
-    matched-more c.args.text.now c.args.atoms.now c.loop-atom.atom-index (record { kind = LineComment; start = 0; len = 0 }) c.loop-atom.matching c.step.new.matching c.loop-atom-test.true c.requires.runs c.loop-atom.invariant c.in_ok-step.ensures
+loop-atom-preserved c = record {
+  text = c.in-Some.ensures.text ∙ c.loop-atom.invariant.text;
+  matched =
+      matched-more c.args.text.now c.args.atoms.atoms c.loop-atom.ahead.atoms c.next.new.self.atoms c.in-Some.atom c.loop-atom.matching c.step.new.matching
+      (subst (λ t. IsNextAtom t c.loop-atom.ahead.atoms c.next.new.self.atoms c.in-Some.atom) c.loop-atom.invariant.text c.in-Some.ensures.atom)
+      c.loop-atom.invariant.matched c.in_ok-step.ensures;
+}
 
 pub returns : goal.returns
-returns c = matched-ends c.args.text.now c.args.atoms.now c.loop-atom.atom-index c.loop-atom.matching c.loop-atom-test.false c.loop-atom.invariant c.plain_bars.ensures.tokens
+returns c = matched-ends c.args.atoms.atoms c.loop-atom.ahead.atoms c.loop-atom.matching c.in_default.ensures.atom c.loop-atom.invariant.matched c.plain_bars.ensures.tokens

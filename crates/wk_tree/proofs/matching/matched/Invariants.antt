@@ -1,9 +1,12 @@
-use Rattle.std.proofs.Common.{take, map}
-use Rattle.wk_lex.specs.Spans.{span_of}
-use Rattle.wk_tree.specs.Matching.{IsKept}
-use Rattle.wk_tree_laws.specs.OnePass.{nothing_seen, passed}
-use Rattle.wk_tree_rules.specs.Reduction.{piece_of}
+use Rattle.std.proofs.Common.{◌≡◌, length}
+use Rattle.wk_tree.proofs.AtomLemmas.{AreMatched}
 use Rattle.wk_tree.proofs.matching.matched.Given as goal
 
 abbrev pub invariant-loop-atom : goal.invariant-loop-atom
-invariant-loop-atom l = IsKept (passed nothing_seen (map piece_of (map (span_of l.text) (take l.atom-index l.atoms)))) l.matching
+invariant-loop-atom l = record {
+  text : l.ahead.text ≡ l.text;
+  matched : AreMatched l.fn.atoms.atoms l.ahead.atoms l.matching;
+}
+
+abbrev pub decreases-loop-atom : goal.decreases-loop-atom
+decreases-loop-atom l = length l.ahead.atoms

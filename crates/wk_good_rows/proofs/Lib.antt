@@ -1,0 +1,10 @@
+pub mod Judging
+pub mod Lasts
+pub mod Namespaces
+pub mod Orders
+pub mod PageNumbers
+pub mod ParamsLaws
+pub mod Rules
+pub mod Sets
+pub mod Signed
+pub mod Texts

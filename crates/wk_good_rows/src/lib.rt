@@ -1,0 +1,15 @@
+//! Whether the rows of a store keep the rules of a good store, and where they break one.
+#![tactic(auto)]
+
+mod broken;
+mod history;
+mod jobs;
+mod links;
+mod normal;
+mod number;
+mod order;
+mod pages;
+mod revisions;
+mod titles;
+
+pub use broken::broken_rows;

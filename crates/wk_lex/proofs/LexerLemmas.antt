@@ -1,0 +1,153 @@
+-- Atoms that are read one after another.
+use Rattle.std.proofs.Common.{◌≡◌, ◌≢◌, ℕ, zero, suc, ◌+◌, ◌-◌, ◌<◌, ◌≤◌, ◌==◌, inl, inr, false, if◌then◌else◌, List, [], ◌∷◌, ◌++◌, length, get_or, take, drop, Option, None, refl, ap, ap₂, sym, subst, ◌∙◌, arith, append_assoc, length-drop, length-take}
+use Rattle.std.proofs.lemmas.Bool.Decides.{nat_tests}
+use Rattle.std.proofs.lemmas.List.{drop-drop, drop_more, take_more, get_or-drop}
+use Rattle.std.specs.Prelude.{slice_index_or}
+use Rattle.wk_text_rules.specs.Shapes.{Span}
+use Rattle.wk_tree_laws.proofs.AtomLemmas.{IsSourceOf, first_that_fits-each}
+use Rattle.wk_tree_laws.proofs.PieceLemmas.{all-back}
+use Rattle.wk_tree_rules.specs.Atoms.{after_newline, atom_shapes, atom_at, atoms}
+use Rattle.wk_tree_rules.specs.Tags.{line_of_comments}
+use Rattle.wk_tree_rules.specs.declared.AtomKind.{AtomKind}
+use Rattle.wk_tree_rules.specs.declared.AtomKind.TheVariants.{Byte}
+use Rattle.wk_tree_rules.specs.declared.Mode.{Mode}
+use Rattle.wk_lex.specs.Ahead.{atoms_from, byte_atoms, AreSources, IsNextAt, AreBytes}
+use Rattle.wk_lex.specs.Places.{EndsAt, byte_before}
+use Rattle.wk_lex.specs.Spans.{source_in, span_of, IsAtomAt, IsPlain, IsRunByKind}
+use Rattle.wk_lex.proofs.AtomSteps.{atom_from, run-by_kind}
+use Rattle.wk_lex.proofs.PlainLemmas.{plain-seen}
+use Rattle.wk_lex.proofs.SpanSteps.{get-is, spans_at-step}
+
+byte_atoms-append : (at : ℕ) (xs : List ℕ) (b : ℕ) → byte_atoms at (xs ++ b ∷ []) ≡ byte_atoms at xs ++ record { kind = Byte; start = at + length xs; source = b ∷ [] } ∷ []
+byte_atoms-append at [] b =
+    let same : at ≡ at + 0 = omega arith in
+    ap (λ n. record { kind = Byte; start = n; source = b ∷ [] } ∷ []) same
+byte_atoms-append at (x ∷ xs) b =
+    let same : at + 1 + length xs ≡ at + suc (length xs) = omega arith in
+    ap (λ t. record { kind = Byte; start = at; source = x ∷ [] } ∷ t) (byte_atoms-append (at + 1) xs b ∙ ap (λ n. byte_atoms (at + 1) xs ++ record { kind = Byte; start = n; source = b ∷ [] } ∷ []) same)
+
+module _ (mode : Mode) (text : List ℕ) where
+  pub atom-first : (at : ℕ) (next : AtomKind × ℕ) → IsAtomAt mode text at next → atoms_from mode text at ≡ span_of text (atom_from next.0 at next.1) ∷ atoms_from mode text next.1
+  atom-first at next here =
+      let left : length (atom_at mode (byte_before at text) (drop at text)).1 ≡ length text - next.1 = ap (λ (p : AtomKind × List ℕ). length p.1) here.fits ∙ length-drop next.1 text in
+      let kind : (atom_at mode (byte_before at text) (drop at text)).0 ≡ next.0 = ap (λ (p : AtomKind × List ℕ). p.0) here.fits in
+      spans_at-step (atom_at mode) text at next.1 here.within.0 here.within.1 left
+      ∙ ap (λ k. record { kind = k; start = at; source = take (next.1 - at) (drop at text) } ∷ atoms_from mode text next.1) kind
+
+  one-source : (at : ℕ) → at < length text → take ((at + 1) - at) (drop at text) ≡ get_or text at 0 ∷ []
+  one-source at within =
+      let one : (at + 1) - at ≡ 1 = omega arith in
+      ap (λ n. take n (drop at text)) one ∙ ap (take 1) (drop_more text at 0 within)
+
+  byte-first : (at : ℕ) → at < length text → IsAtomAt mode text at (Byte, at + 1) → atoms_from mode text at ≡ record { kind = Byte; start = at; source = get_or text at 0 ∷ [] } ∷ atoms_from mode text (at + 1)
+  byte-first at within here =
+      atom-first at (Byte, at + 1) here
+      ∙ ap (λ s. record { kind = Byte; start = at; source = s } ∷ atoms_from mode text (at + 1)) (one-source at within)
+
+  -- a byte
+  pub bytes-one : (at : ℕ) → IsAtomAt mode text at (Byte, at + 1) → AreBytes mode text at (at + 1)
+  bytes-one at here =
+      let within : at < length text = omega (arith, here.within.1) in
+      let source = one-source at within in
+      record {
+        atoms = byte-first at within here ∙ sym (ap (λ s. byte_atoms at s ++ atoms_from mode text (at + 1)) source);
+        joined = inl (ap length source);
+        within = here.within;
+      }
+
+  -- one byte more, where the first is no opening mark
+  pub bytes-more : (at end : ℕ) → IsPlain (get_or text at 0) → AreBytes mode text at end → IsAtomAt mode text end (Byte, end + 1) → AreBytes mode text at (end + 1)
+  bytes-more at end plain k here =
+      let n : ℕ = end - at in
+      let within : end < length text = omega (arith, here.within.1) in
+      let first : at < length text = omega (arith, k.within.0) in
+      let more : (end + 1) - at ≡ n + 1 = omega (arith, k.within.0) in
+      let place : at + n ≡ end = omega (arith, k.within.0) in
+      let part : List ℕ = take n (drop at text) in
+      let b : ℕ = get_or text end 0 in
+      let byte : get_or (drop at text) n 0 ≡ b = get_or-drop at text n 0 ∙ ap (λ k. get_or text k 0) place in
+      let source : take ((end + 1) - at) (drop at text) ≡ part ++ b ∷ [] =
+      ap (λ k. take k (drop at text)) more ∙ take_more (drop at text) n 0 (omega (arith, length-drop at text)) ∙ ap (λ x. part ++ x ∷ []) byte in
+      let long : at + length part ≡ end = omega (arith, length-take n (drop at text), length-drop at text) in
+      let behind : atoms_from mode text end ≡ record { kind = Byte; start = end; source = b ∷ [] } ∷ atoms_from mode text (end + 1) = byte-first end within here in
+      let lead : slice_index_or (take ((end + 1) - at) (drop at text)) 0 0 ≡ get_or text at 0 =
+      ap₂ (λ k xs. slice_index_or (take k xs) 0 0) (let s : (end + 1) - at ≡ suc n = omega (arith, k.within.0) in s) (drop_more text at 0 first) in
+      record {
+        atoms =
+            k.atoms
+            ∙ ap (λ t. byte_atoms at part ++ t) behind
+            ∙ sym (append_assoc (byte_atoms at part) (record { kind = Byte; start = end; source = b ∷ [] } ∷ []) (atoms_from mode text (end + 1)))
+            ∙ ap (λ s. (byte_atoms at part ++ record { kind = Byte; start = s; source = b ∷ [] } ∷ []) ++ atoms_from mode text (end + 1)) (sym long)
+            ∙ ap (λ t. t ++ atoms_from mode text (end + 1)) (sym (byte_atoms-append at part b))
+            ∙ ap (λ s. byte_atoms at s ++ atoms_from mode text (end + 1)) (sym source);
+        joined = inr (subst (λ x. x ≢ 123) (sym lead) plain.open_brace, subst (λ x. x ≢ 91) (sym lead) plain.open_bracket);
+        within = (omega (arith, k.within.0), here.within.1);
+      }
+
+  line-none : (at : ℕ) → 0 < at → at ≤ length text → get_or text (at - 1) 0 ≢ 10 → EndsAt (after_newline (byte_before at text) line_of_comments) text at None
+  line-none zero some within ne = absurd (omega arith)
+  line-none (suc k) some within ne =
+      let same : suc k - 1 ≡ k = omega arith in
+      let other : (get_or text k 0 == 10) ≡ false = not-newline k (subst (λ n. get_or text n 0 ≢ 10) same ne) in
+      record {
+        fits =
+            ap (λ o. after_newline o line_of_comments (drop (suc k) text)) (get-is text k (omega arith))
+            ∙ ap (λ t. if t then line_of_comments (drop (suc k) text) else None) other;
+        within = tt;
+      }
+    where
+      not-newline : (k : ℕ) → get_or text k 0 ≢ 10 → (get_or text k 0 == 10) ≡ false
+      not-newline k ne = grind (arith, nat_tests)
+
+  -- a plain byte that isn't the first of a line
+  pub byte-inside : (at : ℕ) → 0 < at → at < length text → get_or text (at - 1) 0 ≢ 10 → IsPlain (get_or text at 0) → IsAtomAt mode text at (Byte, at + 1)
+  byte-inside at some within ne plain = plain-seen mode text text at refl within (line-none at some (omega arith) ne) plain
+
+  -- ---- the next atom
+
+  pub atoms-all : atoms_from mode text 0 ≡ atoms mode text
+  unfolding atoms
+  atoms-all = refl
+
+  -- a byte that is an atom is one alone
+  byte-alone : (before : Option ℕ) (rest : List ℕ) → (atom_at mode before rest).0 ≡ Byte → atom_at mode before rest ≡ (Byte, drop 1 rest)
+  byte-alone before rest =
+      first_that_fits-each (λ (found : AtomKind × List ℕ). found.0 ≡ Byte → found ≡ (Byte, drop 1 rest)) (atom_shapes mode before) (Byte, drop 1 rest) rest (λ _. refl)
+      (λ _ _ e. absurd (cc), (λ _ _ e. absurd (cc), (λ _ _ e. absurd (cc), (λ _ _ e. absurd (cc), (λ _ _ e. absurd (cc), (λ _ _ e. absurd (cc), (λ _ _ e. absurd (cc), (λ _ _ e. absurd (cc), (λ _ _ e. absurd (cc), tt)))))))))
+
+  pub byte-here : (at : ℕ) (kind : AtomKind) (end : ℕ) → kind ≡ Byte → IsAtomAt mode text at (kind, end) → IsAtomAt mode text at (Byte, at + 1)
+  byte-here at kind end is here = record {
+    fits = byte-alone (byte_before at text) (drop at text) (ap (λ (p : AtomKind × List ℕ). p.0) here.fits ∙ is) ∙ ap (λ rest. (Byte, rest)) (drop-drop 1 at text);
+    within = (omega arith, omega (arith, here.within.0, here.within.1));
+  }
+
+  pub next-other : (at : ℕ) (kind : AtomKind) (end : ℕ) → kind ≢ Byte → IsAtomAt mode text at (kind, end) → IsNextAt mode text at (kind, end)
+  next-other at kind end other here =
+      let first = atom-first at (kind, end) here in
+      record {
+        within = here.within;
+        next = λ all.
+            let sources = subst AreSources first all in (
+              record {
+                within = record { some = omega (arith, here.within.0); bounded = omega (arith, here.within.0, here.within.1) };
+                marks = run-by_kind mode text kind (source_in text (atom_from kind at end)) sources.0;
+                bytes = λ is. absurd (other is);
+                other = λ _. first;
+              },
+              sources.1,
+            );
+      }
+
+  pub next-bytes : (at : ℕ) (kind : AtomKind) (end : ℕ) → kind ≡ Byte → AreBytes mode text at end → IsNextAt mode text at (kind, end)
+  next-bytes at kind end is k = record {
+    within = k.within;
+    next = λ all. (
+      record {
+        within = record { some = omega (arith, k.within.0); bounded = omega (arith, k.within.0, k.within.1) };
+        marks = subst (λ x. IsRunByKind x (source_in text (atom_from kind at end))) (sym is) tt;
+        bytes = λ _. (k.atoms, k.joined);
+        other = λ ne. absurd (ne is);
+      },
+      all-back (λ (s : Span AtomKind ℕ). IsSourceOf s.kind s.source) (byte_atoms at (take (end - at) (drop at text))) (atoms_from mode text end) (subst AreSources k.atoms all),
+    );
+  }

@@ -1,0 +1,16 @@
+use Rattle.std.proofs.Common.{◌-◌, ◌+◌, ◌<◌, ◌≤◌, length}
+use Rattle.wk_lex.specs.Ahead.{AreBytes}
+use Rattle.wk_lex.specs.Spans.{IsAtomAt}
+use Rattle.wk_tree_rules.specs.declared.AtomKind.TheVariants.{Byte}
+use Rattle.wk_tree_rules.specs.declared.Mode.{Mode}
+use Rattle.wk_lex.proofs.lexer.behind_bytes.Given as goal
+
+abbrev pub invariant-loop-end : goal.invariant-loop-end
+invariant-loop-end l = record {
+  place : l.at < l.end;
+  within : l.end ≤ length l.text;
+  bytes : (mode : Mode) → IsAtomAt mode l.text l.at (Byte, l.at + 1) → AreBytes mode l.text l.at l.end;
+}
+
+abbrev pub decreases-loop-end : goal.decreases-loop-end
+decreases-loop-end l = length l.text - l.end

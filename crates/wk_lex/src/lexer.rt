@@ -1,0 +1,99 @@
+//! The atoms of a text one after another.
+ghost use Rattle.std.specs.Prelude.{◌≡◌, ◌+◌, ◌<◌, ◌≤◌, ◌^◌, [], length, MatchOption};
+ghost use Rattle.wk_lex.specs.Ahead.{AreBytes, IsNextAt, IsNextAtom};
+ghost use Rattle.wk_lex.specs.Spans.{IsAtomAt};
+ghost use Rattle.wk_tree_rules.specs.Atoms.{atoms};
+ghost use Rattle.wk_tree_rules.specs.declared.AtomKind.TheVariants.{Byte};
+ghost use Rattle.wk_tree_rules.specs.declared.Mode.{Mode as ReadingMode};
+
+use crate::Atom;
+use crate::atoms::{atom_at, is_plain};
+use crate::tags::Tags;
+use std::marker::Model;
+use wk_tree_rules::{AtomKind, Mode};
+
+/// The place behind the byte at the place and the plain bytes that follow it, up to the end of a line. Behind a
+/// newline a line of comments may begin.
+fn behind_bytes(text: &[u8], at: usize) -> usize
+    requires { at < length text.now }
+    ensures { (mode : ReadingMode) → IsAtomAt mode text.now at (Byte, at + 1) → AreBytes mode text.now at result }
+{
+    let mut end = at + 1;
+    if !is_plain(text[at]) {
+        return end;
+    }
+    while end < text.len() && text[end - 1] != b'\n' && is_plain(text[end]) {
+        end += 1;
+    }
+    end
+}
+
+/// The kind of the atom that begins at the place, or of bytes as one, and the place behind it.
+fn next_at(tags: &mut Tags, mode: Mode, at: usize) -> (AtomKind, usize)
+    requires { at < length tags.old }
+    ensures next { IsNextAt mode tags.old at result }
+    ensures text { tags.new ≡ tags.old }
+{
+    let text = tags.text;
+    let (kind, end) = atom_at(tags, mode, at);
+    match kind {
+        AtomKind::Byte => (kind, behind_bytes(text, at)),
+        _ => (kind, end),
+    }
+}
+
+/// The atoms of a text that was selected, one after another from its start to its end. Bytes that stand together come
+/// as one atom. Contracts see the text, and the atoms of it that are still to come.
+#[derive(Drop)]
+pub struct Lexer<'a> {
+    mode: Mode,
+    text: &'a [u8],
+    tags: Tags<'a>,
+    at: usize,
+}
+
+impl<'a> Model for Lexer<'a> {
+    ghost use Rattle.std.specs.Prelude.{◌≡◌, ◌<◌, ◌≤◌, ◌^◌, length};
+    ghost use Rattle.wk_lex.specs.Ahead.{Ahead, atoms_from, AreSources};
+
+    ghost Value = { Ahead };
+
+    ghost view = { λ l. record { text = l.text.now; atoms = atoms_from l.mode l.text.now l.at } };
+
+    ghost invariant = { λ l. (l.tags ≡ l.text.now) × (l.at ≤ length l.text.now) × (length l.text.now < 2 ^ 32)
+        × AreSources (atoms_from l.mode l.text.now l.at) };
+}
+
+impl<'a> Lexer<'a> {
+    /// All atoms of the text are to come. Takes no memory.
+    pub fn new(mode: Mode, selected: &'a [u8]) -> Lexer<'a>
+        requires { length selected.now < 2 ^ 32 }
+        ensures { result ≡ record { text = selected.now; atoms = atoms mode selected.now } }
+    {
+        Lexer {
+            mode,
+            text: selected,
+            tags: Tags::new(selected),
+            at: 0,
+        }
+    }
+
+    /// The next atom, or bytes as one, or None where none is to come. Takes no memory; all calls together take time
+    /// that is linear in the text.
+    pub fn next(&mut self) -> Option<Atom>
+        ensures text { self.new.text ≡ self.old.text }
+        ensures atom { MatchOption result (self.old.atoms ≡ []) (IsNextAtom self.old.text self.old.atoms self.new.atoms) }
+    {
+        let start = self.at;
+        if self.text.len() <= start {
+            return None;
+        }
+        let (kind, end) = next_at(&mut self.tags, self.mode, start);
+        self.at = end;
+        Some(Atom {
+            kind,
+            start: start as u32,
+            len: (end - start) as u32,
+        })
+    }
+}

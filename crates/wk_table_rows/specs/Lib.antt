@@ -1,0 +1,1 @@
+pub use Rattle.wk_table_rules.specs.Rows

@@ -1,0 +1,8 @@
+//! The rows of the tables of a store, and copies of them whose texts are shared.
+#![tactic(auto)]
+
+mod rows;
+mod share;
+
+pub use rows::{CategoryRow, JobRow, LinkRow, PageRow, RedirectRow, RevisionRow, TableRows};
+pub use share::{Share, share_all};
