@@ -1,0 +1,112 @@
+// A keeper whose calls fail where it was told so.
+ghost use Rattle.std.specs.Prelude.{◌≡◌, ◌+◌, ◌≤◌, ◌==◌, ◌&&◌, ◌⊎◌, true, length, IfOk, IfSome, OnErr, OnOk, Some, is_some};
+ghost use Rattle.wk_base.specs.Calls.{IsNextToFail, after_failure, after_success, none_made};
+ghost use Rattle.wk_base.specs.Faults.{Rose};
+ghost use Rattle.wk_table_rules.specs.Changes.{applied, fits};
+ghost use Rattle.wk_keeper.specs.FailKeeper.{calls_of, inner_of};
+
+use crate::keeper::{Keeper, KeeperRefusal};
+use wk_base::Calls;
+use wk_tables::{Change, Tables};
+
+/// A keeper whose calls fail where it was told so; the others are those of the keeper within it. Calls of `load` and of
+/// `apply` are counted together, and a call that answers `Memory` isn't counted. It is whole where the keeper within is
+/// whole and none of its calls is to fail. Its count of faults is its own and that of the keeper within, added.
+#[derive(Drop)]
+pub struct FailKeeper<K> {
+    inner: K,
+    calls: Calls,
+}
+
+impl<K: Keeper> FailKeeper<K> {
+    /// The keeper, of which the calls with the numbers of `fail`, counted from 1, fail. Takes no memory.
+    pub fn new(inner: K, fail: Vec<u64>) -> FailKeeper<K>
+        ensures inner { inner_of result ≡ inner }
+        ensures calls { calls_of result ≡ none_made fail.items }
+    {
+        FailKeeper {
+            inner,
+            calls: Calls::new(fail),
+        }
+    }
+}
+
+impl<K: Keeper> Keeper for FailKeeper<K> {
+    ghost told = { λ k. K.told k.inner };
+
+    ghost faults = { λ k. K.faults k.inner + k.calls.failed };
+
+    ghost is_whole = { λ k. K.is_whole k.inner && length k.calls.to_fail == 0 };
+
+    /// The tables of the keeper within, unless this call is one that is to fail: then the keeper within isn't touched, and
+    /// only the counts change.
+    fn load(&mut self) -> Result<Tables, KeeperRefusal>
+        ensures given { IfOk result (λ tables. IfSome (K.told (inner_of self.old)) (λ kept. tables.tables ≡ kept)) }
+        ensures tables { K.told (inner_of self.new) ≡ K.told (inner_of self.old) }
+        ensures stays_whole { (K.is_whole (inner_of self.new) && length (calls_of self.new).to_fail == 0) ≡ (K.is_whole (inner_of self.old) && length (calls_of self.old).to_fail == 0) }
+        ensures never_falls { K.faults (inner_of self.old) + (calls_of self.old).failed ≤ K.faults (inner_of self.new) + (calls_of self.new).failed }
+        ensures whole { (K.is_whole (inner_of self.old) && length (calls_of self.old).to_fail == 0) ≡ true → K.faults (inner_of self.new) + (calls_of self.new).failed ≡ K.faults (inner_of self.old) + (calls_of self.old).failed }
+        ensures cause { result ≡ Err KeeperRefusal.Failed → Rose (K.faults (inner_of self.old) + (calls_of self.old).failed) (K.faults (inner_of self.new) + (calls_of self.new).failed) }
+
+        ensures fails { IsNextToFail (calls_of self.old) → result ≡ Err KeeperRefusal.Failed }
+        ensures failed { IsNextToFail (calls_of self.old) → calls_of self.new ≡ after_failure (calls_of self.old) }
+        ensures untouched { IsNextToFail (calls_of self.old) → inner_of self.new ≡ inner_of self.old }
+        ensures cause_within { result ≡ Err KeeperRefusal.Failed → IsNextToFail (calls_of self.old) ⊎ Rose (K.faults (inner_of self.old)) (K.faults (inner_of self.new)) }
+        ensures counted { OnOk result (calls_of self.new ≡ after_success (calls_of self.old)) }
+        ensures passed_on { ¬ IsNextToFail (calls_of self.old) → result ≡ Err KeeperRefusal.Failed → calls_of self.new ≡ after_success (calls_of self.old) }
+        ensures memory { result ≡ Err KeeperRefusal.Memory → calls_of self.new ≡ calls_of self.old }
+    {
+        if self.calls.is_next_to_fail() {
+            self.calls.fail();
+            return Err(KeeperRefusal::Failed);
+        }
+        match self.inner.load() {
+            Ok(tables) => {
+                self.calls.succeed();
+                Ok(tables)
+            }
+            Err(KeeperRefusal::Failed) => {
+                self.calls.succeed();
+                Err(KeeperRefusal::Failed)
+            }
+            Err(KeeperRefusal::Memory) => Err(KeeperRefusal::Memory),
+        }
+    }
+
+    /// Makes the change in the keeper within, unless this call is one that is to fail: then the keeper within isn't
+    /// touched, and only the counts change.
+    fn apply(&mut self, change: &Change) -> Result<(), KeeperRefusal>
+        requires { IfSome (K.told (inner_of self.old)) (λ kept. fits kept change.now ≡ true) }
+        ensures made { OnOk result (IfSome (K.told (inner_of self.old)) (λ kept. K.told (inner_of self.new) ≡ Some (applied kept change.now))) }
+        ensures refused { OnErr result (K.told (inner_of self.new) ≡ K.told (inner_of self.old)) }
+        ensures tells { is_some (K.told (inner_of self.new)) ≡ is_some (K.told (inner_of self.old)) }
+        ensures stays_whole { (K.is_whole (inner_of self.new) && length (calls_of self.new).to_fail == 0) ≡ (K.is_whole (inner_of self.old) && length (calls_of self.old).to_fail == 0) }
+        ensures never_falls { K.faults (inner_of self.old) + (calls_of self.old).failed ≤ K.faults (inner_of self.new) + (calls_of self.new).failed }
+        ensures whole { (K.is_whole (inner_of self.old) && length (calls_of self.old).to_fail == 0) ≡ true → K.faults (inner_of self.new) + (calls_of self.new).failed ≡ K.faults (inner_of self.old) + (calls_of self.old).failed }
+        ensures cause { result ≡ Err KeeperRefusal.Failed → Rose (K.faults (inner_of self.old) + (calls_of self.old).failed) (K.faults (inner_of self.new) + (calls_of self.new).failed) }
+
+        ensures fails { IsNextToFail (calls_of self.old) → result ≡ Err KeeperRefusal.Failed }
+        ensures failed { IsNextToFail (calls_of self.old) → calls_of self.new ≡ after_failure (calls_of self.old) }
+        ensures untouched { IsNextToFail (calls_of self.old) → inner_of self.new ≡ inner_of self.old }
+        ensures cause_within { result ≡ Err KeeperRefusal.Failed → IsNextToFail (calls_of self.old) ⊎ Rose (K.faults (inner_of self.old)) (K.faults (inner_of self.new)) }
+        ensures counted { OnOk result (calls_of self.new ≡ after_success (calls_of self.old)) }
+        ensures passed_on { ¬ IsNextToFail (calls_of self.old) → result ≡ Err KeeperRefusal.Failed → calls_of self.new ≡ after_success (calls_of self.old) }
+        ensures memory { result ≡ Err KeeperRefusal.Memory → calls_of self.new ≡ calls_of self.old }
+    {
+        if self.calls.is_next_to_fail() {
+            self.calls.fail();
+            return Err(KeeperRefusal::Failed);
+        }
+        match self.inner.apply(change) {
+            Ok(()) => {
+                self.calls.succeed();
+                Ok(())
+            }
+            Err(KeeperRefusal::Failed) => {
+                self.calls.succeed();
+                Err(KeeperRefusal::Failed)
+            }
+            Err(KeeperRefusal::Memory) => Err(KeeperRefusal::Memory),
+        }
+    }
+}
