@@ -10,6 +10,8 @@ mod number;
 mod order;
 mod pages;
 mod revisions;
+#[cfg(test)]
+mod tests;
 mod titles;
 
 pub use broken::broken_rows;

@@ -4,12 +4,11 @@ ghost use Rattle.wk_table_rules.specs.Changes.{no_links};
 ghost use Rattle.wk_tables.specs.Edits.{edit_of};
 ghost use Rattle.wk_tables.specs.Room.{edit_room, lists_room, room_for};
 
-use crate::rows::{JobRow, PageRow, RevisionRow};
-use crate::share::{Share, share_all};
 use std::alloc::Global;
 use std::marker::Model;
 use wk_bytes::Text;
 use wk_memory::Memory;
+use wk_table_rows::{JobRow, PageRow, RevisionRow, Share, share_all};
 use wk_title::Title;
 
 /// The link rows of one page, in five lists. What fits the tables of a good store has each list in the order of its

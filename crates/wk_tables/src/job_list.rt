@@ -7,11 +7,10 @@ ghost use Rattle.wk_tables.specs.Jobs.{KeepsJobs, holds, rows_in, slot_of};
 ghost use Rattle.wk_tables.specs.Rising.{IsRising};
 
 use crate::number::{Numbered, is_rising, place_in_order};
-use crate::rows::JobRow;
-use crate::share::Share;
 use std::alloc::Global;
 use std::marker::Model;
 use wk_memory::Memory;
+use wk_table_rows::{JobRow, Share};
 
 /// The place of a job: its number, and its row until it is taken away.
 #[derive(Debug, Drop)]

@@ -7,12 +7,12 @@ mod job_list;
 mod link_rows;
 mod links;
 mod number;
-mod rows;
-mod share;
 mod shared_rows;
 mod tables;
 
 pub use change::{Change, PageLists, RowEdit};
-pub use rows::{CategoryRow, JobRow, LinkRow, PageRow, RedirectRow, RevisionRow, TableRows};
-pub use tables::{Tables, apply, make_room};
+pub use tables::{Tables, apply, broken, make_room};
+pub use wk_table_rows::{
+    CategoryRow, JobRow, LinkRow, PageRow, RedirectRow, RevisionRow, TableRows,
+};
 pub use wk_table_rules::{BadStore, Reach};

@@ -6,9 +6,9 @@ ghost use Rattle.wk_table_rules.specs.Changes.{with_rows_of, link_row, category_
 ghost use Rattle.wk_tables.specs.Members.{member_of};
 
 use crate::number::Numbered;
-use crate::rows::{CategoryRow, LinkRow, RedirectRow};
 use wk_bytes::Text;
 use wk_memory::Memory;
+use wk_table_rows::{CategoryRow, LinkRow, RedirectRow};
 use wk_title::Title;
 
 impl Numbered for LinkRow {

@@ -11,12 +11,11 @@ ghost use Rattle.wk_tables.specs.Rising.{IsRising};
 use crate::change::PageLists;
 use crate::link_rows::{set_categories, set_links, set_redirect, take_end};
 use crate::number::{Numbered, is_rising, place_in_order};
-use crate::rows::{CategoryRow, LinkRow, PageRow, RedirectRow};
-use crate::share::share_all;
 use crate::shared_rows::{push_all, push_categories, push_links, push_redirect};
 use std::alloc::Global;
 use std::marker::Model;
 use wk_memory::Memory;
+use wk_table_rows::{CategoryRow, LinkRow, PageRow, RedirectRow, share_all};
 
 /// The rows of the five tables, in any order.
 #[derive(Debug, Drop)]

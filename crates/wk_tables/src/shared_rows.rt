@@ -4,10 +4,9 @@ ghost use Rattle.std.specs.Option.{option_to_list};
 ghost use Rattle.wk_table_rules.specs.Changes.{link_row, category_row, redirect_row};
 ghost use Rattle.wk_tables.specs.Members.{member_of};
 
-use crate::rows::{CategoryRow, LinkRow, RedirectRow};
-use crate::share::Share;
 use wk_bytes::Text;
 use wk_memory::Memory;
+use wk_table_rows::{CategoryRow, LinkRow, RedirectRow, Share};
 use wk_title::Title;
 
 /// Appends the rows.

@@ -3,6 +3,7 @@ ghost use Rattle.std.specs.Prelude.{◌≡◌, ◌+◌, ◌≤◌, ◌<◌, ◌=
 ghost use Rattle.std.specs.List.{All};
 ghost use Rattle.wk_table_rules.specs.Rows.{no_tables};
 ghost use Rattle.wk_table_rules.specs.Changes.{edited, edit_fits, fits, applied, namespace_of, with_page, add_revision, set_page, set_rows, add_job, set_job, drop_job, set_version};
+ghost use Rattle.wk_table_rules.specs.GoodStore.{first_broken};
 ghost use Rattle.wk_tables.specs.Edits.{edit_of};
 ghost use Rattle.wk_tables.specs.Room.{edit_room, room_for};
 ghost use Rattle.wk_tables.specs.PagesHeld.{ArePagesOf};
@@ -11,11 +12,12 @@ use crate::change::{Change, PageLists, RowEdit};
 use crate::job_list::JobList;
 use crate::links::{LinkRows, Links};
 use crate::number::{Numbered, place_of};
-use crate::rows::{JobRow, PageRow, RevisionRow, TableRows};
-use crate::share::share_all;
 use std::alloc::Global;
 use std::marker::Model;
+use wk_good_rows::broken_rows;
 use wk_memory::Memory;
+use wk_table_rows::{JobRow, PageRow, RevisionRow, TableRows, share_all};
+use wk_table_rules::BadStore;
 
 impl Numbered for PageRow {
     ghost number = { λ row. row.page_id };
@@ -276,6 +278,15 @@ fn put_page(pages: &mut Vec<PageRow>, links: &mut Links, place: Option<usize>, r
             pages.push_reserved(row);
         }
     }
+}
+
+/// The first rule of a good store that the tables break, and the least row that breaks it, counted from 1, or `None`
+/// exactly where they break none. `broken_rows` lists the rules.
+pub fn broken(alloc: Global, tables: &Tables) -> Result<Option<BadStore>, Memory>
+    ensures { IfOk result (λ bad. bad ≡ first_broken tables.now.tables) }
+{
+    let rows = tables.rows()?;
+    broken_rows(alloc, &rows)
 }
 
 /// Makes room for the change. The tables stay as they were, and the room stays until they change.
