@@ -32,6 +32,23 @@ pub enum Case {
     Append {
         times: u64,
     },
+    /// A page is added to a store so many times.
+    SetPage {
+        times: u64,
+    },
+    /// A revision is added to a store so many times.
+    AddRevision {
+        times: u64,
+    },
+    /// The link rows of a page are set so many times, in a store of so many pages with ten link rows each.
+    SetRows {
+        pages: usize,
+        times: usize,
+    },
+    /// The rules of a good store are tried on so many pages with ten link rows each.
+    Broken {
+        pages: u64,
+    },
 }
 
 /// N turns in all, on T threads.
@@ -52,8 +69,9 @@ pub struct Reading {
 
 pub const USAGE: &str = "wk_bench turns N T, with N from 0 to 10000000 and T from 1 to 64; or \
 wk_bench select|atoms|tree|links SORT SIZE ROUNDS, wk_bench same SIZE ROUNDS, wk_bench append TIMES, or \
-wk_bench http messages|head|body SIZE PIECE, with SIZE and PIECE up to 16777216, \
-and ROUNDS and TIMES from 1 to 1000000";
+wk_bench http messages|head|body SIZE PIECE, with SIZE and PIECE up to 16777216, or \
+wk_bench set_page|add_revision TIMES, wk_bench set_rows PAGES TIMES, wk_bench broken PAGES, \
+and ROUNDS, TIMES and PAGES from 1 to 1000000";
 
 /// The number, where the word is one between these.
 fn number(word: &str, least: u64, most: u64) -> Option<u64>
@@ -100,13 +118,22 @@ fn same_asked(words: &[String]) -> Option<Case> {
     Some(Case::Same { size, rounds })
 }
 
-/// How often the words behind a case's name ask to append.
-fn append_asked(words: &[String]) -> Option<Case> {
+/// The only word behind a case's name, as a number of times or pages.
+fn only_asked(words: &[String]) -> Option<u64> {
     if words.len() != 1 {
         return None;
     }
-    let times = number(&words[0], 1, 1_000_000)?;
-    Some(Case::Append { times })
+    number(&words[0], 1, 1_000_000)
+}
+
+/// The pages whose link rows are set, and how often, that the words behind a case's name ask for.
+fn set_rows_asked(words: &[String]) -> Option<Case> {
+    if words.len() != 2 {
+        return None;
+    }
+    let pages = number(&words[0], 1, 1_000_000)? as usize;
+    let times = number(&words[1], 1, 1_000_000)? as usize;
+    Some(Case::SetRows { pages, times })
 }
 
 /// The stream that the words behind a case's name ask for.
@@ -134,8 +161,20 @@ pub fn chosen(words: &[String]) -> Option<Case> {
         "tree" => Some(Case::Tree(reading_asked(others)?)),
         "links" => Some(Case::Links(reading_asked(others)?)),
         "same" => same_asked(others),
-        "append" => append_asked(others),
+        "append" => Some(Case::Append {
+            times: only_asked(others)?,
+        }),
         "http" => http_asked(others),
+        "set_page" => Some(Case::SetPage {
+            times: only_asked(others)?,
+        }),
+        "add_revision" => Some(Case::AddRevision {
+            times: only_asked(others)?,
+        }),
+        "set_rows" => set_rows_asked(others),
+        "broken" => Some(Case::Broken {
+            pages: only_asked(others)?,
+        }),
         _ => None,
     }
 }

@@ -5,6 +5,7 @@
 
 mod cases;
 mod reading;
+mod stores;
 mod texts;
 mod turns;
 mod values;
@@ -22,7 +23,7 @@ use wire::Stream;
 use wk_memory::Memory;
 
 /// What is run without words.
-const SMALL: [Case; 8] = [
+const SMALL: [Case; 12] = [
     Case::Turns(Turns {
         turns: 400,
         threads: 4,
@@ -57,6 +58,13 @@ const SMALL: [Case; 8] = [
         size: 10,
         piece: 100,
     },
+    Case::SetPage { times: 100 },
+    Case::AddRevision { times: 100 },
+    Case::SetRows {
+        pages: 20,
+        times: 10,
+    },
+    Case::Broken { pages: 20 },
 ];
 
 /// The words after the program's name.
@@ -104,6 +112,17 @@ fn worked<R: Threads + Wait + Sync>(
             piece,
         } => Ok(("http: messages", wire::fed(alloc, stream, size, piece)?)),
         Case::Append { times } => Ok(("append: bytes", values::appended(alloc, times)?)),
+        Case::SetPage { times } => Ok(("set_page: pages", stores::pages_added(alloc, times)?)),
+        Case::AddRevision { times } => {
+            Ok((
+                "add_revision: revisions",
+                stores::revisions_added(alloc, times)?,
+            ))
+        }
+        Case::SetRows { pages, times } => {
+            Ok(("set_rows: edits", stores::rows_set(alloc, pages, times)?))
+        }
+        Case::Broken { pages } => Ok(("broken: pages", stores::judged(alloc, pages)?)),
     }
 }
 

@@ -9,6 +9,8 @@ mod links;
 mod number;
 mod shared_rows;
 mod tables;
+#[cfg(test)]
+mod tests;
 
 pub use change::{Change, PageLists, RowEdit};
 pub use tables::{Tables, apply, broken, make_room};
