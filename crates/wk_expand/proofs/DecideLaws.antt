@@ -1,5 +1,5 @@
 -- What a title part calls, and the rules of a template, case by case.
-use Rattle.std.proofs.Common.{◌≡◌, ℕ, suc, ◌+◌, ◌-◌, ◌<◌, ◌≤◌, get_or, ◌==◌, Bool, true, false, ◌&&◌, List, [], ◌∷◌, ◌++◌, length, drop, find, codes, Option, Some, None, option_map, if◌then◌else◌, refl, sym, ap, ap₂, subst, ◌∙◌, arith, inl, inr, eqb-true, pos}
+use Rattle.std.proofs.Common.{◌≡◌, ℕ, ◌+◌, ◌-◌, ◌<◌, ◌≤◌, get_or, ◌==◌, Bool, true, false, List, [], ◌∷◌, ◌++◌, length, drop, find, codes, Option, Some, None, option_map, if◌then◌else◌, refl, sym, ap, ap₂, subst, ◌∙◌, arith, inl, inr, eqb-true, pos}
 use Rattle.std.specs.Bool.{nat_lt}
 use Rattle.std.specs.Char.{eq_ignore_ascii_case, to_ascii_lowercase}
 use Rattle.std.specs.List.{starts_with}
@@ -12,7 +12,7 @@ use Rattle.wk_text_rules.specs.Marked.{MarkedByte, plain, all_plain, plain_text_
 use Rattle.wk_text_rules.specs.Titles.{PageTitle, normal}
 use Rattle.wk_tree_rules.specs.Tree.{Part}
 use Rattle.wk_tree_rules.specs.Trees.{Item}
-use Rattle.wk_view_rules.specs.Expand.{function_output, template_output, page_output, template_as_written, inclusion, new_search, operand, switch_output, tested_title, existence_output, called_title, is_alone}
+use Rattle.wk_view_rules.specs.Expand.{function_output, template_output, page_output, template_as_written, inclusion, new_search, operand, switch_output, tested_title, existence_output, is_alone}
 use Rattle.wk_view_rules.specs.Expansions.{Expansion, Output, give}
 use Rattle.wk_view_rules.specs.Frames.{Frame}
 use Rattle.wk_view_rules.specs.Texts.{variable_text}

@@ -1,13 +1,9 @@
 -- The pages that include each other as a frame.
-use Rattle.std.proofs.Common.{◌≡◌, ℕ, suc, ◌-◌, ◌<◌, get_or, arith, Bool, true, false, ◌||◌, List, [], ◌∷◌, length, drop, reverse, Some, None, refl, sym, ap, ap₂, subst, ◌∙◌}
-use Rattle.std.specs.List.{list_any, slice_get}
-use Rattle.std.proofs.lemmas.List.{get_or-reverse, length-reverse, reverse-append}
-use Rattle.std.proofs.lemmas.List.Folds.{list_any-append}
-use Rattle.std.proofs.lemmas.Option.{slice_get-get_or}
+use Rattle.std.proofs.Common.{◌≡◌, ℕ, suc, Bool, ◌||◌, List, [], ◌∷◌, length, drop, refl, sym, ap, ap₂}
+use Rattle.std.specs.List.{list_any}
 use Rattle.wk_text_rules.specs.Titles.{PageTitle, title_eq}
 use Rattle.wk_tree.specs.Parsed.{ParsedText}
 use Rattle.wk_view_rules.specs.Frames.{Frame, is_within, bound}
-use Rattle.wk_args.specs.Args.{bound as bound_in}
 use Rattle.wk_expand.specs.State.{ShowsFrame, IsBindingIn, IsFrame}
 use Rattle.wk_expand.specs.Levels.{tree_in, look_in}
 use Rattle.wk_expand.specs.declared.state.Expander.{Expander}

@@ -9,7 +9,7 @@ use Rattle.wk_view_rules.specs.Expand.{included, redirected, included_text, incl
 use Rattle.wk_view_rules.specs.Expansions.{Expansion, Output, give, answer_to, charged, ◌>>=◌, most_depth}
 use Rattle.wk_view_rules.specs.Frames.{Frame, is_within}
 use Rattle.wk_view_rules.specs.Texts.{loop_error, depth_error, link_text}
-use Rattle.wk_view_rules.specs.Worlds.{Answer, PageText, Seen, page_of}
+use Rattle.wk_view_rules.specs.Worlds.{Answer, Seen, page_of}
 use Rattle.wk_view_rules.specs.declared.Kind.TheVariants.{Include}
 use Rattle.wk_expand.specs.Running.{goes, Stops, ComesTo}
 use Rattle.wk_expand.specs.declared.state.Expander.{Expander}

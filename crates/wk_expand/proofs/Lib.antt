@@ -5,14 +5,12 @@ pub mod DraftLaws
 pub mod ExistsLaws
 pub mod FrameLaws
 pub mod InclusionLaws
-pub mod LabelLaws
 pub mod LevelLaws
 pub mod ListLaws
 pub mod NodeLaws
 pub mod PageLaws
 pub mod PartLaws
 pub mod ReadLaws
-pub mod RedirectLaws
 pub mod RunLaws
 pub mod SeenLaws
 pub mod StepLaws

@@ -1,5 +1,5 @@
 -- Further parts of a node, as the code finds them.
-use Rattle.std.proofs.Common.{◌≡◌, ℕ, true, false, List, ◌++◌, codes, Option, Some, None, IsSome, refl, sym, ap, subst, ◌∙◌}
+use Rattle.std.proofs.Common.{◌≡◌, ℕ, true, false, List, ◌++◌, codes, Option, Some, None, IsSome, refl, ap, subst, ◌∙◌}
 use Rattle.std.specs.Option.{IfSome}
 use Rattle.wk_text_rules.specs.Marked.{all_plain}
 use Rattle.wk_text_rules.specs.Titles.{PageTitle}

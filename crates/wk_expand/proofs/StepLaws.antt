@@ -1,7 +1,6 @@
 -- What a step says of other sources.
-use Rattle.std.proofs.Common.{◌≡◌, true, [], ◌∷◌, Some, ap, subst, inl, inr, ◌∙◌}
+use Rattle.std.proofs.Common.{◌≡◌, [], ◌∷◌, Some, ap, subst, inl, inr, ◌∙◌}
 use Rattle.std.proofs.lemmas.Bool.{cases_Bool}
-use Rattle.std.specs.List.{All}
 use Rattle.std.proofs.lemmas.List.Elements.{All-head, All-tail}
 use Rattle.wk_text_rules.specs.Titles.{PageTitle, title_eq}
 use Rattle.wk_view_laws.proofs.PlanLemmas.{both_parts, kind_eq-true, title_eq-true}

@@ -1,10 +1,9 @@
 -- The rules of a `#switch`, item by item.
 use Rattle.std.proofs.Common.{◌≡◌, ℕ, suc, ◌+◌, ◌<◌, Bool, true, false, List, [], ◌∷◌, length, drop, Option, Some, None, IsSome, refl, sym, ap, ap₂, subst, ◌∙◌, get_or, arith}
 use Rattle.std.specs.List.{slice_get}
-use Rattle.std.specs.Option.{IfSome, option_and_then}
+use Rattle.std.specs.Option.{IfSome}
 use Rattle.std.proofs.Math.Seq.{drop-cons}
 use Rattle.std.proofs.lemmas.Option.{slice_get-get_or, slice_get_within}
-use Rattle.wk_text_rules.specs.Marked.{trimmed_output}
 use Rattle.wk_text_rules.specs.Titles.{PageTitle}
 use Rattle.wk_tree.specs.Parsed.{ParsedText, list_with, node_with, part_with, IsPart}
 use Rattle.wk_tree.specs.declared.item.ListId.{ListId}
@@ -20,7 +19,7 @@ use Rattle.wk_view_rules.specs.Worlds.{Seen}
 use Rattle.wk_view_rules.specs.declared.Turned.{Turned}
 use Rattle.wk_view_rules.specs.declared.Turned.TheVariants.{Result, Default, Pass}
 use Rattle.wk_expand.specs.Running.{ComesTo, IsSame, Stops, goes}
-use Rattle.wk_expand.specs.Searches.{HasDefault, behind_turned, search_of}
+use Rattle.wk_expand.specs.Searches.{HasDefault, behind_turned}
 use Rattle.wk_expand.specs.State.{current}
 use Rattle.wk_expand.specs.declared.search.Search.{Search as Found}
 use Rattle.wk_expand.specs.declared.state.Expander.{Expander}

@@ -13,4 +13,3 @@ pub mod Running
 pub mod Searches
 pub mod State
 pub mod Steps
-pub mod Targets

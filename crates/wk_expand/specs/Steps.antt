@@ -4,7 +4,7 @@ use Rattle.wk_text_rules.specs.Titles.{PageTitle}
 use Rattle.wk_view_rules.specs.Expansions.{Output}
 use Rattle.wk_view_rules.specs.Plans.{done, run}
 use Rattle.wk_view_rules.specs.Views.{text_plan}
-use Rattle.wk_view_rules.specs.Worlds.{Seen, of_seen}
+use Rattle.wk_view_rules.specs.Worlds.{Seen, ask, of_seen}
 use Rattle.wk_expand.specs.Drafts.{drafted}
 use Rattle.wk_expand.specs.Kept.{expanded_with}
 use Rattle.wk_expand.specs.Running.{needed, Stops}
@@ -37,3 +37,8 @@ IsDrafted seen page given (Err stop) = Stops (drafted (of_seen seen) page given)
 abbrev pub IsStep : PageTitle → Root → Seen → Step → Type 0
 IsStep page root seen (Done d) = IsDrafted seen page (given_text root) (Ok d)
 IsStep page root seen (Needs title kind) = needed (drafted (of_seen seen) page (given_text root)) ≡ Some (title, kind)
+
+-- What is needed wasn't seen.
+abbrev pub IsUnseen : Seen → Step → Type 0
+IsUnseen seen (Done d) = Unit {0}
+IsUnseen seen (Needs title kind) = ask (of_seen seen) title kind ≡ None

@@ -7,18 +7,19 @@ ghost use Rattle.wk_view_rules.specs.Worlds.{of_seen};
 ghost use Rattle.wk_expand.specs.Drafts.{IsDraft, drafted, turned_by};
 ghost use Rattle.wk_expand.specs.Kept.{expanded_with};
 ghost use Rattle.wk_expand.specs.State.{IsBegun};
-ghost use Rattle.wk_expand.specs.Steps.{Expands, IsDrafted, IsStep};
+ghost use Rattle.wk_expand.specs.Steps.{Expands, IsDrafted, IsStep, IsUnseen, given_text};
 
 use crate::answer::Counts;
 use crate::drafts::{Draft, Root, Step, Trees};
+use crate::laws::steps_tell_of_worlds;
 use crate::levels::Levels;
-use crate::redirect::redirect_target;
 use crate::seen::Seen;
 use crate::state::{Expander, Stop};
 use std::alloc::Global;
 use wk_bytes::Text;
 use wk_memory::Memory;
 use wk_out::Out;
+use wk_redirect::redirect_target;
 use wk_title::Title;
 use wk_tree::{Parsed, parse};
 use wk_tree_rules::Mode;
@@ -175,6 +176,16 @@ fn draft_page(alloc: Global, page: &Title, seen: &Seen) -> Result<Draft, Stop>
     }
 }
 
+/// Drafts what a root says.
+fn draft_root(alloc: Global, page: &Title, root: &Root, seen: &Seen) -> Result<Draft, Stop>
+    ensures { IsDrafted seen.now page.now (given_text root.now) result }
+{
+    match root {
+        Root::Page => draft_page(alloc, page, seen),
+        Root::Given(text) => draft_text(alloc, page, text, seen),
+    }
+}
+
 /// Drafts a page, or a given text in the place of its own (MediaWiki's Help:Templates): what it expands to in each world
 /// that answers as `seen` does.
 ///
@@ -187,13 +198,11 @@ pub fn draft(
     seen: &Seen,
     _trees: &mut Trees,
 ) -> Result<Step, Memory>
-    ensures { IfOk result (IsStep page.now root.now seen.now) }
+    ensures step { IfOk result (IsStep page.now root.now seen.now) }
+    ensures unseen { IfOk result (IsUnseen seen.now) }
 {
-    let drafted = match root {
-        Root::Page => draft_page(alloc, page, seen),
-        Root::Given(text) => draft_text(alloc, page, text, seen),
-    };
-    match drafted {
+    steps_tell_of_worlds();
+    match draft_root(alloc, page, root, seen) {
         Ok(draft) => Ok(Step::Done(draft)),
         Err(Stop::Needs(title, kind)) => Ok(Step::Needs(title, kind)),
         Err(Stop::Memory) => Err(Memory),

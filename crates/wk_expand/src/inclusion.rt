@@ -6,12 +6,12 @@ ghost use Rattle.wk_expand.specs.Inclusions.{Finds};
 ghost use Rattle.wk_expand.specs.Running.{IsSame};
 
 use crate::answer::Answer;
-use crate::redirect::redirect_target;
 use crate::seen::Seen;
 use crate::state::{Expander, Stop};
 use crate::texts::{depth_error, link_text, loop_error, node_error};
 use wk_bytes::Text;
 use wk_out::Out;
+use wk_redirect::redirect_target;
 use wk_title::Title;
 use wk_view_rules::Kind;
 

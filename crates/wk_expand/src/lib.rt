@@ -17,7 +17,6 @@ mod laws;
 mod levels;
 mod limits;
 mod reads;
-mod redirect;
 mod search;
 mod seen;
 mod shared_draft;

@@ -91,11 +91,6 @@ impl Seen {
         self.add(title, kind, answer)
     }
 
-    /// How many answers were seen. Takes no memory.
-    pub fn len(&self) -> usize {
-        self.answers.len()
-    }
-
     /// The reads with their marks, in order.
     pub(crate) fn marked(&self, alloc: Global) -> Result<Vec<Read>, Memory>
         ensures { IfOk result (λ reads. reads.items ≡ map marked self.now) }

@@ -1,4 +1,4 @@
-use Rattle.std.proofs.Common.{◌≡◌, List, Some, None, IsTrue, ap, subst, inl, inr}
+use Rattle.std.proofs.Common.{◌≡◌, Some, None, IsTrue, ap, subst, inl, inr}
 use Rattle.std.specs.List.{list_any}
 use Rattle.wk_text_rules.specs.Titles.{PageTitle}
 use Rattle.wk_view_rules.specs.Plans.{reads_of, IsDone}

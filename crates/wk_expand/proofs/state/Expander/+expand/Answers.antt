@@ -1,27 +1,25 @@
-use Rattle.std.specs.Option.{IfSome, option_and_then}
+use Rattle.std.specs.Option.{option_and_then}
 use Rattle.wk_text_rules.specs.Marked.{trimmed_output, all_plain}
-use Rattle.wk_view_rules.specs.Frames.{bound_to, Frame, binding_length, caller}
+use Rattle.wk_view_rules.specs.Frames.{bound_to, binding_length, caller}
 use Rattle.wk_view_rules.specs.Expand.{argument_value, expand, node_output, argument_output, template_output, operand, whole_part, function_output, included, with_bindings, template_as_written, Search as Rule, behind_bare_item, new_search, switch_output, trimmed_items, without_result}
 use Rattle.wk_expand.specs.Decisions.{Further}
 use Rattle.wk_expand.specs.State.{caller_tree, current, ShowsBindings}
 use Rattle.wk_expand.specs.declared.decide.Decision.TheVariants.{Gives, Operand, Equality, Switch, Written, Includes}
 use Rattle.wk_expand.proofs.ArgumentLaws.{binding-some, binding-none, argument-bound, argument-written, argument-default}
 use Rattle.wk_expand.proofs.TemplateLaws.{decided, decided-comes}
-use Rattle.std.proofs.Common.{rules, ◌≡◌, ◌<◌, ◌-◌, [], refl, ap, arith, true, false, sym, ◌∙◌, ◌≤◌, Some, None, length, subst, ◌++◌, List, codes, ◌+◌, ◌/◌, ◌∷◌, IsSome, drop}
+use Rattle.std.proofs.Common.{rules, ◌≡◌, ◌<◌, ◌-◌, [], refl, ap, arith, true, false, sym, ◌∙◌, ◌≤◌, Some, None, length, subst, ◌++◌, codes, ◌+◌, ◌/◌, ◌∷◌, IsSome, drop}
 use Rattle.std.proofs.lemmas.Result.{on_ok_weaker, err_from_is_err_and}
 use Rattle.wk_view_rules.specs.Expansions.{Output, give, ◌>>=◌, Expansion, argument_within_limit, charged, inclusion_within_limit}
 use Rattle.wk_view_rules.specs.Texts.{nesting_error, node_error}
 use Rattle.wk_expand.specs.Nodes.{opened, charged_node}
-use Rattle.wk_expand.specs.Running.{IsSame, ComesTo, Leads}
+use Rattle.wk_expand.specs.Running.{IsSame, ComesTo}
 use Rattle.wk_expand.proofs.RunLaws.{gives-then, leads-as, leads-on, frame-same, same-on, comes-bind, comes-in, stops-as, stops-bind, leads-err, gives-here, stops-on, comes-on, comes-itself, comes-out, same-itself}
-use Rattle.wk_expand.proofs.NodeLaws.{node-later, node-there, opened-more, title-is, title-there, kind-is, behind_title, node-is, kind-argument, kind-template, count-is, part-of, some_within, operand-by, then_trimmed, by_second, equality-is}
+use Rattle.wk_expand.proofs.NodeLaws.{node-later, node-there, opened-more, title-is, kind-is, behind_title, node-is, kind-argument, kind-template, count-is, part-of, some_within, operand-by, then_trimmed, by_second, equality-is}
 use Rattle.wk_tree.specs.Tokens.{is_argument}
 use Rattle.wk_tree_rules.specs.Tree.{title_part, further_parts, tree}
-use Rattle.std.specs.List.{slice_get}
 use Rattle.std.proofs.lemmas.Option.{slice_get_past}
 use Rattle.wk_tree.specs.Parsed.{node_with, part_with, list_with, ParsedText, tree_of}
 use Rattle.wk_expand.proofs.PartLaws.{some_of, some_part, part-is, named, bare, behind_name, whole-named, whole-bare, list-later, current-same}
-use Rattle.wk_text_rules.specs.Titles.{PageTitle}
 use Rattle.std.specs.Bool.{if◌then◌else◌}
 use Rattle.wk_text_rules.specs.Numerals.{same_output}
 use Rattle.wk_view_rules.specs.declared.Func.TheVariants.{IfEq}

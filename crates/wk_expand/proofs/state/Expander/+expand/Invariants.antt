@@ -1,5 +1,5 @@
 -- How the functions of an expansion come to an end: each opened node takes one from `left`.
-use Rattle.std.proofs.Common.{◌≡◌, ℕ, ◌+◌, ◌*◌, Some, drop}
+use Rattle.std.proofs.Common.{◌≡◌, ◌+◌, ◌*◌, Some, drop}
 use Rattle.wk_text_rules.specs.Titles.{PageTitle}
 use Rattle.wk_tree.specs.Parsed.{node_with}
 use Rattle.wk_tree_rules.specs.Tree.{Node, further_parts}

@@ -1,20 +1,13 @@
-use Rattle.std.proofs.Common.{[], ◌≡◌, ◌+◌, ◌/◌, true, false, Some, None, length, sym, ap, subst, refl, ◌∙◌}
-use Rattle.std.specs.Bool.{nat_le}
-use Rattle.std.proofs.lemmas.Result.{err_from_is_err_and, on_ok_weaker}
-use Rattle.wk_text_rules.specs.Titles.{is_virtual}
+use Rattle.std.proofs.Common.{[], ◌≡◌, Some, None, sym, ap, subst, refl, ◌∙◌}
+use Rattle.std.proofs.lemmas.Result.{on_ok_weaker}
 use Rattle.wk_tree_rules.specs.Redirects.{redirect_target}
-use Rattle.wk_view_rules.specs.Expand.{inclusion, included_text, included, redirected}
-use Rattle.wk_view_rules.specs.Expansions.{Output, give, most_depth}
-use Rattle.wk_view_rules.specs.Frames.{is_within}
-use Rattle.wk_view_rules.specs.Texts.{loop_error, link_text, depth_error, node_error}
-use Rattle.wk_view_rules.specs.declared.Kind.TheVariants.{Include}
-use Rattle.wk_expand.specs.Answers.{answer_of}
+use Rattle.wk_view_rules.specs.Expand.{included_text, included, redirected}
+use Rattle.wk_view_rules.specs.Expansions.{give}
+use Rattle.wk_view_rules.specs.Texts.{node_error}
 use Rattle.wk_expand.specs.Inclusions.{found_rest}
 use Rattle.wk_expand.specs.Running.{ComesTo, IsSame}
 use Rattle.wk_expand.specs.State.{progress_of}
-use Rattle.wk_expand.specs.declared.answer.Answer.{Answer}
-use Rattle.wk_expand.specs.declared.answer.Answer.TheVariants.{Page}
-use Rattle.wk_expand.proofs.RunLaws.{comes-as, comes-on, gives-here, gives-then, leads-err, leads-on, frame-same, same-on}
+use Rattle.wk_expand.proofs.RunLaws.{comes-as, gives-then, leads-on, frame-same, same-on}
 use Rattle.wk_expand.proofs.InclusionLaws.{included_text-by, redirect-comes}
 use Rattle.wk_expand.proofs.state.Expander.included_text.Goals as goal
 

@@ -1,20 +1,14 @@
-use Rattle.std.proofs.Common.{◌≡◌, ◌+◌, ◌/◌, true, false, Some, None, length, sym, ap, subst, refl, ◌∙◌}
-use Rattle.std.specs.Bool.{nat_le}
+use Rattle.std.proofs.Common.{◌≡◌, false, None, sym, subst, refl, ◌∙◌}
 use Rattle.std.proofs.lemmas.Result.{err_from_is_err_and}
-use Rattle.wk_text_rules.specs.Titles.{is_virtual}
-use Rattle.wk_tree_rules.specs.Redirects.{redirect_target}
-use Rattle.wk_view_rules.specs.Expand.{inclusion, included_text, included, redirected}
-use Rattle.wk_view_rules.specs.Expansions.{Output, give, most_depth}
+use Rattle.wk_view_rules.specs.Expand.{redirected}
 use Rattle.wk_view_rules.specs.Frames.{is_within}
-use Rattle.wk_view_rules.specs.Texts.{loop_error, link_text, depth_error, node_error}
-use Rattle.wk_view_rules.specs.declared.Kind.TheVariants.{Include}
+use Rattle.wk_view_rules.specs.Texts.{loop_error, link_text}
 use Rattle.wk_expand.specs.Answers.{answer_of}
 use Rattle.wk_expand.specs.Inclusions.{found_rest}
 use Rattle.wk_expand.specs.Running.{ComesTo}
-use Rattle.wk_expand.specs.State.{progress_of}
 use Rattle.wk_expand.specs.declared.answer.Answer.{Answer}
 use Rattle.wk_expand.specs.declared.answer.Answer.TheVariants.{Page}
-use Rattle.wk_expand.proofs.RunLaws.{comes-as, comes-on, gives-here, gives-then, leads-err, leads-on, frame-same}
+use Rattle.wk_expand.proofs.RunLaws.{gives-here, gives-then, leads-err}
 use Rattle.wk_expand.proofs.InclusionLaws.{redirected-loop, redirected-comes, redirected-stops, by_target}
 use Rattle.wk_expand.proofs.state.Expander.redirected.Goals as goal
 

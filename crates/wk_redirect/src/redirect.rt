@@ -5,7 +5,7 @@ ghost use Rattle.std.specs.Option.{option_copied};
 ghost use Rattle.wk_text_rules.specs.Blank.{trimmed_start};
 ghost use Rattle.wk_text_rules.specs.Shapes.{exactly, in_any_case, perhaps, up_to, without_byte};
 ghost use Rattle.wk_tree_rules.specs.Redirects.{is_target_byte, redirect_start, redirect_target, target_end};
-ghost use Rattle.wk_expand.specs.Targets.{target_in};
+ghost use Rattle.wk_redirect.specs.Targets.{target_in};
 
 use std::alloc::Global;
 use wk_memory::Memory;

@@ -1,6 +1,6 @@
 use Rattle.std.proofs.Common.{sym, ◌∙◌}
-use Rattle.wk_expand.proofs.LabelLaws.{label_found, newline_found, further_on, nothing_left}
-use Rattle.wk_expand.proofs.redirect.ends_label.Goals as goal
+use Rattle.wk_redirect.proofs.LabelLaws.{label_found, newline_found, further_on, nothing_left}
+use Rattle.wk_redirect.proofs.redirect.ends_label.Goals as goal
 
 pub returns-then-starts_with : goal.returns-then-starts_with
 returns-then-starts_with c =

@@ -1,6 +1,6 @@
 use Rattle.wk_lex.proofs.NameLemmas.{not-both}
-use Rattle.wk_expand.proofs.RedirectLaws.{name_stands, name_differs}
-use Rattle.wk_expand.proofs.redirect.behind_name.Goals as goal
+use Rattle.wk_redirect.proofs.RedirectLaws.{name_stands, name_differs}
+use Rattle.wk_redirect.proofs.redirect.behind_name.Goals as goal
 
 pub returns-then-eq_ignore_ascii_case : goal.returns-then-eq_ignore_ascii_case
 returns-then-eq_ignore_ascii_case c =

@@ -1,7 +1,7 @@
 use Rattle.std.proofs.Common.{Some, sym, ap, ◌∙◌}
 use Rattle.wk_tree_rules.specs.Redirects.{redirect_start}
-use Rattle.wk_expand.proofs.RedirectLaws.{inside_start, target_end_boundary, target_found}
-use Rattle.wk_expand.proofs.redirect.target_in.Goals as goal
+use Rattle.wk_redirect.proofs.RedirectLaws.{inside_start, target_end_boundary, target_found}
+use Rattle.wk_redirect.proofs.redirect.target_in.Goals as goal
 
 pub overflow_sub-start : goal.overflow_sub-start
 overflow_sub-start c =

@@ -15,8 +15,8 @@ use Rattle.wk_text_rules.specs.Titles.{PageTitle, normal, is_virtual}
 use Rattle.wk_text_rules.specs.Shapes.{Shape, exactly, in_any_case, run_of, word_by, ◌and_then◌, perhaps}
 use Rattle.wk_tree_rules.specs.Redirects.{blanks, redirect_start, redirect_target, is_target_byte, target_end, target_title}
 use Rattle.wk_lex.proofs.NameLemmas.{name_at-ends, name_at-none}
-use Rattle.wk_expand.proofs.LabelLaws.{and_false, both, rest_at}
-use Rattle.wk_expand.specs.Targets.{closed_target, target_in}
+use Rattle.wk_redirect.proofs.LabelLaws.{and_false, both, rest_at}
+use Rattle.wk_redirect.specs.Targets.{closed_target, target_in}
 
 -- ---- names
 

@@ -1,6 +1,6 @@
 use Rattle.std.proofs.Common.{true, false, Err, ap, sym, ◌∙◌}
-use Rattle.wk_expand.proofs.RedirectLaws.{no_target, no_title, title_found}
-use Rattle.wk_expand.proofs.redirect.redirect_target.Goals as goal
+use Rattle.wk_redirect.proofs.RedirectLaws.{no_target, no_title, title_found}
+use Rattle.wk_redirect.proofs.redirect.redirect_target.Goals as goal
 
 pub returns-in_default : goal.returns-in_default
 returns-in_default c = no_target c.args.text.now c.in_default.ensures

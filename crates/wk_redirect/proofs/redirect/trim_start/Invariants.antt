@@ -1,7 +1,7 @@
 use Rattle.std.proofs.Common.{length, ◌≡◌, ◌+◌, ◌-◌, ◌≤◌, drop}
 use Rattle.std.specs.List.{prefix_len}
 use Rattle.wk_text_rules.specs.Blank.{is_blank_byte}
-use Rattle.wk_expand.proofs.redirect.trim_start.Given as goal
+use Rattle.wk_redirect.proofs.redirect.trim_start.Given as goal
 
 abbrev pub invariant-loop-start : goal.invariant-loop-start
 invariant-loop-start l =
