@@ -1,0 +1,4 @@
+pub mod OrderLaws
+pub mod PrefixLaws
+pub mod RowLaws
+pub mod SpaceLaws
