@@ -14,6 +14,7 @@ use wk_memory::Memory;
 use wk_title::{Title, TitleRefusal, normalize};
 
 /// A page and its text. Its revision is one more than its place among the pages.
+#[derive(Drop)]
 struct Page {
     title: Title,
     text: Text,
