@@ -1,7 +1,7 @@
 -- Jobs in their places: what a change of a place does to the rows.
-use Rattle.std.proofs.Common.{◌≡◌, ℕ, zero, suc, ◌<◌, ◌≤◌, Bool, true, false, cond, ◌&&◌, eqb, ltb, List, [], ◌∷◌, ◌++◌, ◌+◌, ◌-◌, length, take, subst, get_or, set, map, Option, Some, None, refl, sym, ap, ◌∙◌, inl, inr, arith}
+use Rattle.std.proofs.Common.{◌≡◌, ℕ, zero, suc, ◌<◌, Bool, true, false, cond, ◌&&◌, eqb, ltb, List, [], ◌∷◌, ◌++◌, ◌+◌, ◌-◌, length, take, subst, get_or, set, map, Option, Some, None, refl, sym, ap, ◌∙◌, inl, inr, arith}
 use Rattle.std.specs.Prelude.{is_some, IfSome, IsTrue, ◌↔◌}
-use Rattle.std.specs.List.{All, cons_option, filter, filter_map, position}
+use Rattle.std.specs.List.{All, cons_option, filter, position}
 use Rattle.std.proofs.lemmas.Bool.{and_parts, and_from, cases_eq, cases_lt, eqb-true, ne_eqb, ltb-true, lt-ltb}
 use Rattle.std.proofs.lemmas.List.{append-nil, get_or_read, take_all, take_more}
 use Rattle.std.proofs.lemmas.List.Elements.{All-filter, All-map, All-push, All-set, All-take, filter_map-append}

@@ -1,18 +1,18 @@
 -- Links by page and in rows.
-use Rattle.std.proofs.Common.{◌≡◌, ℕ, zero, suc, ◌+◌, ◌-◌, ◌<◌, ◌≤◌, drop, reverse, ℤ, Bool, true, false, cond, eqb, ltb, ◌||◌, List, [], ◌∷◌, ◌++◌, length, get_or, map, set, Option, Some, None, refl, sym, ap, ◌∙◌, subst, inl, inr, arith}
-use Rattle.std.specs.Prelude.{IfSome, is_some, option_map, find, vec_len, vec_capacity, OnOk}
+use Rattle.std.proofs.Common.{◌≡◌, ℕ, zero, suc, ◌+◌, ◌-◌, ◌<◌, ◌≤◌, drop, reverse, ℤ, Bool, true, false, eqb, ltb, ◌||◌, List, [], ◌∷◌, ◌++◌, length, get_or, map, set, Option, Some, None, refl, sym, ap, ◌∙◌, subst, arith}
+use Rattle.std.specs.Prelude.{IfSome, is_some, option_map, find}
 use Rattle.std.specs.List.{All, flat_map, list_all, list_any, position}
 use Rattle.std.specs.Option.{option_to_list}
 use Rattle.std.proofs.lemmas.Bool.{and_parts, eqb-true, ltb-true}
-use Rattle.std.proofs.lemmas.List.{append-nil, append_assoc, drop_more, reverse-append, get_or_default, get_or-map, length-map, map-append, length-set}
+use Rattle.std.proofs.lemmas.List.{append-nil, append_assoc, drop_more, reverse-append, get_or-map, length-map, map-append}
 use Rattle.std.proofs.lemmas.List.Concat.{flat_map-append}
-use Rattle.std.proofs.lemmas.List.Elements.{All-cons, All-map, All-nil, All-push, All-set}
+use Rattle.std.proofs.lemmas.List.Elements.{All-cons, All-map, All-push, All-set}
 use Rattle.std.proofs.lemmas.List.Quantifiers.{all_pairs_push, position-Some}
 use Rattle.wk_table_rules.specs.Changes.{PageLinks, with_rows_of}
 use Rattle.wk_table_rules.specs.Rows.{CategoryColumns, LinkColumns, PageColumns, RedirectColumns}
 use Rattle.wk_tables.specs.Rising.{IsRising}
 use Rattle.wk_tables.specs.LinkLists.{AreOf, IsCut, LinkLists, PageRows, appended, joined, no_rows, rows_of_lists, with_page_rows}
-use Rattle.wk_tables.specs.LinkForms.{IsByPage, KeepsLinks, Sets, pages_held, rows_held}
+use Rattle.wk_tables.specs.LinkForms.{IsByPage, KeepsLinks, Sets, pages_held}
 use Rattle.wk_tables.specs.declared.links.Form.{Form}
 use Rattle.wk_tables.specs.declared.links.Form.TheVariants.{ByPage, InRows}
 use Rattle.wk_tables.proofs.FirstPlace.{position-None}

@@ -1,7 +1,5 @@
 -- What the edits of a change mean.
-use Rattle.std.specs.Prelude.{ℕ, List}
-use Rattle.wk_text_rules.specs.Titles.{PageTitle}
-use Rattle.wk_table_rules.specs.Changes.{Member, TableEdit, add_revision, set_page, set_rows, add_job, set_job, drop_job, set_version}
+use Rattle.wk_table_rules.specs.Changes.{TableEdit, add_revision, set_page, set_rows, add_job, set_job, drop_job, set_version}
 use Rattle.wk_tables.specs.declared.change.RowEdit.{RowEdit}
 use Rattle.wk_tables.specs.declared.change.RowEdit.TheVariants.{AddRevision, SetPage, SetRows, AddJob, SetJob, DropJob, SetVersion}
 

@@ -1,5 +1,5 @@
 -- The rows of the link tables and the redirect table, and those of one page among them.
-use Rattle.std.specs.Prelude.{◌≡◌, ℕ, ℤ, List, ◌++◌, [], length, map, Option, Some, None}
+use Rattle.std.specs.Prelude.{◌≡◌, ℕ, ℤ, List, ◌++◌, [], map, Option}
 use Rattle.std.specs.List.{All, flat_map}
 use Rattle.std.specs.Option.{option_to_list}
 use Rattle.wk_table_rules.specs.Rows.{LinkColumns, CategoryColumns, RedirectColumns}

@@ -187,14 +187,30 @@ fn jobs(alloc: Global, jobs: &[(u64, &'static str)]) -> Result<Vec<RowEdit>, Fai
 /// Two pages, of which the second links first, and three jobs.
 fn two_pages(alloc: Global) -> Result<Tables, Fail> {
     let mut tables = Tables::new(alloc);
-    make_all(alloc, &mut tables, saves(alloc, &[(1, 0, "A"), (2, 10, "T")])?)?;
-    make_all(alloc, &mut tables, links(alloc, &[(2, &["X", "Talk:Y"]), (1, &["Z"])])?)?;
-    make_all(alloc, &mut tables, jobs(alloc, &[(1, "A"), (2, "B"), (3, "C")])?)?;
+    make_all(
+        alloc,
+        &mut tables,
+        saves(alloc, &[(1, 0, "A"), (2, 10, "T")])?,
+    )?;
+    make_all(
+        alloc,
+        &mut tables,
+        links(alloc, &[(2, &["X", "Talk:Y"]), (1, &["Z"])])?,
+    )?;
+    make_all(
+        alloc,
+        &mut tables,
+        jobs(alloc, &[(1, "A"), (2, "B"), (3, "C")])?,
+    )?;
     Ok(tables)
 }
 
 /// Whether these are the rows of pagelinks: the page, and the target's namespace and key.
-fn has_links(alloc: Global, tables: &Tables, want: &[(u64, i64, &'static str)]) -> Result<bool, Fail> {
+fn has_links(
+    alloc: Global,
+    tables: &Tables,
+    want: &[(u64, i64, &'static str)],
+) -> Result<bool, Fail> {
     let rows = tables.rows()?;
     let mut links = Vec::new(alloc);
     for (from, namespace, key) in want {
@@ -231,7 +247,13 @@ fn rows_are_loaded_and_changed(rt: HostRuntime) -> Result<(), Fail> {
     make_all(alloc, &mut tables, saves(alloc, &[(3, 0, "B")])?)?;
     made(alloc, &mut tables, RowEdit::SetVersion(3))?;
     let copy = tables.copy()?;
-    assert!(rt; has_links(alloc, &copy, &[(1, 0, "V"), (1, 0, "W"), (2, 0, "X"), (2, 1, "Y")])?);
+    assert!(rt;
+        has_links(
+            alloc,
+            &copy,
+            &[(1, 0, "V"), (1, 0, "W"), (2, 0, "X"), (2, 1, "Y")]
+        )?
+    );
     assert_eq!(rt; copy.pages().len(), 3);
     assert_eq!(rt; copy.version(), 3);
     Ok(())

@@ -1,4 +1,4 @@
-use Rattle.std.proofs.Common.{◌≡◌, ◌≤◌, ◌-◌, ◌<◌, ◌∙◌, refl, false, take, length, vec_len, get_or, sym, ap, subst, arith}
+use Rattle.std.proofs.Common.{◌≡◌, ◌-◌, ◌<◌, ◌∙◌, refl, false, take, length, vec_len, sym, ap, subst, arith}
 use Rattle.std.specs.Prelude.{is_some}
 use Rattle.wk_tables.specs.Jobs.{KeepsJobs, rows_in}
 use Rattle.wk_tables.proofs.JobLaws.{KeepsJobs-take, rows_in-popped}

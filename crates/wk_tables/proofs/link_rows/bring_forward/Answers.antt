@@ -1,4 +1,4 @@
-use Rattle.std.proofs.Common.{◌∙◌, ◌≡◌, ◌++◌, List, take, drop, length, sym, ap, arith}
+use Rattle.std.proofs.Common.{◌∙◌, ◌≡◌, ◌++◌, List, take, drop, length, ap, arith}
 use Rattle.wk_tables.proofs.PageRowLaws.{as-items}
 use Rattle.wk_tables.proofs.link_rows.bring_forward.Goals as goal
 

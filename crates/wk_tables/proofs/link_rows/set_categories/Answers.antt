@@ -1,4 +1,4 @@
-use Rattle.std.proofs.Common.{◌∙◌, ltb, ap, arith, rules}
+use Rattle.std.proofs.Common.{◌∙◌, ltb, ap, arith}
 use Rattle.std.specs.List.{position_or_len}
 use Rattle.wk_tables.proofs.PageRowLaws.{rows-brought}
 use Rattle.wk_tables.proofs.link_rows.set_categories.Goals as goal

@@ -1,7 +1,7 @@
-use Rattle.std.proofs.Common.{◌≡◌, ◌≤◌, ◌∙◌, true, eqb, ap, sym, subst, rules, arith}
+use Rattle.std.proofs.Common.{◌≡◌, ◌∙◌, true, eqb, ap, sym, subst, rules, arith}
 use Rattle.std.specs.Prelude.{IfSome, Some}
 use Rattle.std.specs.List.{list_any}
-use Rattle.wk_tables.specs.LinkForms.{IsByPage, KeepsLinks, Sets, pages_held, rows_held}
+use Rattle.wk_tables.specs.LinkForms.{KeepsLinks, Sets, pages_held, rows_held}
 use Rattle.wk_tables.specs.LinkLists.{rows_of_lists, with_page_rows}
 use Rattle.wk_tables.specs.Room.{lists_room}
 use Rattle.wk_tables.proofs.LinkLaws.{AreOf-lists, IsByPage-set, joined-set, list_any-map, pages-set}

@@ -1,4 +1,4 @@
-use Rattle.std.proofs.Common.{◌<◌, ◌-◌, get_or, refl, sym, ap, subst, arith}
+use Rattle.std.proofs.Common.{◌-◌, refl, sym, subst, arith}
 use Rattle.std.proofs.lemmas.List.{get_or_read, take_all}
 use Rattle.wk_tables.specs.Rising.{IsRising}
 use Rattle.wk_tables.proofs.RisingLaws.{IsRising-more}

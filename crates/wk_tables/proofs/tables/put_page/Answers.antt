@@ -1,4 +1,4 @@
-use Rattle.std.proofs.Common.{◌∙◌, ap, sym}
+use Rattle.std.proofs.Common.{◌∙◌, sym}
 use Rattle.wk_tables.proofs.LinkLaws.{pages-renewed}
 use Rattle.wk_tables.proofs.tables.put_page.Goals as goal
 

@@ -1,4 +1,4 @@
-use Rattle.std.proofs.Common.{◌≡◌, ◌∙◌, ap, sym, subst, arith}
+use Rattle.std.proofs.Common.{◌∙◌, ap, sym, subst, arith}
 use Rattle.wk_tables.specs.Rising.{IsRising}
 use Rattle.wk_tables.specs.Jobs.{KeepsJobs, rows_in}
 use Rattle.wk_tables.proofs.JobLaws.{KeepsJobs-of, rows_in-slot_of}

@@ -1,5 +1,5 @@
-use Rattle.std.proofs.Common.{◌≡◌, ◌∙◌, ℤ, pos, eqb, get_or, to_z, of_z, w64, ap, sym, rules}
-use Rattle.std.specs.Prelude.{find, unwrap_or, option_map, Some}
+use Rattle.std.proofs.Common.{◌≡◌, ◌∙◌, pos, eqb, get_or, to_z, of_z, w64, ap, sym, rules}
+use Rattle.std.specs.Prelude.{unwrap_or, option_map}
 use Rattle.wk_tables.proofs.LinkLaws.{find-none, find-position}
 use Rattle.wk_tables.proofs.tables.Tables.namespace_of.Goals as goal
 
