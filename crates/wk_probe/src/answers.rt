@@ -1,6 +1,7 @@
 //! The answer to a line.
 
 use crate::atoms::{atoms_value, select_value};
+use crate::expansions::expand_value;
 use crate::links::links_value;
 use crate::members::{read, string_of};
 use crate::numerals::same_value;
@@ -26,6 +27,7 @@ fn answer(alloc: Global, bytes: &[u8]) -> Result<Value, Refusal> {
         Some("atoms") => atoms_value(alloc, &request),
         Some("tree") => tree_value(alloc, &request),
         Some("same") => same_value(&request),
+        Some("expand") => expand_value(alloc, &request),
         Some("links") => links_value(alloc, &request),
         Some("http") => http_value(alloc, &request),
         Some("params") => params_value(alloc, &request),

@@ -2,12 +2,12 @@
 
 use crate::members::add;
 use crate::refusal::Refusal;
+use crate::titles::shown_text;
 use serde_json::{Value, json};
 use std::alloc::Global;
 use wk_links::{Found, What, links};
 use wk_memory::Memory;
 use wk_out::Out;
-use wk_title::{Title, shown};
 
 /// The text of a run, and whether it is sealed.
 fn run_of(value: &Value) -> Option<(&str, bool)> {
@@ -45,13 +45,6 @@ fn output_of(alloc: Global, request: &Value) -> Result<Out, Refusal> {
     Ok(out)
 }
 
-/// The shown form of a title.
-fn shown_text(alloc: Global, title: &Title) -> Result<String, Memory> {
-    let mut text = String::new(alloc);
-    shown(title, &mut text)?;
-    Ok(text)
-}
-
 /// A link as an entry of the answer.
 fn found_value(alloc: Global, found: &Found) -> Result<Value, Memory> {
     let start = found.start as u64;
@@ -69,12 +62,17 @@ fn found_value(alloc: Global, found: &Found) -> Result<Value, Memory> {
     }
 }
 
-/// The links in the output.
-pub fn links_value(alloc: Global, request: &Value) -> Result<Value, Refusal> {
-    let out = output_of(alloc, request)?;
+/// The links in an output.
+pub fn links_in(alloc: Global, out: &Out) -> Result<Value, Memory> {
     let mut entries = Vec::new(alloc);
-    for found in &links(alloc, &out)? {
+    for found in &links(alloc, out)? {
         add(&mut entries, found_value(alloc, found)?)?;
     }
     Ok(Value::Array(entries))
+}
+
+/// The links in the output that is given.
+pub fn links_value(alloc: Global, request: &Value) -> Result<Value, Refusal> {
+    let out = output_of(alloc, request)?;
+    Ok(links_in(alloc, &out)?)
 }

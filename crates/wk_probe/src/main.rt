@@ -18,6 +18,17 @@
 //! - `{"op":"links","runs":[[T,S],..]}` asks for the links in an output, which is given by its runs: a text, and
 //!   whether it is sealed. The answer is a list of `[start,end,"page",shown]`, `[start,end,"member",shown,prefix]` or
 //!   `[start,end,"nothing"]`, where the end is the place behind the link.
+//! - `{"op":"expand","page":P,"pages":{T:TEXT,..}}` asks what the page P, a title, expands to, where these are all pages
+//!   that there are: titles and texts. With a member `text` it asks that of this text in the place of the page's own.
+//!   Revisions of the pages are numbered from 1 in the order of the bytes of the titles as they are written. The answer
+//!   is an object. `out` is the output's text, `runs` its runs and `found` the links in it, as for `links`; `reads` is a
+//!   list of `[title,kind,mark]` with the kinds `view`, `include` and `exists`; `counts` has what it cost: `argument`,
+//!   `exists`, `include` and `nodes`; `turned` is where the page redirects to, or `null`. Without a member `text` the
+//!   answer has `rows` too: the lists of titles `exists`, `links`, `redirect`, which has one or none, and `templates`,
+//!   and `members`, a list of `[category,sortkey,prefix]`. Titles are answered in their shown forms.
+//! - `{"op":"expand","page":P,"seen":[[T,KIND,A],..]}`, also with a member `text`, asks what is known by these answers,
+//!   each to another pair of a title and a kind. A is `[revision,text]`, or `null` where the page is missing; of
+//!   existence it is `true` or `false`. Where they are too few, the answer is `{"needs":[title,kind]}`.
 //! - `{"op":"http","pieces":[T,..]}` asks for the messages of a connection whose bytes come in these pieces: each
 //!   character, which is one of the first 256, is one byte. The answer is `{"end":E,"messages":[..]}`, where E is `peer`
 //!   between messages, `cut` within one, `closed` after a message that is the last, or `{"bad":STATUS}`. A message has
@@ -34,11 +45,15 @@
 
 mod answers;
 mod atoms;
+mod expansions;
 mod links;
 mod members;
 mod numerals;
+mod pages;
 mod refusal;
+mod rows;
 mod run;
+mod seen;
 mod titles;
 mod trees;
 mod wire;

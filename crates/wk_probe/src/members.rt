@@ -3,6 +3,7 @@
 use crate::refusal::Refusal;
 use serde_json::Value;
 use std::alloc::Global;
+use wk_bytes::Text;
 use wk_lex::Mode;
 use wk_memory::Memory;
 
@@ -49,6 +50,14 @@ pub fn mode_of(request: &Value) -> Result<Mode, Refusal> {
         Some("include") => Ok(Mode::Include),
         _ => Err(Refusal::NoMode),
     }
+}
+
+/// The text, to be shared.
+pub fn shared_text(alloc: Global, text: &str) -> Result<Text, Refusal> {
+    if text.len() as u64 >= 1 << 32 {
+        return Err(Refusal::TextTooLong);
+    }
+    Ok(Text::new(alloc, text)?)
 }
 
 /// Adds an entry to an answer that is a list.

@@ -42,6 +42,20 @@ pub enum Refusal {
     NoName,
     /// The members `a` and `b` aren't both strings.
     NoOperand,
+    /// No string is the member `page`, or it names no title.
+    NoPage,
+    /// No object of texts is the member `pages`.
+    NoPages,
+    /// A name in `pages` names no title.
+    PageWithoutTitle,
+    /// Two names in `pages` name one title.
+    SamePage,
+    /// The member `seen` is no list of titles, kinds and answers, each in the form of its kind.
+    NoSeen,
+    /// A text in `seen` names no title.
+    SeenWithoutTitle,
+    /// A title and a kind stand in `seen` twice.
+    SeenTwice,
 }
 
 impl From<Memory> for Refusal {
@@ -77,5 +91,13 @@ pub fn said(refusal: Refusal) -> &'static str {
         Refusal::NoPieces => "pieces is not a list of strings",
         Refusal::NoName => "name is missing or not a string",
         Refusal::NoOperand => "a or b is missing or not a string",
+        Refusal::NoPage => "page is missing, not a string or no title",
+        Refusal::NoPages => "pages is not an object of strings",
+        Refusal::PageWithoutTitle => "a name in pages is no title",
+        Refusal::SamePage => "two names in pages are one title",
+        Refusal::NoSeen =>
+            "seen is not a list of lists of a title, a kind and an answer of that kind",
+        Refusal::SeenWithoutTitle => "a title in seen is no title",
+        Refusal::SeenTwice => "a title and a kind are in seen twice",
     }
 }

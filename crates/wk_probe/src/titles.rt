@@ -8,10 +8,25 @@ use wk_memory::Memory;
 use wk_revs::kept;
 use wk_title::{Title, TitleRefusal, is_namespace, normalize, shown};
 
-/// A title as it is answered.
-fn title_value(alloc: Global, title: &Title) -> Result<Value, Memory> {
+/// The shown form of a title.
+pub fn shown_text(alloc: Global, title: &Title) -> Result<String, Memory> {
     let mut text = String::new(alloc);
     shown(title, &mut text)?;
+    Ok(text)
+}
+
+/// The title that a text names, with main as the default; none where it names none.
+pub fn title_of(alloc: Global, text: &str) -> Result<Option<Title>, Memory> {
+    match normalize(alloc, text, 0) {
+        Ok(title) => Ok(Some(title)),
+        Err(TitleRefusal::Illegal) => Ok(None),
+        Err(TitleRefusal::Memory) => Err(Memory),
+    }
+}
+
+/// A title as it is answered.
+fn title_value(alloc: Global, title: &Title) -> Result<Value, Memory> {
+    let text = shown_text(alloc, title)?;
     let ns = i64::from(title.ns());
     Ok(json!(in alloc; {"key": title.key(), "ns": ns, "shown": &text})?)
 }

@@ -3,11 +3,10 @@ ghost use Rattle.std.specs.Prelude.{IsSome};
 ghost use Rattle.wk_tree.specs.Parsed.{list_with, node_with, part_with};
 ghost use Rattle.wk_probe.specs.Known.{IsKnown};
 
-use crate::members::{add, mode_of, text_of};
+use crate::members::{add, mode_of, shared_text, text_of};
 use crate::refusal::Refusal;
 use serde_json::{Value, json};
 use std::alloc::Global;
-use wk_bytes::Text;
 use wk_tree::{Item, ListId, NodeId, Parsed, parse};
 
 /// How many calls deep the lists and nodes of a tree are shown: a tree has at most 100 nodes within each other, and
@@ -109,11 +108,7 @@ fn list_value(alloc: Global, parsed: &Parsed, list: ListId, left: usize) -> Resu
 /// The tree of the text.
 pub fn tree_value(alloc: Global, request: &Value) -> Result<Value, Refusal> {
     let mode = mode_of(request)?;
-    let text = text_of(request)?;
-    if text.len() as u64 >= 1 << 32 {
-        return Err(Refusal::TextTooLong);
-    }
-    let text = Text::new(alloc, text)?;
+    let text = shared_text(alloc, text_of(request)?)?;
     let parsed = parse(alloc, &text, mode)?;
     list_value(alloc, &parsed, parsed.root(), MOST_DEEP)
 }

@@ -1,0 +1,173 @@
+//! What a page, or a text in the place of its own, expands to.
+ghost use Rattle.std.specs.Prelude.{◌≡◌, IfOk, None};
+ghost use Rattle.wk_expand.specs.Steps.{given_text};
+ghost use Rattle.wk_probe.specs.Drafted.{IsOf};
+
+use crate::links::links_in;
+use crate::members::{add, shared_text, string_of};
+use crate::pages::{Pages, pages_of};
+use crate::refusal::Refusal;
+use crate::rows::rows_value;
+use crate::seen::{keep, kind_word, seen_of};
+use crate::titles::{shown_text, title_of};
+use serde_json::{Value, json};
+use std::alloc::Global;
+use wk_expand::{Counts, Draft, Kind, Read, Root, Seen, Step, Trees, draft};
+use wk_memory::Memory;
+use wk_out::Out;
+use wk_rows::rows;
+use wk_title::Title;
+
+/// How many answers are asked of the pages: no expansion reads more.
+const MOST_READS: u64 = 1_000_001;
+
+/// How many parsed texts are kept from one draft to the next.
+const MOST_TREES: usize = 16;
+
+/// The viewed page, which the member `page` names.
+fn viewed_page(alloc: Global, request: &Value) -> Result<Title, Refusal> {
+    let Some(text) = string_of(request, "page") else {
+        return Err(Refusal::NoPage);
+    };
+    match title_of(alloc, text)? {
+        Some(title) => Ok(title),
+        None => Err(Refusal::NoPage),
+    }
+}
+
+/// What is expanded: the member `text`, or without it the page itself.
+fn root_of(alloc: Global, request: &Value) -> Result<Root, Refusal> {
+    let Some(member) = request.get("text") else {
+        return Ok(Root::Page);
+    };
+    match member.as_str() {
+        Some(text) => Ok(Root::Given(shared_text(alloc, text)?)),
+        None => Err(Refusal::NoText),
+    }
+}
+
+/// The draft over the answers that the pages give, each where it is needed.
+fn drafted_over(alloc: Global, page: &Title, root: &Root, pages: &Pages) -> Result<Step, Memory>
+    ensures { IfOk result (IsOf root.now) }
+{
+    let mut trees = Trees::new(alloc, MOST_TREES)?;
+    let mut seen = Seen::new(alloc);
+    for _ in 0..MOST_READS {
+        match draft(alloc, page, root, &seen, &mut trees)? {
+            Step::Done(draft) => return Ok(Step::Done(draft)),
+            Step::Needs(title, kind) => {
+                let answer = pages.answer(&title, kind)?;
+                let _was_new = keep(&mut seen, title, kind, answer)?;
+            }
+        }
+    }
+    draft(alloc, page, root, &seen, &mut trees)
+}
+
+/// The draft over the answers of the member `seen`, or without it over those that the pages give.
+fn drafted(alloc: Global, request: &Value, page: &Title, root: &Root) -> Result<Step, Refusal>
+    ensures { IfOk result (IsOf root.now) }
+{
+    let Some(member) = request.get("seen") else {
+        let pages = pages_of(alloc, request)?;
+        return Ok(drafted_over(alloc, page, root, &pages)?);
+    };
+    let Some(entries) = member.as_array() else {
+        return Err(Refusal::NoSeen);
+    };
+    let seen = seen_of(alloc, entries.as_slice())?;
+    let mut trees = Trees::new(alloc, MOST_TREES)?;
+    Ok(draft(alloc, page, root, &seen, &mut trees)?)
+}
+
+/// What the expansion cost.
+fn counts_value(alloc: Global, counts: Counts) -> Result<Value, Memory> {
+    Ok(json!(in alloc; {
+        "argument": counts.argument,
+        "exists": counts.exists,
+        "include": counts.include,
+        "nodes": counts.nodes
+    })?)
+}
+
+/// What was read: titles, kinds and marks.
+fn reads_value(alloc: Global, reads: &[Read]) -> Result<Value, Memory> {
+    let mut entries = Vec::new(alloc);
+    for read in reads {
+        let title = shown_text(alloc, &read.title)?;
+        let kind = kind_word(read.kind);
+        add(&mut entries, json!(in alloc; [&title, kind, read.mark])?)?;
+    }
+    Ok(Value::Array(entries))
+}
+
+/// The runs of the output: texts, and whether they are sealed.
+fn runs_value(alloc: Global, out: &Out) -> Result<Value, Memory> {
+    let mut entries = Vec::new(alloc);
+    for (text, sealed) in out.runs() {
+        add(&mut entries, json!(in alloc; [text, sealed])?)?;
+    }
+    Ok(Value::Array(entries))
+}
+
+/// The shown form of a title, or `null` where there is none.
+fn title_or_null(alloc: Global, title: Option<&Title>) -> Result<Value, Memory> {
+    match title {
+        Some(title) => Ok(Value::String(shown_text(alloc, title)?)),
+        None => Ok(Value::Null),
+    }
+}
+
+/// What is answered of a draft, but for the rows of its page.
+fn draft_members(alloc: Global, draft: &Draft) -> Result<Value, Memory> {
+    let counts = counts_value(alloc, draft.counts())?;
+    let found = links_in(alloc, draft.out())?;
+    let reads = reads_value(alloc, draft.reads())?;
+    let runs = runs_value(alloc, draft.out())?;
+    let turned = title_or_null(alloc, draft.turned())?;
+    Ok(json!(in alloc; {
+        "counts": counts,
+        "found": found,
+        "out": draft.out().text(),
+        "reads": reads,
+        "runs": runs,
+        "turned": turned
+    })?)
+}
+
+/// Adds the rows of the draft's page to what is answered of it.
+fn add_rows(alloc: Global, draft: &Draft, value: &mut Value) -> Result<(), Memory>
+    requires { draft.now.given ≡ None }
+{
+    let rows = rows_value(alloc, &rows(alloc, draft)?)?;
+    if let Some(members) = value.as_object_mut() {
+        members.insert(String::from_str(alloc, "rows")?, rows)?;
+    }
+    Ok(())
+}
+
+/// A draft as it is answered.
+fn draft_value(alloc: Global, root: &Root, draft: &Draft) -> Result<Value, Memory>
+    requires { draft.now.given ≡ given_text root.now }
+{
+    let mut value = draft_members(alloc, draft)?;
+    match root {
+        Root::Page => add_rows(alloc, draft, &mut value)?,
+        Root::Given(_) => {}
+    }
+    Ok(value)
+}
+
+/// What a page, or a text in the place of its own, expands to; or what is needed for that and wasn't seen.
+pub fn expand_value(alloc: Global, request: &Value) -> Result<Value, Refusal> {
+    let page = viewed_page(alloc, request)?;
+    let root = root_of(alloc, request)?;
+    match drafted(alloc, request, &page, &root)? {
+        Step::Done(draft) => Ok(draft_value(alloc, &root, &draft)?),
+        Step::Needs(title, kind) => {
+            let title = shown_text(alloc, &title)?;
+            let kind = kind_word(kind);
+            Ok(json!(in alloc; {"needs": [&title, kind]})?)
+        }
+    }
+}
