@@ -1,6 +1,7 @@
 //! The words of a case.
 ghost use Rattle.std.specs.Prelude.{◌<◌, ◌≤◌, IfSome};
 
+use crate::drafts::{Page, page_named};
 use crate::texts::{Sort, sort_named};
 use crate::wire::{Stream, stream_named};
 
@@ -27,6 +28,11 @@ pub enum Case {
         stream: Stream,
         size: usize,
         piece: usize,
+    },
+    /// A page is drafted so many times.
+    Expand {
+        page: Page,
+        rounds: u64,
     },
     /// A short output is appended to another so many times.
     Append {
@@ -68,7 +74,8 @@ pub struct Reading {
 }
 
 pub const USAGE: &str = "wk_bench turns N T, with N from 0 to 10000000 and T from 1 to 64; or \
-wk_bench select|atoms|tree|links SORT SIZE ROUNDS, wk_bench same SIZE ROUNDS, wk_bench append TIMES, or \
+wk_bench select|atoms|tree|links SORT SIZE ROUNDS, wk_bench same SIZE ROUNDS, wk_bench append TIMES, \
+wk_bench expand infobox|calls|nesting ROUNDS, or \
 wk_bench http messages|head|body SIZE PIECE, with SIZE and PIECE up to 16777216, or \
 wk_bench set_page|add_revision TIMES, wk_bench set_rows PAGES TIMES, wk_bench broken PAGES, \
 and ROUNDS, TIMES and PAGES from 1 to 1000000";
@@ -136,6 +143,16 @@ fn set_rows_asked(words: &[String]) -> Option<Case> {
     Some(Case::SetRows { pages, times })
 }
 
+/// The page that the words behind a case's name ask to draft.
+fn expand_asked(words: &[String]) -> Option<Case> {
+    if words.len() != 2 {
+        return None;
+    }
+    let page = page_named(&words[0])?;
+    let rounds = number(&words[1], 1, 1_000_000)?;
+    Some(Case::Expand { page, rounds })
+}
+
 /// The stream that the words behind a case's name ask for.
 fn http_asked(words: &[String]) -> Option<Case> {
     if words.len() != 3 {
@@ -164,6 +181,7 @@ pub fn chosen(words: &[String]) -> Option<Case> {
         "append" => Some(Case::Append {
             times: only_asked(others)?,
         }),
+        "expand" => expand_asked(others),
         "http" => http_asked(others),
         "set_page" => Some(Case::SetPage {
             times: only_asked(others)?,

@@ -4,6 +4,7 @@
 #![tactic(auto)]
 
 mod cases;
+mod drafts;
 mod reading;
 mod stores;
 mod texts;
@@ -12,6 +13,7 @@ mod values;
 mod wire;
 
 use cases::{Case, Reading, Turns, USAGE, chosen};
+use drafts::Page;
 use std::alloc::Global;
 use std::process::ExitCode;
 use std::rt::Env;
@@ -23,7 +25,7 @@ use wire::Stream;
 use wk_memory::Memory;
 
 /// What is run without words.
-const SMALL: [Case; 12] = [
+const SMALL: [Case; 15] = [
     Case::Turns(Turns {
         turns: 400,
         threads: 4,
@@ -53,6 +55,18 @@ const SMALL: [Case; 12] = [
         rounds: 1,
     },
     Case::Append { times: 100 },
+    Case::Expand {
+        page: Page::Infobox,
+        rounds: 1,
+    },
+    Case::Expand {
+        page: Page::Calls,
+        rounds: 1,
+    },
+    Case::Expand {
+        page: Page::Nesting,
+        rounds: 1,
+    },
     Case::Http {
         stream: Stream::Messages,
         size: 10,
@@ -111,6 +125,10 @@ fn worked<R: Threads + Wait + Sync>(
             size,
             piece,
         } => Ok(("http: messages", wire::fed(alloc, stream, size, piece)?)),
+        Case::Expand { page, rounds } => Ok((
+            "expand: bytes",
+            drafts::drafted(alloc, page, rounds)?,
+        )),
         Case::Append { times } => Ok(("append: bytes", values::appended(alloc, times)?)),
         Case::SetPage { times } => Ok(("set_page: pages", stores::pages_added(alloc, times)?)),
         Case::AddRevision { times } => {
