@@ -1,8 +1,9 @@
 //! Drafts of long and hostile texts, over pages that are asked one after another; the expected values follow from the
 //! rules by hand.
-ghost use Rattle.std.specs.Prelude.{IfOk, IsTrue};
+ghost use Rattle.std.specs.Prelude.{◌≡◌, IfOk, IsTrue};
 ghost use Rattle.wk_view_rules.specs.Worlds.{fits_kind};
 ghost use Rattle.wk_expand.specs.Answers.{answer_of};
+ghost use Rattle.wk_expand.specs.Steps.{given_text};
 
 use crate::rows;
 use std::alloc::Global;
@@ -68,7 +69,9 @@ fn answer_to(pages: &[Page], title: &Title, kind: Kind) -> Result<Answer, Memory
 }
 
 /// The draft of what is asked, as the pages answer.
-fn settled(alloc: Global, pages: &[Page], root: &Root) -> Result<Draft, Fail> {
+fn settled(alloc: Global, pages: &[Page], root: &Root) -> Result<Draft, Fail>
+    ensures { IfOk result (λ draft. draft.given ≡ given_text root.now) }
+{
     let page = title(alloc, "P")?;
     let mut seen = Seen::new(alloc);
     let mut trees = Trees::new(alloc, 16)?;
@@ -99,8 +102,11 @@ fn long_inclusions_end_at_the_limit(rt: HostRuntime) -> Result<(), Fail> {
     let text = short(alloc, "{{Big}}{{Big}}")?;
     add_page(alloc, &mut pages, "P", text)?;
     let draft = settled(alloc, &pages, &Root::Page)?;
-    assert!(rt; draft.out().text().starts_with(big.as_str()));
-    assert_eq!(rt; &draft.out().text()[1_100_000..], "[[:Template:Big]]");
+    let Some(rest) = draft.out().text().strip_prefix(big.as_str()) else {
+        assert!(rt; false);
+        return Ok(());
+    };
+    assert_eq!(rt; rest, "[[:Template:Big]]");
     assert_eq!(rt; draft.counts().include, 1_100_000);
     let rows = rows(alloc, &draft)?;
     assert!(rt; rows.links == rows.templates);
@@ -232,7 +238,11 @@ fn drafts_are_shared(rt: HostRuntime) -> Result<(), Fail> {
         return Ok(());
     };
     assert_eq!(rt; turned.key(), "A_b");
-    assert_eq!(rt; other.draft().reads()[0].mark, 1);
+    let Some(read) = other.draft().reads().first() else {
+        assert!(rt; false);
+        return Ok(());
+    };
+    assert_eq!(rt; read.mark, 1);
     Ok(())
 }
 
