@@ -1,0 +1,4 @@
+pub mod Parts
+pub mod TicketsOut
+pub mod Room
+
