@@ -9,7 +9,7 @@ use Rattle.std.proofs.lemmas.Slice.Eq.{bytes_eq-Decides}
 use Rattle.wk_text_rules.specs.Titles.{PageTitle, title_eq, is_normal}
 use Rattle.wk_page_rules.specs.History.{Page, page_number}
 use Rattle.wk_page_rules.specs.Verdict.{max_pages}
-use Rattle.wk_table_rules.specs.Rows.{StoreTables, PageColumns, JobColumns}
+use Rattle.wk_table_rules.specs.Rows.{StoreTables, JobColumns}
 use Rattle.wk_table_rules.specs.JobTable.{FanParams, refresh_cmd, fan_cmd, fan_params}
 use Rattle.wk_table_rules.specs.Stored.{history_of, page_of_row}
 use Rattle.wk_table_rules.specs.GoodStore.{IsGood, is_good_job, job_bound, has_good_params, is_fan_params}
