@@ -12,7 +12,7 @@ use Rattle.wk_state_laws.proofs.Kept.{IsKept-none, IsKept-step, IsKept-reopened,
 use Rattle.wk_state_laws.proofs.GoodJobs.{IsKept-opened}
 use Rattle.wk_state_laws.proofs.ReadBack.{state-back, opened-is}
 
-IsKept-reached : (state : State) → IsReached state → IsKept state
+pub IsKept-reached : (state : State) → IsReached state → IsKept state
 IsKept-reached state empty = IsKept-none
 IsKept-reached state (loaded tables good) = IsKept-opened tables good
 IsKept-reached state (stepped {most = most} {state = before} {journal = journal} {event = event} served reached full made done) =
