@@ -3,12 +3,12 @@ use Rattle.std.specs.Prelude.{◌≡◌, ℕ, ◌+◌, ◌<◌, ◌≤◌, List,
 use Rattle.std.specs.List.{AllByRecursion}
 use Rattle.wk_text_rules.specs.Shapes.{Span}
 use Rattle.wk_tree_rules.specs.Tree.{Part, Node, further_parts}
-use Rattle.wk_tree_rules.specs.Trees.{Item, Row, empty_row, item_then, bar_then, equals_then, width, opening_braces, closing_braces, source_of, row_source, items_source}
+use Rattle.wk_tree_rules.specs.Trees.{Item, Content, empty_content, item_then, bar_then, equals_then, width, opening_braces, closing_braces, source_of, content_source, items_source}
 
 -- each span has elements, and starts where the one before it ends; the first starts at a place
-abbrev pub IsRowOfSpans : {K X : Type 0} → ℕ → List (Span K X) → Type 0
-IsRowOfSpans start [] = Unit {0}
-IsRowOfSpans start (span ∷ spans) = (span.start ≡ start) × (0 < length span.source) × IsRowOfSpans (start + length span.source) spans
+abbrev pub AreSpansAt : {K X : Type 0} → ℕ → List (Span K X) → Type 0
+AreSpansAt start [] = Unit {0}
+AreSpansAt start (span ∷ spans) = (span.start ≡ start) × (0 < length span.source) × AreSpansAt (start + length span.source) spans
 
 abbrev mutual
   -- an item that starts at a place, and so does each within it where those before it end
@@ -16,13 +16,13 @@ abbrev mutual
   IsItemAt at (Item.plain start source) = start ≡ at
   IsItemAt at (Item.sealed start source) = start ≡ at
   IsItemAt at (Item.nothing start source) = start ≡ at
-  IsItemAt at (Item.node kind start content) = (start ≡ at) × IsRowAt (at + width kind) content
+  IsItemAt at (Item.node kind start content) = (start ≡ at) × IsContentAt (at + width kind) content
 
-  pub IsRowAt : ℕ → Row → Type 0
-  IsRowAt at empty_row = Unit {0}
-  IsRowAt at (item_then i rest) = IsItemAt at i × IsRowAt (at + length (source_of i)) rest
-  IsRowAt at (bar_then start rest) = (start ≡ at) × IsRowAt (at + 1) rest
-  IsRowAt at (equals_then start rest) = (start ≡ at) × IsRowAt (at + 1) rest
+  pub IsContentAt : ℕ → Content → Type 0
+  IsContentAt at empty_content = Unit {0}
+  IsContentAt at (item_then i rest) = IsItemAt at i × IsContentAt (at + length (source_of i)) rest
+  IsContentAt at (bar_then start rest) = (start ≡ at) × IsContentAt (at + 1) rest
+  IsContentAt at (equals_then start rest) = (start ≡ at) × IsContentAt (at + 1) rest
 
 -- each item starts where the one before it ends; the first starts at a place
 abbrev pub AreItemsAt : ℕ → List Item → Type 0
@@ -50,7 +50,7 @@ IsItemIn text i = IsPartAt text (start_of i) (source_of i)
 -- items stand in the text one behind the other, the first at a place
 pub record AreItemsIn (text : List ℕ) (items : List Item) : Type 0 where
   pub at : ℕ
-  pub row : AreItemsAt at items
+  pub placed : AreItemsAt at items
   pub source : IsPartAt text at (items_source items)
 
 -- a part's value stands in the text at its start
@@ -59,7 +59,7 @@ IsValueIn text part = IsPartAt text part.start (items_source part.value)
 
 -- a node stands in the text where it says, and so do the values of its further parts
 pub record IsNodeIn (text : List ℕ) (n : Node) : Type 0 where
-  pub whole : IsPartAt text n.start (opening_braces n.kind ++ (row_source n.content ++ closing_braces n.kind))
+  pub whole : IsPartAt text n.start (opening_braces n.kind ++ (content_source n.content ++ closing_braces n.kind))
   pub values : AllByRecursion (IsValueIn text) (further_parts n.content)
 
 -- ---- plain text as long as it can be

@@ -1,6 +1,6 @@
 use Rattle.wk_tree_laws.proofs.OnePassLemmas.{passed-all}
 use Rattle.wk_tree_laws.proofs.TreeLemmas.{pieces_of-sound}
-use Rattle.wk_tree_laws.proofs.marks.one_pass_from_the_left_is_enough.Goals as goal
+use Rattle.wk_tree_laws.proofs.delimiters.one_pass_from_the_left_is_enough.Goals as goal
 use Rattle.wk_tree_rules.specs.Reduction.{pieces_of}
 
 pub returns : goal.returns
