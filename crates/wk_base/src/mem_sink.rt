@@ -1,5 +1,5 @@
 // A sink that keeps what it takes.
-ghost use Rattle.std.specs.Prelude.{◌≡◌, ◌↔◌, ◌⊎◌, ◌≤◌, ◌<◌, ◌-◌, ◌++◌, [], length, min, take, IfOk, IsErr, OnErr, Some};
+ghost use Rattle.std.specs.Prelude.{◌≡◌, ◌↔◌, ◌⊎◌, ◌≤◌, ◌<◌, ◌-◌, ◌++◌, [], length, min, take, IfOk, IsErr, OnErr, OnOk, Some};
 ghost use Rattle.std.specs.Io.KnownBytes.{WriteAppends};
 ghost use Rattle.wk_base.specs.Calls.{IsNextToFail, after_failure, after_success, none_made};
 ghost use Rattle.wk_base.specs.Faults.{Rose};
@@ -78,6 +78,7 @@ impl Sink for MemSink {
         ensures bytes { WriteAppends (Some self.old.taken) (Some self.new.taken) result piece.now }
         ensures count { IfOk result (λ n. (0 < n) × (n ≤ length piece.now)) }
         ensures never_falls { self.old.calls.failed ≤ self.new.calls.failed }
+        ensures no_fault { OnOk result (self.new.calls.failed ≡ self.old.calls.failed) }
         ensures cause { OnErr result (Rose self.old.calls.failed self.new.calls.failed) }
 
         ensures fails { IsErr result ↔ (IsNextToFail self.old.calls ⊎ (self.old.most ≤ length self.old.taken)) }

@@ -1,5 +1,5 @@
 // A source over bytes in memory.
-ghost use Rattle.std.specs.Prelude.{◌≡◌, ◌↔◌, ◌≤◌, ◌<◌, ◌++◌, drop, length, min, take, IfOk, IsErr, OnErr, Some};
+ghost use Rattle.std.specs.Prelude.{◌≡◌, ◌↔◌, ◌≤◌, ◌<◌, ◌++◌, drop, length, min, take, IfOk, IsErr, OnErr, OnOk, Some};
 ghost use Rattle.std.specs.Io.KnownBytes.{ReadConsumes};
 ghost use Rattle.wk_base.specs.Calls.{IsNextToFail, after_failure, after_success, none_made};
 ghost use Rattle.wk_base.specs.Faults.{Rose};
@@ -66,6 +66,7 @@ impl Source for MemSource {
         ensures bytes { ReadConsumes (Some self.old.rest) (Some self.new.rest) result room.new }
         ensures count { IfOk result (λ n. n ≤ length room.old) }
         ensures never_falls { self.old.calls.failed ≤ self.new.calls.failed }
+        ensures no_fault { OnOk result (self.new.calls.failed ≡ self.old.calls.failed) }
         ensures cause { OnErr result (Rose self.old.calls.failed self.new.calls.failed) }
 
         ensures fails { IsErr result ↔ IsNextToFail self.old.calls }

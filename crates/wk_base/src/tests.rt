@@ -1,5 +1,5 @@
-// What no clause says: that calls succeed, that sinks take pieces until all is written, and what the adapters do over
-// readers, writers and clocks whose bytes no clause tells.
+// What no clause says: that calls succeed, the text of a failure, that sinks take pieces until all is written, and what
+// the adapters do over readers, writers and clocks whose bytes no clause tells.
 use crate::*;
 use std::io::{Cursor, ErrorKind, Read, Write};
 use std::test::Fail;
@@ -152,6 +152,13 @@ fn writers_of_std(rt: HostRuntime) -> Result<(), Fail> {
     assert_eq!(rt; flaky.write(b"he"), Err(Failed));
     assert_eq!(rt; write_all(&mut flaky, b"hello"), Ok(()));
     assert_eq!(rt; flaky.faults(), 2);
+    Ok(())
+}
+
+#[test]
+fn the_text_of_a_failure(rt: HostRuntime) -> Result<(), Fail> {
+    let text = format!(in rt.alloc(); "{Failed}")?;
+    assert_eq!(rt; text.as_str(), "the outside failed");
     Ok(())
 }
 
