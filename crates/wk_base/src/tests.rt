@@ -1,4 +1,4 @@
-// What no clause says: that calls succeed, the text of a failure, that sinks take pieces until all is written, and what
+// What no clause says: that calls succeed, the texts of errors, that sinks take pieces until all is written, and what
 // the adapters do over readers, writers and clocks whose bytes no clause tells.
 use crate::*;
 use std::io::{Cursor, ErrorKind, Read, Write};
@@ -156,9 +156,10 @@ fn writers_of_std(rt: HostRuntime) -> Result<(), Fail> {
 }
 
 #[test]
-fn the_text_of_a_failure(rt: HostRuntime) -> Result<(), Fail> {
-    let text = format!(in rt.alloc(); "{Failed}")?;
-    assert_eq!(rt; text.as_str(), "the outside failed");
+fn the_texts_of_errors(rt: HostRuntime) -> Result<(), Fail> {
+    let alloc = rt.alloc();
+    assert_eq!(rt; Failed.to_string(alloc)?.as_str(), "the outside failed");
+    assert_eq!(rt; Memory.to_string(alloc)?.as_str(), "out of memory");
     Ok(())
 }
 

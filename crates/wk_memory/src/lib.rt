@@ -21,17 +21,3 @@ impl<T: Drop> From<AllocFailed<T>> for Memory {
         Memory
     }
 }
-
-#[cfg(test)]
-mod tests {
-    use super::*;
-    use std::test::Fail;
-
-    // What no clause says.
-    #[test]
-    fn the_text_of_want_of_memory(rt: HostRuntime) -> Result<(), Fail> {
-        let text = format!(in rt.alloc(); "{Memory}")?;
-        assert_eq!(rt; text.as_str(), "out of memory");
-        Ok(())
-    }
-}
