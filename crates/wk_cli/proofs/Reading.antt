@@ -85,7 +85,7 @@ cut_between before mid rest moments s points r q a b x y stop h read = record {
   whole = λ more. (
     lines_to_come r.cutter (read.read ++ more),
     ap (lines most_line) (append_assoc h.read read.read more) ∙ h.come (read.read ++ more)
-    ∙ ap (λ l. l ++ lines_to_come r.cutter (read.read ++ more)) (sym (append-nil h.done)),
+        ∙ ap (λ l. l ++ lines_to_come r.cutter (read.read ++ more)) (sym (append-nil h.done)),
   );
   part = part_join new_script s h.done [] before.moments mid.moments before.taken mid.taken mid.taken [] points points h.answers
       (nothing_in_part s mid.taken points points refl);

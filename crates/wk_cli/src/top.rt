@@ -29,7 +29,7 @@ fn is_script(words: &[String]) -> bool
 }
 
 /// The end of a run with this status.
-fn finished(status: u8, run: Run) -> Finish
+fn finish_with(status: u8, run: Run) -> Finish
     ensures status { result.status ≡ status }
     ensures points { result.points.items ≡ run.points.items }
 {
@@ -88,7 +88,7 @@ pub fn wiki_main<I: Source, O: Sink, C: Clock>(
     }
     let mut run = Run::new(alloc);
     match run.serve_all(alloc, input, output, clock) {
-        Ok(()) => finished(0, run),
-        Err(stop) => finished(stop.status(), run),
+        Ok(()) => finish_with(0, run),
+        Err(stop) => finish_with(stop.status(), run),
     }
 }

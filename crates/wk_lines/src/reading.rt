@@ -9,7 +9,7 @@ use wk_bytes::{Line, LineCutter};
 use wk_memory::Memory;
 
 /// What comes next of an input.
-#[derive(Debug, Drop)]
+#[derive(Debug, PartialEq, Eq, Drop)]
 pub enum NextLine {
     /// A line that ends with a newline.
     Inner(Line),
@@ -18,11 +18,7 @@ pub enum NextLine {
 }
 
 /// Reads once, and pushes what was read. Whether the input is at its end.
-fn fill<I: Source>(
-    cutter: &mut LineCutter,
-    total: &mut u64,
-    input: &mut I,
-) -> Result<bool, Stop>
+fn fill<I: Source>(cutter: &mut LineCutter, total: &mut u64, input: &mut I) -> Result<bool, Stop>
     ensures ok { IfOk result (Fills (record { cutter = cutter.old; total = total.old }) (record { cutter = cutter.new; total = total.new })
         (I.rest input.old) (I.rest input.new)) }
     ensures err { IfErr result (StopsReading (record { cutter = cutter.old; total = total.old })

@@ -51,6 +51,6 @@ pub returns-in-Last-clause-err : goal.returns-in-Last-clause-err
 returns-in-Last-clause-err g c =
     let h = c.lines.invariant in
     let read = subst (Gives c.lines.reader c.next.new.self (g.I.Source.rest c.lines.input) (g.I.Source.rest c.next.new.input)) c.in-Last.is c.in-Ok.ensures.ok in
-    last_stops c.serve_line-in-Last.result _ _ _
+    last_stops c.serve_line-in-Last.result _ _
     (λ first. (h.read ++ read.read, cut_last _ _ _ _ _ _ _ _ _ _ _ _ _ _ (line_in c.in-Last.line) h read first))
     c.serve_line-in-Last.ensures.err c.serve_line-in-Last.ensures.stops

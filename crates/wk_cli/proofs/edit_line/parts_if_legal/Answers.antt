@@ -1,6 +1,6 @@
 use Rattle.std.proofs.Common.{sym, ◌∙◌}
 use Rattle.wk_cli.proofs.EditLines.{title_ascii, text_ascii}
-use Rattle.wk_cli.proofs.edit_line.checked.Goals as goal
+use Rattle.wk_cli.proofs.edit_line.parts_if_legal.Goals as goal
 
 pub as_text-requires : goal.as_text-requires
 as_text-requires c = title_ascii c.args.cut.title.now (sym c.is_title.ensures ∙ c.if-not-is_title.false)
