@@ -1,9 +1,9 @@
 -- The jobs and the link rows of the worked examples on jobs.
 use Rattle.std.specs.Prelude.{ℕ, ◌==◌, List, [], ◌∷◌, Some, None, if◌then◌else◌}
 use Rattle.wk_text_rules.specs.Titles.{PageTitle}
-use Rattle.wk_table_rules.specs.declared.Reach.{Reach}
-use Rattle.wk_table_rules.specs.declared.Reach.TheVariants.{Text, Both}
-use Rattle.wk_table_rules.specs.Changes.{PageLinks, no_links}
+use Rattle.wk_row_rules.specs.declared.Reach.{Reach}
+use Rattle.wk_row_rules.specs.declared.Reach.TheVariants.{Text, Both}
+use Rattle.wk_row_rules.specs.PageRows.{PageRows, no_rows}
 use Rattle.wk_job_rules.specs.Jobs.{RefreshEntry, FanEntry, JobLists}
 use Rattle.wk_examples.specs.Stores.{title_a, title_b, title_t}
 
@@ -26,20 +26,20 @@ abbrev pub two_fans : JobLists
 two_fans = record three { fans = fan 4 title_t Text 3 ∷ fan 5 title_a Both 2 ∷ []; next = 6 }
 
 -- link rows with one title
-abbrev pub includes : PageTitle → PageLinks
-includes title = record no_links { templates = title ∷ [] }
+abbrev pub includes : PageTitle → PageRows
+includes title = record no_rows { templates = title ∷ [] }
 
-abbrev pub tests : PageTitle → PageLinks
-tests title = record no_links { exists = title ∷ [] }
+abbrev pub tests : PageTitle → PageRows
+tests title = record no_rows { exists = title ∷ [] }
 
-abbrev pub links_to : PageTitle → PageLinks
-links_to title = record no_links { links = title ∷ [] }
+abbrev pub links_to : PageTitle → PageRows
+links_to title = record no_rows { links = title ∷ [] }
 
 -- four pages that name Template:T, the second by a test of its existence, and a page that links to B
-abbrev pub stored : List PageLinks
+abbrev pub stored : List PageRows
 stored = includes title_t ∷ tests title_t ∷ includes title_t ∷ includes title_t ∷ links_to title_b ∷ []
 
-abbrev pub users_of_t : List PageLinks
+abbrev pub users_of_t : List PageRows
 users_of_t = includes title_t ∷ includes title_t ∷ includes title_t ∷ []
 
 -- the titles of pages 1 and 2

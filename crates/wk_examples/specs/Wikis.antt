@@ -3,9 +3,9 @@ use Rattle.std.specs.Prelude.{ℕ, List, [], ◌∷◌, ◌++◌, codes, false, 
 use Rattle.wk_text_rules.specs.Titles.{PageTitle}
 use Rattle.wk_page_rules.specs.History.{Revision, Page, History}
 use Rattle.wk_page_rules.specs.Verdict.{EditAsked, MostHeld}
-use Rattle.wk_table_rules.specs.declared.Reach.TheVariants.{Both}
+use Rattle.wk_row_rules.specs.declared.Reach.TheVariants.{Both}
 use Rattle.wk_table_rules.specs.Rows.{StoreTables, category_title, no_tables}
-use Rattle.wk_table_rules.specs.Changes.{PageLinks, no_links}
+use Rattle.wk_row_rules.specs.PageRows.{PageRows, no_rows}
 use Rattle.wk_job_rules.specs.Jobs.{RefreshEntry, FanEntry, JobLists}
 use Rattle.wk_state_rules.specs.States.{State}
 use Rattle.wk_state_rules.specs.Events.{Event, Save, Claim, Done, Back}
@@ -52,7 +52,7 @@ with_refreshes state refreshes =
 abbrev pub race_1 : State
 race_1 = record {
   history = history (written 1 0 11 (codes "{{T}}{{U}}") ∷ []) (at title_p 1 ∷ []);
-  stored = no_links ∷ [];
+  stored = no_rows ∷ [];
   jobs = jobs (waiting 1 1 ∷ []) [] 2;
 }
 
@@ -61,7 +61,7 @@ race_2 = record {
   history = history
       (written 1 0 11 (codes "{{T}}{{U}}") ∷ written 2 0 12 (codes "t1") ∷ [])
       (at title_p 1 ∷ at title_t 2 ∷ []);
-  stored = no_links ∷ no_links ∷ [];
+  stored = no_rows ∷ no_rows ∷ [];
   jobs = jobs (waiting 1 1 ∷ waiting 2 2 ∷ []) [] 3;
 }
 
@@ -70,7 +70,7 @@ race_3 = record {
   history = history
       (written 1 0 11 (codes "{{T}}{{U}}") ∷ written 2 0 12 (codes "t1") ∷ written 3 0 13 (codes "u1") ∷ [])
       (at title_p 1 ∷ at title_t 2 ∷ at title_u 3 ∷ []);
-  stored = no_links ∷ no_links ∷ no_links ∷ [];
+  stored = no_rows ∷ no_rows ∷ no_rows ∷ [];
   jobs = jobs (waiting 1 1 ∷ waiting 2 2 ∷ waiting 3 3 ∷ []) [] 4;
 }
 
@@ -103,11 +103,11 @@ race_10 = with_refreshes race_9 (waiting 1 1 ∷ [])
 abbrev pub race_11 : State
 race_11 = with_refreshes race_10 (held 1 1 11 ∷ [])
 
-abbrev pub includes_both : PageLinks
-includes_both = record no_links { templates = title_t ∷ title_u ∷ [] }
+abbrev pub includes_both : PageRows
+includes_both = record no_rows { templates = title_t ∷ title_u ∷ [] }
 
 abbrev pub race_12 : State
-race_12 = record (with_refreshes race_11 []) { stored = includes_both ∷ no_links ∷ no_links ∷ [] }
+race_12 = record (with_refreshes race_11 []) { stored = includes_both ∷ no_rows ∷ no_rows ∷ [] }
 
 abbrev pub race : List Event
 race =
@@ -122,7 +122,7 @@ test = codes "{{#ifexist:Q|y|n}}"
 abbrev pub tested_1 : State
 tested_1 = record {
   history = history (written 1 0 11 test ∷ []) (at title_p 1 ∷ []);
-  stored = no_links ∷ [];
+  stored = no_rows ∷ [];
   jobs = jobs (waiting 1 1 ∷ []) [] 2;
 }
 
@@ -130,8 +130,8 @@ abbrev pub tested_2 : State
 tested_2 = with_refreshes tested_1 (held 1 1 2 ∷ [])
 
 -- a title that is tested is linked too
-abbrev pub tests_q : PageLinks
-tests_q = record no_links { exists = title_q ∷ []; links = title_q ∷ [] }
+abbrev pub tests_q : PageRows
+tests_q = record no_rows { exists = title_q ∷ []; links = title_q ∷ [] }
 
 abbrev pub tested_3 : State
 tested_3 = record (with_refreshes tested_2 []) { stored = tests_q ∷ [] }
@@ -139,7 +139,7 @@ tested_3 = record (with_refreshes tested_2 []) { stored = tests_q ∷ [] }
 abbrev pub tested_4 : State
 tested_4 = record {
   history = history (written 1 0 11 test ∷ written 2 0 12 (codes "q") ∷ []) (at title_p 1 ∷ at title_q 2 ∷ []);
-  stored = tests_q ∷ no_links ∷ [];
+  stored = tests_q ∷ no_rows ∷ [];
   jobs = jobs (waiting 2 2 ∷ []) (fan 3 title_q Both 0 ∷ []) 4;
 }
 
@@ -165,7 +165,7 @@ includes_t = codes "{{T}}"
 abbrev pub users_1 : State
 users_1 = record {
   history = history (written 1 0 11 includes_t ∷ []) (at (title_n (codes "1")) 1 ∷ []);
-  stored = no_links ∷ [];
+  stored = no_rows ∷ [];
   jobs = jobs (waiting 1 1 ∷ []) [] 2;
 }
 
@@ -174,7 +174,7 @@ users_2 = record {
   history = history
       (written 1 0 11 includes_t ∷ written 2 0 11 includes_t ∷ [])
       (at (title_n (codes "1")) 1 ∷ at (title_n (codes "2")) 2 ∷ []);
-  stored = no_links ∷ no_links ∷ [];
+  stored = no_rows ∷ no_rows ∷ [];
   jobs = jobs (waiting 1 1 ∷ waiting 2 2 ∷ []) [] 3;
 }
 
@@ -183,7 +183,7 @@ users_3 = record {
   history = history
       (written 1 0 11 includes_t ∷ written 2 0 11 includes_t ∷ written 3 0 11 includes_t ∷ [])
       (at (title_n (codes "1")) 1 ∷ at (title_n (codes "2")) 2 ∷ at (title_n (codes "3")) 3 ∷ []);
-  stored = no_links ∷ no_links ∷ no_links ∷ [];
+  stored = no_rows ∷ no_rows ∷ no_rows ∷ [];
   jobs = jobs (waiting 1 1 ∷ waiting 2 2 ∷ waiting 3 3 ∷ []) [] 4;
 }
 
@@ -191,17 +191,17 @@ abbrev pub users_4 : State
 users_4 = with_refreshes users_3 (held 1 1 4 ∷ waiting 2 2 ∷ waiting 3 3 ∷ [])
 
 -- the template is missing: it stands among the rows, and as a link, since that is what the page shows
-abbrev pub misses_t : PageLinks
-misses_t = record no_links { templates = title_t ∷ []; links = title_t ∷ [] }
+abbrev pub misses_t : PageRows
+misses_t = record no_rows { templates = title_t ∷ []; links = title_t ∷ [] }
 
 abbrev pub users_5 : State
-users_5 = record (with_refreshes users_4 (waiting 2 2 ∷ waiting 3 3 ∷ [])) { stored = misses_t ∷ no_links ∷ no_links ∷ [] }
+users_5 = record (with_refreshes users_4 (waiting 2 2 ∷ waiting 3 3 ∷ [])) { stored = misses_t ∷ no_rows ∷ no_rows ∷ [] }
 
 abbrev pub users_6 : State
 users_6 = with_refreshes users_5 (held 2 2 6 ∷ waiting 3 3 ∷ [])
 
 abbrev pub users_7 : State
-users_7 = record (with_refreshes users_6 (waiting 3 3 ∷ [])) { stored = misses_t ∷ misses_t ∷ no_links ∷ [] }
+users_7 = record (with_refreshes users_6 (waiting 3 3 ∷ [])) { stored = misses_t ∷ misses_t ∷ no_rows ∷ [] }
 
 abbrev pub users_8 : State
 users_8 = with_refreshes users_7 (held 3 3 8 ∷ [])
@@ -221,7 +221,7 @@ users_10 = record {
   history = history
       (written 1 0 11 includes_t ∷ written 2 0 11 includes_t ∷ written 3 0 11 includes_t ∷ written 4 0 12 (codes "x") ∷ [])
       (at (title_n (codes "1")) 1 ∷ at (title_n (codes "2")) 2 ∷ at (title_n (codes "3")) 3 ∷ at title_t 4 ∷ []);
-  stored = misses_t ∷ misses_t ∷ misses_t ∷ no_links ∷ [];
+  stored = misses_t ∷ misses_t ∷ misses_t ∷ no_rows ∷ [];
   jobs = jobs (waiting 4 4 ∷ []) (fan 5 title_t Both 0 ∷ []) 6;
 }
 
@@ -236,7 +236,7 @@ users_12 = record {
   history = history
       (written 1 0 11 includes_t ∷ written 2 0 11 includes_t ∷ written 3 0 11 includes_t ∷ written 4 0 12 (codes "x") ∷ written 4 4 13 (codes "y") ∷ [])
       (at (title_n (codes "1")) 1 ∷ at (title_n (codes "2")) 2 ∷ at (title_n (codes "3")) 3 ∷ at title_t 5 ∷ []);
-  stored = misses_t ∷ misses_t ∷ misses_t ∷ no_links ∷ [];
+  stored = misses_t ∷ misses_t ∷ misses_t ∷ no_rows ∷ [];
   jobs = jobs (waiting 4 4 ∷ waiting 6 1 ∷ waiting 7 2 ∷ []) (fan 5 title_t Both 0 ∷ []) 8;
 }
 
@@ -253,7 +253,7 @@ users_14 = with_refreshes (record users_13 { jobs = jobs [] [] 9 }) (waiting 4 4
 abbrev pub restart_1 : State
 restart_1 = record {
   history = history (written 1 0 11 (codes "x") ∷ []) (at title_a 1 ∷ []);
-  stored = no_links ∷ [];
+  stored = no_rows ∷ [];
   jobs = jobs (waiting 1 1 ∷ []) [] 2;
 }
 
@@ -288,7 +288,7 @@ members_text = codes "[[Category:X|k]][[Category:x]][[:Category:X]] [[b]]"
 abbrev pub members_1 : State
 members_1 = record {
   history = history (written 1 0 11 members_text ∷ []) (at title_p 1 ∷ []);
-  stored = no_links ∷ [];
+  stored = no_rows ∷ [];
   jobs = jobs (waiting 1 1 ∷ []) [] 2;
 }
 
@@ -297,7 +297,7 @@ members_2 = with_refreshes members_1 (held 1 1 2 ∷ [])
 
 abbrev pub members_3 : State
 members_3 = record (with_refreshes members_2 []) {
-  stored = record no_links {
+  stored = record no_rows {
     links = title_b ∷ category_title (codes "X") ∷ [];
     members = record (member (codes "X")) { sortkey = codes "P" } ∷ [];
   } ∷ [];
@@ -316,7 +316,7 @@ old_tables = record no_tables {
 abbrev pub opened_0 : State
 opened_0 = record {
   history = history (written 1 0 7 (codes "#REDIRECT [[B]]") ∷ []) (at title_a 1 ∷ []);
-  stored = record no_links { links = title_b ∷ [] } ∷ [];
+  stored = record no_rows { links = title_b ∷ [] } ∷ [];
   jobs = jobs (waiting 1 1 ∷ []) [] 2;
 }
 
@@ -324,4 +324,4 @@ abbrev pub opened_1 : State
 opened_1 = with_refreshes opened_0 (held 1 1 1 ∷ [])
 
 abbrev pub opened_2 : State
-opened_2 = record (with_refreshes opened_1 []) { stored = record no_links { links = title_b ∷ []; redirect = Some title_b } ∷ [] }
+opened_2 = record (with_refreshes opened_1 []) { stored = record no_rows { links = title_b ∷ []; redirect = Some title_b } ∷ [] }

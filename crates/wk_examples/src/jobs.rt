@@ -1,8 +1,8 @@
 //! The lists of jobs: what each call, a save, a fan and a restart do to them.
 ghost use Rattle.std.specs.Prelude.{◌≡◌, true, false, codes, List, ◌∷◌, [], Some, None};
-ghost use Rattle.wk_table_rules.specs.declared.Reach.TheVariants.{Text, Both};
+ghost use Rattle.wk_row_rules.specs.declared.Reach.TheVariants.{Text, Both};
 ghost use Rattle.wk_table_rules.specs.Rows.{no_tables};
-ghost use Rattle.wk_table_rules.specs.Changes.{no_links};
+ghost use Rattle.wk_row_rules.specs.PageRows.{no_rows};
 ghost use Rattle.wk_table_rules.specs.JobTable.{refresh_row};
 ghost use Rattle.wk_job_rules.specs.Users.{users};
 ghost use Rattle.wk_job_rules.specs.Jobs.{IsNumbered, no_jobs, first_queued, page_held_by, first_fan, left, refresh_queued, claimed_by, given_back, refresh_dropped, fan_set, fan_moved, fan_dropped};
@@ -107,8 +107,8 @@ pub fn job_rows()
 
 /// A job covers a page: its refresh job, or a fan job of a title that the page names, with its cursor below the page.
 pub fn covered_pages()
-    ensures queued { is_covered three 3 no_links ≡ true }
-    ensures claimed { is_covered (claimed_by three 9) 7 no_links ≡ true }
+    ensures queued { is_covered three 3 no_rows ≡ true }
+    ensures claimed { is_covered (claimed_by three 9) 7 no_rows ≡ true }
     ensures below_the_page { is_covered two_fans 4 (includes title_t) ≡ true }
     ensures cursor_at_the_page { is_covered (fan_moved (fan_set no_jobs title_t Text) 4) 4 (includes title_t)
         ≡ false }

@@ -1,6 +1,7 @@
 //! Which rows a page has. Worlds are written as `specs/Pages.antt` says, and rows with shown titles.
 ghost use Rattle.std.specs.Prelude.{◌≡◌, codes, ◌∷◌, [], pos, true, false};
-ghost use Rattle.wk_view_rules.specs.Rows.{rows, names_text, names_both, no_rows};
+ghost use Rattle.wk_row_rules.specs.PageRows.{no_rows};
+ghost use Rattle.wk_view_rules.specs.Rows.{rows, names_text, names_both};
 ghost use Rattle.wk_examples.specs.Pages.{pages, only, page_rows, titled};
 
 /// Links and members: each title once, in title order, and of a category's prefixes the last.

@@ -3,12 +3,13 @@ ghost use Rattle.std.specs.Prelude.{◌≡◌, true, false, codes, List, ◌∷�
 ghost use Rattle.wk_page_rules.specs.Verdict.{refuse, no_change, accept, edit_conflict, journal_full};
 ghost use Rattle.wk_view_rules.specs.declared.Kind.TheVariants.{View, Include, Exists};
 ghost use Rattle.wk_table_rules.specs.Rows.{category_title, no_tables};
-ghost use Rattle.wk_table_rules.specs.Changes.{no_links};
+ghost use Rattle.wk_row_rules.specs.PageRows.{no_rows};
 ghost use Rattle.wk_table_rules.specs.JobTable.{refresh_row};
 ghost use Rattle.wk_table_rules.specs.GoodStore.{first_broken};
 ghost use Rattle.wk_job_rules.specs.Jobs.{left};
 ghost use Rattle.wk_job_rules.specs.Covers.{is_covered};
-ghost use Rattle.wk_state_rules.specs.States.{no_state, stored_at, world_of, links_in};
+ghost use Rattle.wk_view_rules.specs.Rows.{rows};
+ghost use Rattle.wk_state_rules.specs.States.{no_state, stored_at, world_of};
 ghost use Rattle.wk_state_rules.specs.Events.{Save, Claim, Done, Back, Fan, step, step_by};
 ghost use Rattle.wk_state_rules.specs.Tables.{tables_of, state_of};
 ghost use Rattle.wk_state_rules.specs.Verdicts.{verdict_in, event_of};
@@ -77,7 +78,7 @@ pub fn fans_in_parts()
     ensures no_fan_job { step_by 2 users_14 14 Fan ≡ None }
     ensures jobs_left { left users_14.jobs ≡ record { queued = 4; claimed = 0; fans = 0 } }
     ensures all_at_once { step users_12 12 Fan ≡ Some users_14 }
-    ensures rows_at_last { links_in (world_of users_14) (title_n (codes "3")) ≡ record no_links { templates = title_t ∷ [] } }
+    ensures rows_at_last { rows (world_of users_14) (title_n (codes "3")) ≡ record no_rows { templates = title_t ∷ [] } }
 {}
 
 /// A restart queues a job that was claimed, its ticket is out no more, and tickets begin anew.
@@ -110,9 +111,9 @@ pub fn a_new_version()
     ensures opened { opened old_tables ≡ opened_0 }
     ensures jobs_left { left opened_0.jobs ≡ record { queued = 1; claimed = 0; fans = 0 } }
     ensures tables { tables_of opened_0 ≡ record old_tables { jobs = refresh_row 1 title_a ∷ []; version = 2 } }
-    ensures rows_from_scratch { links_in (world_of opened_0) title_a
-        ≡ record no_links { links = title_b ∷ []; redirect = Some title_b } }
-    ensures rows_that_are_stored { stored_at opened_0 1 ≡ record no_links { links = title_b ∷ [] } }
+    ensures rows_from_scratch { rows (world_of opened_0) title_a
+        ≡ record no_rows { links = title_b ∷ []; redirect = Some title_b } }
+    ensures rows_that_are_stored { stored_at opened_0 1 ≡ record no_rows { links = title_b ∷ [] } }
     ensures covered { is_covered opened_0.jobs 1 (stored_at opened_0 1) ≡ true }
     ensures not_covered_before { is_covered (state_of old_tables).jobs 1 (stored_at opened_0 1) ≡ false }
     ensures page_claimed { step opened_0 0 Claim ≡ Some opened_1 }

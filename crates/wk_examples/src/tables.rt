@@ -1,9 +1,10 @@
 //! The tables of a store: which rule they break and in which row, and what a change does to them.
 ghost use Rattle.std.specs.Prelude.{◌≡◌, ◌+◌, ◌-◌, ◌^◌, pos, true, false, codes, List, ◌∷◌, [], ◌++◌, Some, None};
-ghost use Rattle.wk_table_rules.specs.declared.Reach.TheVariants.{Text, Both};
+ghost use Rattle.wk_row_rules.specs.declared.Reach.TheVariants.{Text, Both};
 ghost use Rattle.wk_table_rules.specs.Rows.{category_title, no_tables};
-ghost use Rattle.wk_table_rules.specs.Changes.{add_revision, set_page, set_rows, add_job, set_job, drop_job, set_version, applied, fits, no_links, with_rows_of};
-ghost use Rattle.wk_table_rules.specs.Stored.{stored_links};
+ghost use Rattle.wk_row_rules.specs.PageRows.{no_rows};
+ghost use Rattle.wk_table_rules.specs.Changes.{add_revision, set_page, set_rows, add_job, set_job, drop_job, set_version, applied, fits, with_rows_of};
+ghost use Rattle.wk_table_rules.specs.Stored.{stored_rows};
 ghost use Rattle.wk_table_rules.specs.JobTable.{fan_params, fan_row, params_text, refresh_row};
 ghost use Rattle.wk_table_rules.specs.GoodStore.{first_broken};
 ghost use Rattle.wk_table_laws.specs.Premises.{FitChange};
@@ -154,9 +155,9 @@ pub fn changes()
     ensures job_replaced_and_dropped { applied (good 2) (set_job (fan_job 4 title_t (codes "both:0")) ∷ drop_job 1 ∷ [])
         ≡ record (good 2) { jobs = fan_job 4 title_t (codes "both:0") ∷ [] } }
     ensures version_set { applied (good 1) (set_version 2 ∷ []) ≡ good 2 }
-    ensures rows_replaced { applied (good 2) (set_rows 1 no_links ∷ [])
+    ensures rows_replaced { applied (good 2) (set_rows 1 no_rows ∷ [])
         ≡ record (good 2) { pagelinks = []; templatelinks = []; existlinks = link 2 title_a ∷ []; categorylinks = [] } }
-    ensures rows_of_a_later_page { applied (good 2) (set_rows 2 (record no_links { links = title_a ∷ []; templates = title_t ∷ []; members = record { category = category_title (codes "Z"); sortkey = codes "B"; prefix = [] } ∷ []; redirect = Some title_a }) ∷ [])
+    ensures rows_of_a_later_page { applied (good 2) (set_rows 2 (record no_rows { links = title_a ∷ []; templates = title_t ∷ []; members = record { category = category_title (codes "Z"); sortkey = codes "B"; prefix = [] } ∷ []; redirect = Some title_a }) ∷ [])
         ≡ record (good 2) {
           pagelinks = (good 2).pagelinks ++ link 2 title_a ∷ [];
           templatelinks = (good 2).templatelinks ++ link 2 title_t ∷ [];
@@ -166,7 +167,7 @@ pub fn changes()
         } }
     ensures rows_of_a_list_out_of_order { with_rows_of (λ row. row.from) 2 (link 1 title_a ∷ link 2 title_a ∷ link 4 title_a ∷ link 1 title_b ∷ link 3 title_a ∷ link 2 title_b ∷ []) (link 2 title_b ∷ link 2 title_t ∷ [])
         ≡ link 1 title_a ∷ link 2 title_b ∷ link 2 title_t ∷ link 4 title_a ∷ link 1 title_b ∷ link 3 title_a ∷ [] }
-    ensures namespace_of_the_page { (applied (record (good 2) { pages = page 1 title_t 1 5 ∷ page_b ∷ [] }) (set_rows 1 (record no_links { links = title_a ∷ [] }) ∷ [])).pagelinks
+    ensures namespace_of_the_page { (applied (record (good 2) { pages = page 1 title_t 1 5 ∷ page_b ∷ [] }) (set_rows 1 (record no_rows { links = title_a ∷ [] }) ∷ [])).pagelinks
         ≡ record { from = 1; from_namespace = pos 10; target = title_a } ∷ [] }
 {}
 
@@ -180,8 +181,8 @@ pub fn fitting_changes()
     ensures page_not_above { fits (good 2) (set_page (page 0 (main (codes "C")) 4 1) ∷ [])
         ≡ false }
     ensures page_replaced { fits (good 2) (set_page (page 1 title_a 4 2) ∷ []) ≡ true }
-    ensures rows_of_no_page { fits (good 2) (set_rows 3 no_links ∷ []) ≡ false }
-    ensures rows_of_a_page_that_the_change_adds { fits (good 2) (set_page (page 3 (main (codes "C")) 4 1) ∷ set_rows 3 no_links ∷ [])
+    ensures rows_of_no_page { fits (good 2) (set_rows 3 no_rows ∷ []) ≡ false }
+    ensures rows_of_a_page_that_the_change_adds { fits (good 2) (set_page (page 3 (main (codes "C")) 4 1) ∷ set_rows 3 no_rows ∷ [])
         ≡ true }
     ensures job_that_the_change_drops { fits (good 2) (drop_job 4 ∷ set_job (fan_job 4 title_t (codes "both:0")) ∷ [])
         ≡ false }
@@ -191,14 +192,14 @@ pub fn fitting_changes()
 
 /// The link rows that the tables have of each page.
 pub fn stored_rows()
-    ensures { stored_links (record (good 2) { redirects = redirect 2 title_a ∷ [] })
+    ensures { stored_rows (record (good 2) { redirects = redirect 2 title_a ∷ [] })
         ≡ record {
           templates = title_t ∷ [];
           exists = title_b ∷ [];
           links = title_b ∷ title_t ∷ [];
           members = member (codes "X") ∷ member (codes "Y") ∷ [];
           redirect = None;
-        } ∷ record no_links { exists = title_a ∷ []; redirect = Some title_a } ∷ [] }
+        } ∷ record no_rows { exists = title_a ∷ []; redirect = Some title_a } ∷ [] }
 {}
 
 /// The params of a fan job are written `text:N` or `both:N`, and read back.
@@ -217,7 +218,7 @@ pub fn changes_that_keep_tables_good()
         ∷ set_job (fan_row 4 title_t (record { reach = Both; cursor = 0 })) ∷ []) }
     ensures deletion { FitChange (good 2) (add_revision (deletion 4 1 1) ∷ set_page (page 1 title_a 0 0) ∷ []) }
     ensures refresh { FitChange (good 2) (
-        set_rows 1 (record no_links { templates = title_a ∷ title_t ∷ []; members = member (codes "Z") ∷ []; redirect = Some title_b })
+        set_rows 1 (record no_rows { templates = title_a ∷ title_t ∷ []; members = member (codes "Z") ∷ []; redirect = Some title_b })
         ∷ drop_job 1 ∷ []) }
     ensures version { FitChange (good 1) (set_version 2 ∷ add_job (refresh_row 5 title_b) ∷ []) }
 {}

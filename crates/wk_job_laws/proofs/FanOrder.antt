@@ -1,15 +1,14 @@
 -- The fan jobs stay in the order of their numbers.
-use Rattle.std.proofs.Common.{◌≡◌, ℕ, ◌<◌, ◌≤◌, List, [], ◌∷◌, ◌++◌, map, drop, unwrap_or, None, refl, ◌∙◌, inl, inr}
-use Rattle.std.specs.List.{AllByRecursion, last_or}
+use Rattle.std.proofs.Common.{◌≡◌, ℕ, ◌<◌, ◌≤◌, List, [], ◌∷◌, ◌++◌, map, drop, refl, ◌∙◌, inl, inr}
+use Rattle.std.specs.List.{AllByRecursion}
 use Rattle.std.proofs.lemmas.Bool.{cases_Bool, cond_both}
 use Rattle.std.proofs.lemmas.List.{map-append}
 use Rattle.std.proofs.lemmas.List.Elements.{recursion_from_All}
 use Rattle.wk_text_rules.specs.Titles.{PageTitle, title_eq}
-use Rattle.wk_table_rules.specs.declared.Reach.{Reach}
-use Rattle.wk_table_rules.specs.Changes.{PageLinks}
-use Rattle.wk_job_rules.specs.Users.{users}
+use Rattle.wk_row_rules.specs.declared.Reach.{Reach}
+use Rattle.wk_row_rules.specs.PageRows.{PageRows}
 use Rattle.wk_job_rules.specs.Jobs.{FanEntry, JobLists, IsNumbered, has_fan, has_refresh, set_anew, with_first_cursor, refresh_queued, fan_set, fan_moved, fan_dropped}
-use Rattle.wk_job_rules.specs.Steps.{all_queued, after_save, served_by}
+use Rattle.wk_job_rules.specs.Steps.{all_queued, after_save, after_serving, cursor_behind, next_served}
 use Rattle.wk_job_rules.proofs.JobLemmas.{IsNumbered-queued}
 use Rattle.wk_job_laws.specs.InOrder.{Rises, IsInOrder}
 
@@ -70,14 +69,14 @@ IsInOrder-dropped lists order = behind lists.fans order
 pub IsInOrder-queued : (lists : JobLists) (page : ℕ) → IsInOrder lists → IsInOrder (refresh_queued lists page)
 IsInOrder-queued lists page order = rw (fan_numbers-queued lists page) order
 
-pub IsInOrder-saved : (stored : List PageLinks) (lists : JobLists) (page : ℕ) (title : PageTitle) (reach : Reach) → IsNumbered lists → IsInOrder lists → IsInOrder (after_save stored lists page title reach)
+pub IsInOrder-saved : (stored : List PageRows) (lists : JobLists) (page : ℕ) (title : PageTitle) (reach : Reach) → IsNumbered lists → IsInOrder lists → IsInOrder (after_save stored lists page title reach)
 IsInOrder-saved stored lists page title reach numbered order =
     let queued = IsInOrder-queued lists page order in
     cond_both _ _ _ IsInOrder (λ named. IsInOrder-set (refresh_queued lists page) title reach (IsNumbered-queued lists page numbered) queued) (λ nobody. queued)
 
-pub IsInOrder-served : (stored : List PageLinks) (most : ℕ) (lists : JobLists) (fan : FanEntry) → IsInOrder lists → IsInOrder (served_by stored most lists fan)
+pub IsInOrder-served : (stored : List PageRows) (most : ℕ) (lists : JobLists) (fan : FanEntry) → IsInOrder lists → IsInOrder (after_serving stored most lists fan)
 IsInOrder-served stored most lists fan order =
-    let pages = users stored fan.title fan.reach fan.cursor most in
+    let pages = next_served stored most fan in
     let served : IsInOrder (all_queued lists pages) = rw (fans-all_queued lists pages) order in
-    let cursor = unwrap_or (last_or None pages) fan.cursor in
+    let cursor = cursor_behind pages fan.cursor in
     cond_both _ _ _ IsInOrder (λ nobody. IsInOrder-dropped (all_queued lists pages) served) (λ others. IsInOrder-moved (all_queued lists pages) cursor served)

@@ -5,11 +5,13 @@ use Rattle.std.specs.List.{AllByRecursion, filter_map}
 use Rattle.std.proofs.lemmas.List.{append-nil, map-append}
 use Rattle.std.proofs.lemmas.List.Elements.{filter_map-append}
 use Rattle.wk_text_rules.specs.Titles.{PageTitle}
+use Rattle.wk_page_rules.specs.History.{page_number}
 use Rattle.wk_table_rules.specs.Rows.{JobColumns, StoreTables}
+use Rattle.wk_table_rules.specs.Stored.{history_of}
 use Rattle.wk_table_rules.specs.JobTable.{FanParams, refresh_cmd, fan_cmd, fan_params, refresh_row, fan_row}
 use Rattle.wk_table_laws.proofs.JobParams.{fan_params-params_text}
 use Rattle.wk_job_rules.specs.Jobs.{RefreshEntry, FanEntry, JobLists, queued_again}
-use Rattle.wk_job_rules.specs.Steps.{by_number, next_above, page_of_title, refresh_of_row, fan_of_row, rows_of_jobs, jobs_of_tables, reopened_jobs}
+use Rattle.wk_job_rules.specs.Steps.{by_number, next_above, refresh_of_row, fan_of_row, rows_of_jobs, jobs_of_tables, reopened_jobs}
 use Rattle.wk_job_laws.specs.InOrder.{IsInOrder, CanStand}
 use Rattle.wk_job_laws.proofs.Order.{filter_map-by_number, by_number-map, by_number-rising, next_above-by_number}
 
@@ -18,7 +20,7 @@ abbrev row_of_fan : FanEntry → JobColumns
 row_of_fan job = fan_row job.number job.title (record { reach = job.reach; cursor = job.cursor })
 
 refresh-keeps : (tables : StoreTables) (row : JobColumns) (job : RefreshEntry) → refresh_of_row tables row ≡ Some job → job.number ≡ row.job_id
-refresh-keeps tables row job = go (bytes_eq row.job_cmd refresh_cmd) (page_of_title tables row.job_title)
+refresh-keeps tables row job = go (bytes_eq row.job_cmd refresh_cmd) (page_number (history_of tables) row.job_title)
   where
     go : (b : Bool) (o : Option ℕ) → cond b (option_map (λ (page : ℕ). let entry : RefreshEntry = record { number = row.job_id; page = page; ticket = None } in entry) o) None ≡ Some job → job.number ≡ row.job_id
     go false o e = absurd cc
@@ -39,7 +41,7 @@ fan-keeps row job = go (bytes_eq row.job_cmd fan_cmd) (fan_params row.job_params
         ap (λ (entry : FanEntry). entry.number) (sym same)
 
 module _ (tables : StoreTables) (title_of : ℕ → PageTitle) where
-  refreshes-read : (jobs : List RefreshEntry) → AllByRecursion (λ job. page_of_title tables (title_of job.page) ≡ Some job.page) jobs
+  refreshes-read : (jobs : List RefreshEntry) → AllByRecursion (λ job. page_number (history_of tables) (title_of job.page) ≡ Some job.page) jobs
       → filter_map (refresh_of_row tables) (map (λ job. refresh_row job.number (title_of job.page)) jobs) ≡ map queued_again jobs
   refreshes-read [] found = refl
   refreshes-read (job ∷ jobs) found = rw (found.0, refreshes-read jobs found.1) refl

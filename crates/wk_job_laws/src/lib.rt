@@ -4,11 +4,11 @@
 
 ghost use Rattle.std.specs.Prelude.{◌≡◌, List, ℕ};
 ghost use Rattle.wk_text_rules.specs.Titles.{PageTitle};
-ghost use Rattle.wk_table_rules.specs.declared.Reach.{Reach};
+ghost use Rattle.wk_row_rules.specs.declared.Reach.{Reach};
 ghost use Rattle.wk_table_rules.specs.Rows.{StoreTables};
-ghost use Rattle.wk_table_rules.specs.Changes.{PageLinks};
+ghost use Rattle.wk_row_rules.specs.PageRows.{PageRows};
 ghost use Rattle.wk_job_rules.specs.Jobs.{FanEntry, JobLists, IsNumbered, no_jobs, refresh_queued, claimed_by, given_back, refresh_dropped, fan_set, fan_moved, fan_dropped};
-ghost use Rattle.wk_job_rules.specs.Steps.{after_save, served_by, jobs_of_tables, rows_of_jobs, reopened_jobs};
+ghost use Rattle.wk_job_rules.specs.Steps.{after_save, after_serving, jobs_of_tables, rows_of_jobs, reopened_jobs};
 ghost use Rattle.wk_job_laws.specs.InOrder.{CanStand, IsInOrder};
 
 /// The job table that is written of the lists stands for the lists as a restart has them, where the fan jobs stand in
@@ -29,9 +29,9 @@ pub fn fan_jobs_stand_in_order()
         → IsNumbered lists → IsInOrder lists → IsInOrder (fan_set lists title reach) }
     ensures fan_moved { (lists : JobLists) (cursor : ℕ) → IsInOrder lists → IsInOrder (fan_moved lists cursor) }
     ensures fan_dropped { (lists : JobLists) → IsInOrder lists → IsInOrder (fan_dropped lists) }
-    ensures saved { (stored : List PageLinks) (lists : JobLists) (page : ℕ) (title : PageTitle) (reach : Reach)
+    ensures saved { (stored : List PageRows) (lists : JobLists) (page : ℕ) (title : PageTitle) (reach : Reach)
         → IsNumbered lists → IsInOrder lists → IsInOrder (after_save stored lists page title reach) }
-    ensures fanned { (stored : List PageLinks) (most : ℕ) (lists : JobLists) (fan : FanEntry)
-        → IsInOrder lists → IsInOrder (served_by stored most lists fan) }
+    ensures fanned { (stored : List PageRows) (most : ℕ) (lists : JobLists) (fan : FanEntry)
+        → IsInOrder lists → IsInOrder (after_serving stored most lists fan) }
     ensures reopened { (lists : JobLists) → IsInOrder lists → IsInOrder (reopened_jobs lists) }
 {}

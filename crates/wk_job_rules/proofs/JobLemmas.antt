@@ -1,6 +1,6 @@
 -- What the calls do to the pages, the titles and the numbers of the job lists.
-use Rattle.std.proofs.Common.{◌≡◌, ℕ, ◌+◌, ◌<◌, ◌≤◌, Bool, true, false, cond, eqb, ltb, ◌||◌, ◌&&◌, not, List, [], ◌∷◌, ◌++◌, map, fold, drop, get_or, max, unwrap_or, Option, Some, None, refl, sym, ap, ◌∙◌, inl, inr, subst, arith}
-use Rattle.std.specs.List.{All, AllByRecursion, IsDistinct, last_or, list_any}
+use Rattle.std.proofs.Common.{◌≡◌, ℕ, ◌+◌, ◌<◌, ◌≤◌, Bool, true, false, cond, eqb, ltb, ◌||◌, ◌&&◌, not, List, [], ◌∷◌, ◌++◌, map, fold, drop, get_or, max, Option, Some, None, refl, sym, ap, ◌∙◌, inl, inr, subst, arith}
+use Rattle.std.specs.List.{All, AllByRecursion, IsDistinct, list_any}
 use Rattle.std.specs.List.Sorted.{IsPermutation}
 use Rattle.std.proofs.lemmas.Bool.{cases_Bool, cond_both, eqb-true, ne_eqb, or_right, and_right}
 use Rattle.std.proofs.lemmas.List.{append-nil, append_assoc, map-append}
@@ -9,11 +9,10 @@ use Rattle.std.proofs.lemmas.List.Folds.{list_any-append, list_any_none}
 use Rattle.std.proofs.lemmas.List.Sorted.{All-permutation, IsPermutation-refl, IsPermutation-map, IsPermutation-cons, IsPermutation-trans, IsPermutation-middle, IsPermutation-to_front, IsPermutation-filter_both, IsPermutation-append_comm, IsPermutation-append_left, IsPermutation-append_right, list_any-IsPermutation}
 use Rattle.std.proofs.lemmas.Map.Keys.{IsDistinct-IsPermutation, IsDistinct-tail}
 use Rattle.wk_text_rules.specs.Titles.{PageTitle, title_eq}
-use Rattle.wk_table_rules.specs.declared.Reach.{Reach}
-use Rattle.wk_table_rules.specs.Changes.{PageLinks}
+use Rattle.wk_row_rules.specs.declared.Reach.{Reach}
+use Rattle.wk_row_rules.specs.PageRows.{PageRows}
 use Rattle.wk_job_rules.specs.Jobs.{RefreshEntry, FanEntry, JobLists, no_jobs, is_queued, has_refresh, has_fan, first_claimed, jobs_of, jobs_of_others, queued_again, set_anew, with_first_cursor, refresh_queued, claimed_by, given_back, refresh_dropped, fan_set, fan_moved, fan_dropped, pages_of, titles_of, numbers_of, IsOneAPage, IsOneATitle, IsNumbered}
-use Rattle.wk_job_rules.specs.Steps.{placed, by_number, all_queued, after_save, served_by, next_above, reopened_jobs}
-use Rattle.wk_job_rules.specs.Users.{users}
+use Rattle.wk_job_rules.specs.Steps.{placed, by_number, all_queued, after_save, after_serving, cursor_behind, next_served, next_above, reopened_jobs}
 use Rattle.wk_job_rules.proofs.Lists.{eqb_flips, IsDistinct-push, IsDistinct-filter, list_any-map, map-map}
 
 -- ---- orders
@@ -117,7 +116,7 @@ IsOneAPage-queued lists page one = elim (cases_Bool (has_refresh lists page)) [
 pub IsOneAPage-fan_set : (lists : JobLists) (title : PageTitle) (reach : Reach) → IsOneAPage lists → IsOneAPage (fan_set lists title reach)
 IsOneAPage-fan_set lists title reach one = rw (pages-fan_set lists title reach) one
 
-pub IsOneAPage-saved : (stored : List PageLinks) (lists : JobLists) (page : ℕ) (title : PageTitle) (reach : Reach) → IsOneAPage lists → IsOneAPage (after_save stored lists page title reach)
+pub IsOneAPage-saved : (stored : List PageRows) (lists : JobLists) (page : ℕ) (title : PageTitle) (reach : Reach) → IsOneAPage lists → IsOneAPage (after_save stored lists page title reach)
 IsOneAPage-saved stored lists page title reach one =
     let queued = IsOneAPage-queued lists page one in
     cond_both _ _ _ IsOneAPage (λ named. IsOneAPage-fan_set (refresh_queued lists page) title reach queued) (λ nobody. queued)
@@ -126,9 +125,9 @@ pub IsOneAPage-all_queued : (lists : JobLists) (pages : List ℕ) → IsOneAPage
 IsOneAPage-all_queued lists [] one = one
 IsOneAPage-all_queued lists (page ∷ pages) one = IsOneAPage-all_queued (refresh_queued lists page) pages (IsOneAPage-queued lists page one)
 
-pub IsOneAPage-served : (stored : List PageLinks) (most : ℕ) (lists : JobLists) (fan : FanEntry) → IsOneAPage lists → IsOneAPage (served_by stored most lists fan)
+pub IsOneAPage-served : (stored : List PageRows) (most : ℕ) (lists : JobLists) (fan : FanEntry) → IsOneAPage lists → IsOneAPage (after_serving stored most lists fan)
 IsOneAPage-served stored most lists fan one =
-    let served = IsOneAPage-all_queued lists (users stored fan.title fan.reach fan.cursor most) one in
+    let served = IsOneAPage-all_queued lists (next_served stored most fan) one in
     cond_both _ _ _ IsOneAPage (λ nobody. served) (λ others. served)
 
 -- ---- one fan job a title
@@ -174,16 +173,16 @@ IsOneATitle-dropped lists one = behind lists.fans one
     behind [] apart = apart
     behind (job ∷ jobs) apart = IsDistinct-tail title_eq job.title (map (λ other. other.title) jobs) apart
 
-pub IsOneATitle-saved : (stored : List PageLinks) (lists : JobLists) (page : ℕ) (title : PageTitle) (reach : Reach) → IsOneATitle lists → IsOneATitle (after_save stored lists page title reach)
+pub IsOneATitle-saved : (stored : List PageRows) (lists : JobLists) (page : ℕ) (title : PageTitle) (reach : Reach) → IsOneATitle lists → IsOneATitle (after_save stored lists page title reach)
 IsOneATitle-saved stored lists page title reach one =
     let queued : IsOneATitle (refresh_queued lists page) = rw (titles-queued lists page) one in
     cond_both _ _ _ IsOneATitle (λ named. IsOneATitle-set (refresh_queued lists page) title reach queued) (λ nobody. queued)
 
-pub IsOneATitle-served : (stored : List PageLinks) (most : ℕ) (lists : JobLists) (fan : FanEntry) → IsOneATitle lists → IsOneATitle (served_by stored most lists fan)
+pub IsOneATitle-served : (stored : List PageRows) (most : ℕ) (lists : JobLists) (fan : FanEntry) → IsOneATitle lists → IsOneATitle (after_serving stored most lists fan)
 IsOneATitle-served stored most lists fan one =
-    let pages = users stored fan.title fan.reach fan.cursor most in
+    let pages = next_served stored most fan in
     let served : IsOneATitle (all_queued lists pages) = rw (titles-all_queued lists pages) one in
-    let cursor = unwrap_or (last_or None pages) fan.cursor in
+    let cursor = cursor_behind pages fan.cursor in
     cond_both _ _ _ IsOneATitle (λ nobody. IsOneATitle-dropped (all_queued lists pages) served) (λ others. IsOneATitle-moved (all_queued lists pages) cursor served)
 
 -- ---- which pages have a refresh job
@@ -356,7 +355,7 @@ IsNumbered-fan_dropped lists numbered = numbered_less lists (fan_dropped lists) 
     parted [] = IsPermutation-refl (map (λ job. job.number) lists.refreshes ++ [])
     parted (job ∷ jobs) = IsPermutation-middle (map (λ job. job.number) lists.refreshes) job.number (map (λ job. job.number) jobs)
 
-pub IsNumbered-saved : (stored : List PageLinks) (lists : JobLists) (page : ℕ) (title : PageTitle) (reach : Reach) → IsNumbered lists → IsNumbered (after_save stored lists page title reach)
+pub IsNumbered-saved : (stored : List PageRows) (lists : JobLists) (page : ℕ) (title : PageTitle) (reach : Reach) → IsNumbered lists → IsNumbered (after_save stored lists page title reach)
 IsNumbered-saved stored lists page title reach numbered =
     let queued = IsNumbered-queued lists page numbered in
     cond_both _ _ _ (λ (after : JobLists). IsNumbered after) (λ named. IsNumbered-fan_set (refresh_queued lists page) title reach queued) (λ nobody. queued)
@@ -365,11 +364,11 @@ IsNumbered-all_queued : (lists : JobLists) (pages : List ℕ) → IsNumbered lis
 IsNumbered-all_queued lists [] numbered = numbered
 IsNumbered-all_queued lists (page ∷ pages) numbered = IsNumbered-all_queued (refresh_queued lists page) pages (IsNumbered-queued lists page numbered)
 
-pub IsNumbered-served : (stored : List PageLinks) (most : ℕ) (lists : JobLists) (fan : FanEntry) → IsNumbered lists → IsNumbered (served_by stored most lists fan)
+pub IsNumbered-served : (stored : List PageRows) (most : ℕ) (lists : JobLists) (fan : FanEntry) → IsNumbered lists → IsNumbered (after_serving stored most lists fan)
 IsNumbered-served stored most lists fan numbered =
-    let pages = users stored fan.title fan.reach fan.cursor most in
+    let pages = next_served stored most fan in
     let served = IsNumbered-all_queued lists pages numbered in
-    let cursor = unwrap_or (last_or None pages) fan.cursor in
+    let cursor = cursor_behind pages fan.cursor in
     cond_both _ _ _ (λ (after : JobLists). IsNumbered after) (λ nobody. IsNumbered-fan_dropped (all_queued lists pages) served) (λ others. IsNumbered-moved (all_queued lists pages) cursor served)
 
 -- the greatest number is at least where it began, and at least each number

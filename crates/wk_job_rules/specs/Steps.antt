@@ -1,13 +1,15 @@
 -- What a save, a fan and a restart do to the job lists, and the rows that the job table has of them (own).
-use Rattle.std.specs.Prelude.{ℕ, ◌+◌, Bool, true, false, ◌||◌, ◌==◌, nat_lt, List, [], ◌∷◌, ◌++◌, length, map, fold, position, max, bytes_eq, Option, None, unwrap_or, option_map, if◌then◌else◌}
+use Rattle.std.specs.Prelude.{ℕ, ◌+◌, Bool, true, false, ◌||◌, ◌==◌, nat_lt, List, [], ◌∷◌, ◌++◌, length, map, fold, max, bytes_eq, Option, None, unwrap_or, option_map, if◌then◌else◌}
 use Rattle.std.specs.List.{filter_map, last_or}
-use Rattle.wk_text_rules.specs.Titles.{PageTitle, title_eq}
-use Rattle.wk_table_rules.specs.declared.Reach.{Reach}
-use Rattle.wk_table_rules.specs.declared.Reach.TheVariants.{Text, Both}
+use Rattle.wk_text_rules.specs.Titles.{PageTitle}
+use Rattle.wk_page_rules.specs.History.{page_number}
+use Rattle.wk_row_rules.specs.PageRows.{PageRows}
+use Rattle.wk_row_rules.specs.declared.Reach.{Reach}
+use Rattle.wk_row_rules.specs.declared.Reach.TheVariants.{Text, Both}
 use Rattle.wk_table_rules.specs.Rows.{JobColumns, StoreTables}
-use Rattle.wk_table_rules.specs.Changes.{PageLinks}
+use Rattle.wk_table_rules.specs.Stored.{history_of}
 use Rattle.wk_table_rules.specs.JobTable.{refresh_cmd, fan_cmd, fan_params, refresh_row, fan_row}
-use Rattle.wk_job_rules.specs.Users.{is_named, users}
+use Rattle.wk_job_rules.specs.Users.{some_page_names, users}
 use Rattle.wk_job_rules.specs.Jobs.{RefreshEntry, FanEntry, JobLists, has_fan, first_fan, queued_again, refresh_queued, fan_set, fan_moved, fan_dropped}
 
 -- ---- a save
@@ -21,10 +23,10 @@ reach_of_save false true = Both
 
 -- The page gets a refresh job where it has none. Then its title's fan job begins anew where one stands; else one is
 -- added exactly where some page's link rows, its own among them, name the title.
-abbrev pub after_save : List PageLinks → JobLists → ℕ → PageTitle → Reach → JobLists
+abbrev pub after_save : List PageRows → JobLists → ℕ → PageTitle → Reach → JobLists
 after_save stored lists page title reach =
     let queued = refresh_queued lists page in
-    if has_fan queued title || is_named stored title reach then fan_set queued title reach else queued
+    if has_fan queued title || some_page_names stored title reach then fan_set queued title reach else queued
 
 -- ---- a fan
 
@@ -36,18 +38,26 @@ fan_pages = 300
 abbrev pub all_queued : JobLists → List ℕ → JobLists
 all_queued lists pages = fold refresh_queued lists pages
 
--- The pages above the first fan job's cursor that name its title are served, at most so many, in order. The cursor is
--- then the last page that was served, and the job goes exactly where no page above that names its title.
-abbrev pub served_by : List PageLinks → ℕ → JobLists → FanEntry → JobLists
-served_by stored most lists fan =
-    let served = users stored fan.title fan.reach fan.cursor most in
-    let cursor = unwrap_or (last_or None served) fan.cursor in
+-- the pages that the next fan serves of this job, at most so many: those above its cursor that name its title, in order
+abbrev pub next_served : List PageRows → ℕ → FanEntry → List ℕ
+next_served stored most fan = users stored fan.title fan.reach fan.cursor most
+
+-- the cursor behind the fan that serves these pages: the last of them, or the cursor as it was where there is none
+abbrev pub cursor_behind : List ℕ → ℕ → ℕ
+cursor_behind served cursor = unwrap_or (last_or None served) cursor
+
+-- The first fan job's next pages are served. The cursor is then the last of them, and the job goes exactly where no page
+-- above that names its title.
+abbrev pub after_serving : List PageRows → ℕ → JobLists → FanEntry → JobLists
+after_serving stored most lists fan =
+    let served = next_served stored most fan in
+    let cursor = cursor_behind served fan.cursor in
     let queued = all_queued lists served in
     if length (users stored fan.title fan.reach cursor 1) == 0 then fan_dropped queued else fan_moved queued cursor
 
 -- nothing where no fan job stands
-abbrev pub after_fan : List PageLinks → ℕ → JobLists → Option JobLists
-after_fan stored most lists = option_map (served_by stored most lists) (first_fan lists)
+abbrev pub after_fan : List PageRows → ℕ → JobLists → Option JobLists
+after_fan stored most lists = option_map (after_serving stored most lists) (first_fan lists)
 
 -- ---- a restart
 
@@ -81,16 +91,11 @@ rows_of_jobs title_of lists =
     let fans = map (λ job. fan_row job.number job.title (record { reach = job.reach; cursor = job.cursor })) lists.fans in
     by_number (λ row. row.job_id) (refreshes ++ fans)
 
--- the number of the page with this title, as a place in the page table
-abbrev pub page_of_title : StoreTables → PageTitle → Option ℕ
-page_of_title tables title =
-    option_map (λ place. place + 1) (position (λ page. title_eq page.page_title title) tables.pages)
-
 -- the refresh job of a row, where the row is one
 abbrev pub refresh_of_row : StoreTables → JobColumns → Option RefreshEntry
 refresh_of_row tables row =
     if bytes_eq row.job_cmd refresh_cmd
-    then option_map (λ page. record { number = row.job_id; page = page; ticket = None }) (page_of_title tables row.job_title)
+    then option_map (λ page. record { number = row.job_id; page = page; ticket = None }) (page_number (history_of tables) row.job_title)
     else None
 
 -- the fan job of a row, where the row is one

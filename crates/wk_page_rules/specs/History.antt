@@ -1,7 +1,7 @@
 -- The revisions and the pages of a wiki, and what a save does to them (MediaWiki's Manual:Page table and
 -- Manual:Revision table; that a title keeps its page for good is own).
-use Rattle.std.specs.Prelude.{◌≡◌, ◌≢◌, ℕ, ◌+◌, ◌-◌, ◌==◌, Bool, false, not, List, [], ◌∷◌, ◌++◌, length, slice_get, position, find, sum_by, Option, None, is_some, unwrap_or, option_map, option_and_then, if◌then◌else◌}
-use Rattle.wk_text_rules.specs.Titles.{PageTitle, title_eq, is_virtual}
+use Rattle.std.specs.Prelude.{ℕ, ◌+◌, ◌-◌, Bool, ◌&&◌, ◌||◌, ◌==◌, not, List, [], ◌∷◌, ◌++◌, length, slice_get, position, find, sum_by, Option, None, is_some, unwrap_or, option_map, option_and_then, if◌then◌else◌}
+use Rattle.wk_text_rules.specs.Titles.{PageTitle, title_eq, is_page_title}
 
 -- One saved text. Revisions are numbered from 1, in the order of their saves: a number is a place in the list.
 pub record Revision : Type 0 where
@@ -58,11 +58,14 @@ text_bytes h = sum_by (λ revision. length (unwrap_or revision.text [])) h.revis
 
 -- ---- what a save does
 
--- Nothing can be saved in a virtual namespace, and only a page that exists can be deleted. That the title is normal is
--- for whoever hands it in: a `Title` is by its type.
-pub record CanSave (h : History) (title : PageTitle) (text : Option (List ℕ)) : Type 0 where
-  pub real : is_virtual title ≡ false
-  pub there : text ≡ None → current_revision h title ≢ 0
+-- A title can be saved that a text can name and that isn't in a virtual namespace; and only a page that exists can be
+-- deleted.
+abbrev pub can_save : History → PageTitle → Option (List ℕ) → Bool
+can_save h title text = is_page_title title && (is_some text || page_exists h title)
+
+-- the number of the title's page, or the next one where the title is new
+abbrev pub page_to_save : History → PageTitle → ℕ
+page_to_save h title = unwrap_or (page_number h title) (length h.pages + 1)
 
 -- the pages, where the page of this title has this current revision from now on; a new title goes to the end
 abbrev pub with_current : List Page → PageTitle → ℕ → List Page
@@ -79,7 +82,7 @@ next_revision h = length h.revisions + 1
 unfoldable pub saved : History → PageTitle → Option (List ℕ) → ℕ → History
 saved h title text moment = record {
   revisions = h.revisions ++ record {
-    page = unwrap_or (page_number h title) (length h.pages + 1);
+    page = page_to_save h title;
     parent = current_revision h title;
     moment = moment;
     text = text;

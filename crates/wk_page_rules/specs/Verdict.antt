@@ -28,9 +28,39 @@ pub record MostHeld : Type 0 where
   -- events since the store was opened
   pub journal : ℕ
 
+-- what a wiki has used of its journal and of the numbers of jobs
+pub record JournalUse : Type 0 where
+  -- events since the store was opened
+  pub journal : ℕ
+  -- tickets that are out
+  pub tickets : ℕ
+  -- the number of the next new job
+  pub next_job : ℕ
+
 -- the bytes that a page's text has at most
 abbrev pub max_text : ℕ
 max_text = 2097152
+
+-- ---- the full limits, which no wiki goes beyond (own)
+
+abbrev pub max_pages : ℕ
+max_pages = 1000000
+
+abbrev pub max_revisions : ℕ
+max_revisions = 16777216
+
+-- bytes of the texts of all revisions
+abbrev pub max_texts : ℕ
+max_texts = 1073741824
+
+-- events since the store was opened
+abbrev pub max_journal : ℕ
+max_journal = 33554432
+
+abbrev pub full_limits : MostHeld
+full_limits = record { pages = max_pages; revisions = max_revisions; text = max_texts; journal = max_journal }
+
+-- ---- verdicts
 
 -- the greatest number of the next job at which a save or a fan may still begin
 abbrev pub max_job : ℕ
@@ -102,8 +132,8 @@ judged h most edit = elim (real_title edit.title) [
 
 -- What the journal's room and the numbers of jobs decide, where a save would be accepted: the journal's length and
 -- the tickets that are out are at the limit or above it, or the next job's number is past the greatest.
-abbrev pub is_journal_full : MostHeld → ℕ → ℕ → ℕ → Bool
-is_journal_full most journal tickets next_job = nat_le most.journal (journal + tickets) || nat_lt max_job next_job
+abbrev pub is_journal_full : MostHeld → JournalUse → Bool
+is_journal_full most used = nat_le most.journal (used.journal + used.tickets) || nat_lt max_job used.next_job
 
 abbrev pub with_room : Bool → Verdict → Verdict
 with_room full (refuse refusal) = refuse refusal
@@ -111,6 +141,5 @@ with_room full (no_change title) = no_change title
 with_room full (accept title body) = if full then refuse journal_full else accept title body
 
 -- the first that applies
-abbrev pub verdict : History → MostHeld → ℕ → ℕ → ℕ → EditAsked → Verdict
-verdict h most journal tickets next_job edit =
-    with_room (is_journal_full most journal tickets next_job) (judged h most edit)
+abbrev pub verdict : History → MostHeld → JournalUse → EditAsked → Verdict
+verdict h most used edit = with_room (is_journal_full most used) (judged h most edit)

@@ -2,13 +2,13 @@
 use Rattle.std.proofs.Common.{◌≡◌, Bool, true, false, Option, Some, None, ap, ◌∙◌}
 use Rattle.std.specs.Prelude.{IfSome}
 use Rattle.std.proofs.lemmas.List.Elements.{All-weaker}
-use Rattle.wk_text_rules.specs.Titles.{PageTitle, title_eq}
-use Rattle.wk_view_rules.specs.Rows.{Member, PageRows, rows}
+use Rattle.wk_text_rules.specs.Titles.{PageTitle, is_normal, title_eq}
+use Rattle.wk_row_rules.specs.PageRows.{Member, PageRows}
+use Rattle.wk_view_rules.specs.Rows.{rows}
 use Rattle.wk_view_rules.specs.Worlds.{World}
 use Rattle.wk_view_laws.specs.Titles.{IsCategoryTitle, IsPageTitle, RowsHavePageTitles}
 use Rattle.wk_view_laws.proofs.OrderLemmas.{pages-rows}
 use Rattle.wk_view_laws.proofs.PlanLemmas.{title_eq-same}
-use Rattle.wk_table_rules.specs.GoodStore.{is_normal}
 use Rattle.wk_row_laws.specs.NormalTitles.{RowsHaveNormalTitles}
 use Rattle.wk_title_laws.proofs.Law.{shown_names}
 

@@ -1,7 +1,7 @@
 -- Rows whose titles are normal.
 use Rattle.std.specs.Prelude.{◌≡◌, true, All, IfSome}
-use Rattle.wk_view_rules.specs.Rows.{Member, PageRows}
-use Rattle.wk_table_rules.specs.GoodStore.{is_normal}
+use Rattle.wk_text_rules.specs.Titles.{is_normal}
+use Rattle.wk_row_rules.specs.PageRows.{Member, PageRows}
 
 -- Each title in a page's rows is one that its shown form names.
 pub record RowsHaveNormalTitles (rows : PageRows) : Type 0 where

@@ -10,6 +10,7 @@ use Rattle.wk_links.specs.declared.found.What.TheVariants.{Page, Member, Nothing
 use Rattle.wk_text_rules.specs.Marked.{MarkedByte}
 use Rattle.wk_text_rules.specs.Occurrences.{Link, page, member, nothing, occurrences}
 use Rattle.wk_text_rules.specs.Titles.{PageTitle, with_spaces}
+use Rattle.wk_row_rules.specs.PageRows as page_rows
 use Rattle.wk_view_rules.specs.Rows as rule
 use Rattle.wk_view_rules.specs.Views.{Expanded, turned}
 use Rattle.wk_view_rules.specs.Worlds.{Agrees, Read, World, of_world}
@@ -25,7 +26,7 @@ pub in_order : (titles : List PageTitle) → with_titles [] titles ≡ rule.titl
 unfolding rule.in_title_order
 in_order titles = refl
 
-pub members_in_order : (members : List rule.Member) → with_members [] members ≡ rule.in_title_order (λ (m : rule.Member). m.category) members
+pub members_in_order : (members : List page_rows.Member) → with_members [] members ≡ rule.in_title_order (λ (m : page_rows.Member). m.category) members
 unfolding rule.in_title_order
 members_in_order members = refl
 
@@ -41,7 +42,7 @@ linked found out e = filter_map-map occurrence_in rule.page_linked found ∙ ap 
 pub put_behind : (first second : List PageTitle) → with_titles (with_titles [] first) second ≡ rule.titles_in_order (first ++ second)
 put_behind first second = sym (fold-append _ [] first second) ∙ in_order (first ++ second)
 
-abbrev membership_in : PageTitle → Link → Option rule.Member
+abbrev membership_in : PageTitle → Link → Option page_rows.Member
 membership_in of_page link = elim link [
   | page title ↦ None
   | member category prefix ↦ Some (record { category = category; sortkey = rule.sortkey_of of_page prefix; prefix = prefix })
@@ -60,13 +61,13 @@ same_members of_page (link ∷ found) =
     ∙ ap (cons_option (membership_in of_page (link_in link.what))) (same_members of_page found)
 
 -- the categories that an output makes a page a member of
-pub members_found : (of_page : PageTitle) (found : List Found) (out : List MarkedByte) → map occurrence_in found ≡ occurrences out → with_members [] (members_by (with_spaces of_page.key) found) ≡ rule.in_title_order (λ (m : rule.Member). m.category) (filter_map (rule.membership of_page) (occurrences out))
+pub members_found : (of_page : PageTitle) (found : List Found) (out : List MarkedByte) → map occurrence_in found ≡ occurrences out → with_members [] (members_by (with_spaces of_page.key) found) ≡ rule.in_title_order (λ (m : page_rows.Member). m.category) (filter_map (rule.membership of_page) (occurrences out))
 members_found of_page found out e =
     members_in_order (members_by (with_spaces of_page.key) found)
-    ∙ ap (rule.in_title_order (λ (m : rule.Member). m.category)) (same_members of_page found ∙ ap (filter_map (rule.membership of_page)) e)
+    ∙ ap (rule.in_title_order (λ (m : page_rows.Member). m.category)) (same_members of_page found ∙ ap (filter_map (rule.membership of_page)) e)
 
 -- rows are the same where their lists are
-pub same_rows : (a b : rule.PageRows) → a.templates ≡ b.templates → a.exists ≡ b.exists → a.links ≡ b.links → a.members ≡ b.members → a.redirect ≡ b.redirect → a ≡ b
+pub same_rows : (a b : page_rows.PageRows) → a.templates ≡ b.templates → a.exists ≡ b.exists → a.links ≡ b.links → a.members ≡ b.members → a.redirect ≡ b.redirect → a ≡ b
 same_rows a b templates exists links members redirect =
     ap (λ t. record { templates = t; exists = a.exists; links = a.links; members = a.members; redirect = a.redirect }) templates
     ∙ ap (λ e. record { templates = b.templates; exists = e; links = a.links; members = a.members; redirect = a.redirect }) exists

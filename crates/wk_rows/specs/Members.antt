@@ -5,14 +5,15 @@ use Rattle.wk_links.specs.declared.found.What.{What}
 use Rattle.wk_links.specs.declared.found.What.TheVariants.{Page, Member, Nothing}
 use Rattle.wk_text_rules.specs.Occurrences.{most_label}
 use Rattle.wk_text_rules.specs.Titles.{PageTitle}
+use Rattle.wk_row_rules.specs.PageRows as page_rows
 use Rattle.wk_view_rules.specs.Rows as rule
 
 -- a category, the sort key in it, and the prefix
-abbrev pub member_of : PageTitle × List ℕ × List ℕ → rule.Member
+abbrev pub member_of : PageTitle × List ℕ × List ℕ → page_rows.Member
 member_of (category, sortkey, prefix) = record { category = category; sortkey = sortkey; prefix = prefix }
 
 -- the same, where the sort key and the prefix are kept by the category
-abbrev pub kept_member : PageTitle × (List ℕ × List ℕ) → rule.Member
+abbrev pub kept_member : PageTitle × (List ℕ × List ℕ) → page_rows.Member
 kept_member entry = record { category = entry.0; sortkey = entry.1.0; prefix = entry.1.1 }
 
 -- the sort key of a page whose key with spaces is this
@@ -20,20 +21,20 @@ abbrev pub sortkey_by : List ℕ → List ℕ → List ℕ
 sortkey_by key prefix = if length prefix == 0 then key else prefix ++ 10 ∷ key
 
 -- what a link makes of the page a member of
-abbrev pub membership_by : List ℕ → What → Option rule.Member
+abbrev pub membership_by : List ℕ → What → Option page_rows.Member
 membership_by key (Page title) = None
 membership_by key (Member category prefix) =
     Some (record { category = category; sortkey = sortkey_by key prefix; prefix = prefix })
 membership_by key Nothing = None
 
-abbrev pub members_by : List ℕ → List Found → List rule.Member
+abbrev pub members_by : List ℕ → List Found → List page_rows.Member
 members_by key found = filter_map (λ (link : Found). membership_by key link.what) found
 
 -- a member among members in the order of their categories
-abbrev pub with_member : List rule.Member → rule.Member → List rule.Member
-with_member ordered member = rule.put_in_order (λ (m : rule.Member). m.category) member ordered
+abbrev pub with_member : List page_rows.Member → page_rows.Member → List page_rows.Member
+with_member ordered member = rule.put_in_order (λ (m : page_rows.Member). m.category) member ordered
 
-abbrev pub with_members : List rule.Member → List rule.Member → List rule.Member
+abbrev pub with_members : List page_rows.Member → List page_rows.Member → List page_rows.Member
 with_members ordered members = fold with_member ordered members
 
 -- a prefix is no longer than a label

@@ -22,7 +22,7 @@ pub struct PageRows {
 
 impl Model for PageRows {
     ghost use Rattle.std.specs.Prelude.{map};
-    ghost use Rattle.wk_view_rules.specs.Rows as rule;
+    ghost use Rattle.wk_row_rules.specs.PageRows as rule;
     ghost use Rattle.wk_rows.specs.Members.{member_of};
 
     ghost Value = { rule.PageRows };

@@ -6,7 +6,7 @@ use Rattle.wk_text_rules.specs.Titles.{PageTitle}
 use Rattle.wk_page_rules.specs.Kept.{kept}
 use Rattle.wk_page_rules.specs.declared.Limit.{Limit}
 use Rattle.wk_page_rules.specs.History.{History, current_revision, current_text, page_exists}
-use Rattle.wk_page_rules.specs.Verdict.{EditAsked, MostHeld, Verdict, refuse, no_change, accept, invalid_title, content_too_big, article_exists, missing_title, edit_conflict, wiki_full, real_title, max_text, body_bytes, is_conflict, is_same_text, limit_passed, judged_at, judged, is_journal_full, with_room, verdict}
+use Rattle.wk_page_rules.specs.Verdict.{EditAsked, JournalUse, MostHeld, Verdict, refuse, no_change, accept, invalid_title, content_too_big, article_exists, missing_title, edit_conflict, wiki_full, real_title, max_text, body_bytes, is_conflict, is_same_text, limit_passed, judged_at, judged, is_journal_full, with_room, verdict}
 use Rattle.wk_state_laws.specs.Conflicts.{IsInConflict}
 
 -- ---- conditions
@@ -153,12 +153,12 @@ with_room-conflict full (no_change title) current e = absurd cc
 with_room-conflict true (accept title body) current e = absurd cc
 with_room-conflict false (accept title body) current e = absurd cc
 
-pub verdict-conflict : (h : History) (most : MostHeld) (journal tickets next_job : ℕ) (edit : EditAsked) (current : ℕ)
-    → IsInConflict h edit current → verdict h most journal tickets next_job edit ≡ refuse (edit_conflict current)
+pub verdict-conflict : (h : History) (most : MostHeld) (used : JournalUse) (edit : EditAsked) (current : ℕ)
+    → IsInConflict h edit current → verdict h most used edit ≡ refuse (edit_conflict current)
 verdict-conflict h most journal tickets next_job edit current conflict =
-    ap (λ v. with_room (is_journal_full most journal tickets next_job) v) (judged-conflict h most edit current conflict)
+    ap (λ v. with_room (is_journal_full most used) v) (judged-conflict h most edit current conflict)
 
-pub conflict-verdict : (h : History) (most : MostHeld) (journal tickets next_job : ℕ) (edit : EditAsked) (current : ℕ)
-    → verdict h most journal tickets next_job edit ≡ refuse (edit_conflict current) → IsInConflict h edit current
-conflict-verdict h most journal tickets next_job edit current e =
-    conflict-judged h most edit current (with_room-conflict (is_journal_full most journal tickets next_job) (judged h most edit) current e)
+pub conflict-verdict : (h : History) (most : MostHeld) (used : JournalUse) (edit : EditAsked) (current : ℕ)
+    → verdict h most used edit ≡ refuse (edit_conflict current) → IsInConflict h edit current
+conflict-verdict h most used edit current e =
+    conflict-judged h most edit current (with_room-conflict (is_journal_full most used) (judged h most edit) current e)

@@ -5,14 +5,14 @@ use Rattle.std.specs.List.{AllByRecursion, filter, list_any, last_or}
 use Rattle.std.proofs.lemmas.Bool.{cases_Bool, and_parts, and_from, both_ways, ltb-true, ltb-false, lt-ltb, le-ltb, eqb-true}
 use Rattle.std.proofs.lemmas.List.{take-append-drop}
 use Rattle.wk_text_rules.specs.Titles.{PageTitle}
-use Rattle.wk_table_rules.specs.declared.Reach.{Reach}
-use Rattle.wk_table_rules.specs.Changes.{PageLinks, no_links}
+use Rattle.wk_row_rules.specs.declared.Reach.{Reach}
+use Rattle.wk_row_rules.specs.PageRows.{PageRows, no_rows, names}
 use Rattle.wk_job_rules.specs.Jobs.{FanEntry, JobLists, has_refresh, refresh_queued, first_fan, with_first_cursor, fan_moved, fan_dropped}
-use Rattle.wk_job_rules.specs.Steps.{all_queued, served_by}
-use Rattle.wk_job_rules.specs.Users.{names, users}
+use Rattle.wk_job_rules.specs.Steps.{all_queued, after_serving, cursor_behind, next_served}
+use Rattle.wk_job_rules.specs.Users.{users}
 use Rattle.wk_state_rules.specs.States.{State, stored_at}
 use Rattle.wk_state_rules.specs.Events.{Fan, with_jobs, step_by}
-use Rattle.wk_state_laws.specs.FanRuns.{FanRun, ends, goes_on, next_served}
+use Rattle.wk_state_laws.specs.FanRuns.{FanRun, ends, goes_on}
 use Rattle.wk_state_laws.proofs.Served.{found, uses, users-is, is-found, is-served}
 use Rattle.wk_state_laws.proofs.FanServes.{Fits, Rises, found-fits, found-rises, pairs, next-is, fans-after, stored-row, nothing-named}
 
@@ -58,10 +58,10 @@ filter-twice d c low (n ∷ ns) = elim (cases_Bool (ltb d n)) [
 
 -- ---- the pages that name a title
 
-named : PageTitle → Reach → ℕ × PageLinks → Bool
+named : PageTitle → Reach → ℕ × PageRows → Bool
 named title reach page = names page.1 title reach
 
-found-filter : (title : PageTitle) (reach : Reach) (above a : ℕ) (stored : List PageLinks) → found (uses title reach above) a stored ≡ filter (ltb above) (found (named title reach) a stored)
+found-filter : (title : PageTitle) (reach : Reach) (above a : ℕ) (stored : List PageRows) → found (uses title reach above) a stored ≡ filter (ltb above) (found (named title reach) a stored)
 unfolding named
 found-filter title reach above a [] = refl
 found-filter title reach above a (x ∷ stored) = elim (cases_Bool (names x title reach)) [
@@ -75,23 +75,23 @@ found-filter title reach above a (x ∷ stored) = elim (cases_Bool (names x titl
   ]
 ]
 
-above-each : (title : PageTitle) (reach : Reach) (above : ℕ) (stored : List PageLinks) (ns : List ℕ) → AllByRecursion (Fits stored title reach above 1) ns → AllByRecursion (λ n. above < n) ns
+above-each : (title : PageTitle) (reach : Reach) (above : ℕ) (stored : List PageRows) (ns : List ℕ) → AllByRecursion (Fits stored title reach above 1) ns → AllByRecursion (λ n. above < n) ns
 above-each title reach above stored [] all = tt
 above-each title reach above stored (n ∷ ns) all = (all.0.0.1, above-each title reach above stored ns all.1)
 
-abbrev all_of : List PageLinks → FanEntry → List ℕ
+abbrev all_of : List PageRows → FanEntry → List ℕ
 all_of stored fan = found (uses fan.title fan.reach fan.cursor) 1 stored
 
-abbrev cursor_after : ℕ → List PageLinks → FanEntry → ℕ
-cursor_after most stored fan = unwrap_or (last_or None (users stored fan.title fan.reach fan.cursor most)) fan.cursor
+abbrev cursor_after : ℕ → List PageRows → FanEntry → ℕ
+cursor_after most stored fan = cursor_behind (next_served stored most fan) fan.cursor
 
-all-above : (stored : List PageLinks) (fan : FanEntry) → AllByRecursion (λ n. fan.cursor < n) (all_of stored fan)
+all-above : (stored : List PageRows) (fan : FanEntry) → AllByRecursion (λ n. fan.cursor < n) (all_of stored fan)
 all-above stored fan = above-each fan.title fan.reach fan.cursor stored (all_of stored fan) (found-fits fan.title fan.reach fan.cursor 1 stored)
 
-all-rise : (stored : List PageLinks) (fan : FanEntry) → Rises (all_of stored fan)
+all-rise : (stored : List PageRows) (fan : FanEntry) → Rises (all_of stored fan)
 all-rise stored fan = found-rises fan.title fan.reach fan.cursor 1 stored
 
-left-behind : (most : ℕ) (stored : List PageLinks) (fan : FanEntry) → found (uses fan.title fan.reach (cursor_after most stored fan)) 1 stored ≡ drop most (all_of stored fan)
+left-behind : (most : ℕ) (stored : List PageRows) (fan : FanEntry) → found (uses fan.title fan.reach (cursor_after most stored fan)) 1 stored ≡ drop most (all_of stored fan)
 left-behind most stored fan =
     found-filter fan.title fan.reach cursor 1 stored
     ∙ sym (filter-twice fan.cursor cursor low (found (named fan.title fan.reach) 1 stored))
@@ -102,8 +102,8 @@ left-behind most stored fan =
     cursor : ℕ
     cursor = cursor_after most stored fan
 
-    at : cursor ≡ unwrap_or (last_or None (take most (all_of stored fan))) fan.cursor
-    at = ap (λ ns. unwrap_or (last_or None ns) fan.cursor) (users-is stored fan.title fan.reach fan.cursor most)
+    at : cursor ≡ cursor_behind (take most (all_of stored fan)) fan.cursor
+    at = ap (λ ns. cursor_behind ns fan.cursor) (users-is stored fan.title fan.reach fan.cursor most)
 
     low : fan.cursor ≤ cursor
     low = let high = no-lower fan.cursor None (take most (all_of stored fan)) (taken-up most (all_of stored fan) (all-rise stored fan)) (taken-each (λ n. fan.cursor < n) most (all_of stored fan) (all-above stored fan)) in
@@ -158,7 +158,7 @@ module _ (most : ℕ) (state next : State) (journal : ℕ) (fan : FanEntry) (fir
   stored-same : next.stored ≡ state.stored
   stored-same = ap (λ (s : State). s.stored) (next-is most state next journal fan first done)
 
-  all-last : length next.jobs.fans + 1 ≡ length state.jobs.fans → next_served most state fan ≡ all_of state.stored fan
+  all-last : length next.jobs.fans + 1 ≡ length state.jobs.fans → next_served state.stored most fan ≡ all_of state.stored fan
   all-last fewer =
       let none : drop most (all_of state.stored fan) ≡ [] = none-left (drop most (all_of state.stored fan)) (ap (λ ns. eqb (length ns) 0) (sym (left-is most state fan)) ∙ is-gone fewer) in
       users-is state.stored fan.title fan.reach fan.cursor most
@@ -179,10 +179,10 @@ module _ (most : ℕ) (state next : State) (journal : ℕ) (fan : FanEntry) (fir
           let is : x ≡ fan = (let e : Some x ≡ Some fan = there in cc) in
           ap (λ (f : FanEntry). Some (record f { cursor = cursor_after most state.stored fan })) is
 
-  all-next : next_served most state fan ++ found (uses fan.title fan.reach (cursor_after most state.stored fan)) 1 next.stored ≡ all_of state.stored fan
+  all-next : next_served state.stored most fan ++ found (uses fan.title fan.reach (cursor_after most state.stored fan)) 1 next.stored ≡ all_of state.stored fan
   all-next =
       ap (λ ns. ns ++ found (uses fan.title fan.reach (cursor_after most state.stored fan)) 1 next.stored) (users-is state.stored fan.title fan.reach fan.cursor most)
-      ∙ ap (λ (stored : List PageLinks). take most (all_of state.stored fan) ++ found (uses fan.title fan.reach (cursor_after most state.stored fan)) 1 stored) stored-same
+      ∙ ap (λ (stored : List PageRows). take most (all_of state.stored fan) ++ found (uses fan.title fan.reach (cursor_after most state.stored fan)) 1 stored) stored-same
       ∙ ap (λ ns. take most (all_of state.stored fan) ++ ns) (left-behind most state.stored fan)
       ∙ take-append-drop most (all_of state.stored fan)
 
@@ -193,10 +193,10 @@ same-fan o a b one other = let e : Some a ≡ Some b = sym one ∙ other in cc
 
 run-all : (most : ℕ) (state last : State) (journal : ℕ) (pages : List ℕ) (fan : FanEntry) → first_fan state.jobs ≡ Some fan → FanRun most state journal pages last → pages ≡ all_of state.stored fan
 run-all most state last journal pages fan first (ends {fan = served} there done fewer) =
-    subst (λ (f : FanEntry). next_served most state served ≡ all_of state.stored f) (same-fan (first_fan state.jobs) served fan there first) (all-last most state last journal served there done fewer)
+    subst (λ (f : FanEntry). next_served state.stored most served ≡ all_of state.stored f) (same-fan (first_fan state.jobs) served fan there first) (all-last most state last journal served there done fewer)
 run-all most state last journal pages fan first (goes_on {next = next} {fan = served} {pages = others} there done as_many later) =
-    subst (λ (f : FanEntry). next_served most state served ++ others ≡ all_of state.stored f) (same-fan (first_fan state.jobs) served fan there first)
-    (ap (λ ns. next_served most state served ++ ns)
+    subst (λ (f : FanEntry). next_served state.stored most served ++ others ≡ all_of state.stored f) (same-fan (first_fan state.jobs) served fan there first)
+    (ap (λ ns. next_served state.stored most served ++ ns)
     (run-all most next last (journal + 1) others (record served { cursor = cursor_after most state.stored served }) (moved-first most state next journal served there done as_many) later)
     ∙ all-next most state next journal served there done)
 
@@ -206,7 +206,7 @@ taken-all zero (x ∷ ns) within = absurd (omega (arith, within))
 taken-all (suc n) [] within = refl
 taken-all (suc n) (x ∷ ns) within = ap (λ ms. x ∷ ms) (taken-all n ns (omega (arith, within)))
 
-pub found-few : (p : ℕ × PageLinks → Bool) (a : ℕ) (stored : List PageLinks) → length (found p a stored) ≤ length stored
+pub found-few : (p : ℕ × PageRows → Bool) (a : ℕ) (stored : List PageRows) → length (found p a stored) ≤ length stored
 found-few p a [] = omega arith
 found-few p a (x ∷ stored) = let few = found-few p (a + 1) stored in elim (cases_Bool (p (a, x))) [
   | inl fits ↦ rw fits (omega (arith, few))
@@ -235,21 +235,21 @@ run-rises most state last journal pages run = by (first_fan state.jobs) refl run
 
 -- ---- which pages
 
-got-at : (stored : List PageLinks) (place : ℕ) (title : PageTitle) (reach : Reach) → names (unwrap_or (slice_get stored place) no_links) title reach ≡ true
-    → (links : PageLinks) × ((slice_get stored place ≡ Some links) × (names links title reach ≡ true))
+got-at : (stored : List PageRows) (place : ℕ) (title : PageTitle) (reach : Reach) → names (unwrap_or (slice_get stored place) no_rows) title reach ≡ true
+    → (links : PageRows) × ((slice_get stored place ≡ Some links) × (names links title reach ≡ true))
 got-at stored place title reach = by (slice_get stored place) refl
   where
-    by : (o : Option PageLinks) → slice_get stored place ≡ o → names (unwrap_or o no_links) title reach ≡ true → (links : PageLinks) × ((slice_get stored place ≡ Some links) × (names links title reach ≡ true))
+    by : (o : Option PageRows) → slice_get stored place ≡ o → names (unwrap_or o no_rows) title reach ≡ true → (links : PageRows) × ((slice_get stored place ≡ Some links) × (names links title reach ≡ true))
     by (Some links) at is = (links, (at, is))
-    by None at is = absurd (both_ways (names no_links title reach) (nothing-named title reach) is)
+    by None at is = absurd (both_ways (names no_rows title reach) (nothing-named title reach) is)
 
-pub none-missed : (state : State) (title : PageTitle) (reach : Reach) (above most page : ℕ) → above < page → page ≤ unwrap_or (last_or None (users state.stored title reach above most)) above → names (stored_at state page) title reach ≡ true
+pub none-missed : (state : State) (title : PageTitle) (reach : Reach) (above most page : ℕ) → above < page → page ≤ cursor_behind (users state.stored title reach above most) above → names (stored_at state page) title reach ≡ true
     → list_any (λ served. eqb served page) (users state.stored title reach above most) ≡ true
 none-missed state title reach above most page low high is =
     let got = got-at state.stored (page - 1) title reach (rw (stored-row state page (omega (arith, low))) at is) in
     subst (λ (ns : List ℕ). list_any (λ served. eqb served page) ns ≡ true) (sym (users-is state.stored title reach above most))
     (is-served (uses title reach above) page got.0 (and_from (ltb above page) (names got.0 title reach) (lt-ltb above page low) got.1.1) 1 state.stored most None above (omega (arith, low)) got.1.0 low
-    (subst (λ (ns : List ℕ). page ≤ unwrap_or (last_or None ns) above) (users-is state.stored title reach above most) high))
+    (subst (λ (ns : List ℕ). page ≤ cursor_behind ns above) (users-is state.stored title reach above most) high))
 
 at-one : (P : ℕ → Type 0) (page : ℕ) (ns : List ℕ) → AllByRecursion P ns → list_any (λ n. eqb n page) ns ≡ true → P page
 at-one P page [] all there = absurd (let e : false ≡ true = there in cc)
@@ -294,13 +294,13 @@ all-append : (lists : JobLists) (pages more : List ℕ) → all_queued lists (pa
 all-append lists [] more = refl
 all-append lists (page ∷ pages) more = all-append (refresh_queued lists page) pages more
 
-jobs-after : (most : ℕ) (state next : State) (journal : ℕ) (fan : FanEntry) → first_fan state.jobs ≡ Some fan → step_by most state journal Fan ≡ Some next → next.jobs ≡ record (all_queued state.jobs (next_served most state fan)) { fans = next.jobs.fans }
+jobs-after : (most : ℕ) (state next : State) (journal : ℕ) (fan : FanEntry) → first_fan state.jobs ≡ Some fan → step_by most state journal Fan ≡ Some next → next.jobs ≡ record (all_queued state.jobs (next_served state.stored most fan)) { fans = next.jobs.fans }
 jobs-after most state next journal fan first done =
     let is = ap (λ (s : State). s.jobs) (next-is most state next journal fan first done) in
-    is ∙ by (gone_after most state fan) ∙ ap (λ (l : JobLists). record (all_queued state.jobs (next_served most state fan)) { fans = l.fans }) (sym is)
+    is ∙ by (gone_after most state fan) ∙ ap (λ (l : JobLists). record (all_queued state.jobs (next_served state.stored most fan)) { fans = l.fans }) (sym is)
   where
-    by : (gone : Bool) → cond gone (fan_dropped (all_queued state.jobs (next_served most state fan))) (fan_moved (all_queued state.jobs (next_served most state fan)) (cursor_after most state.stored fan))
-        ≡ record (all_queued state.jobs (next_served most state fan)) { fans = (cond gone (fan_dropped (all_queued state.jobs (next_served most state fan))) (fan_moved (all_queued state.jobs (next_served most state fan)) (cursor_after most state.stored fan))).fans }
+    by : (gone : Bool) → cond gone (fan_dropped (all_queued state.jobs (next_served state.stored most fan))) (fan_moved (all_queued state.jobs (next_served state.stored most fan)) (cursor_after most state.stored fan))
+        ≡ record (all_queued state.jobs (next_served state.stored most fan)) { fans = (cond gone (fan_dropped (all_queued state.jobs (next_served state.stored most fan))) (fan_moved (all_queued state.jobs (next_served state.stored most fan)) (cursor_after most state.stored fan))).fans }
     by true = refl
     by false = refl
 
@@ -309,8 +309,8 @@ run-queues most state last journal pages (ends {fan = fan} there done fewer) = a
 run-queues most state last journal pages (goes_on {next = next} {fan = fan} {pages = others} there done as_many later) =
     run-queues most next last (journal + 1) others later
     ∙ ap (λ (l : JobLists). (all_queued l others).refreshes) (jobs-after most state next journal fan there done)
-    ∙ ap (λ (l : JobLists). l.refreshes) (all-beside (all_queued state.jobs (next_served most state fan)) next.jobs.fans others)
-    ∙ ap (λ (l : JobLists). l.refreshes) (sym (all-append state.jobs (next_served most state fan) others))
+    ∙ ap (λ (l : JobLists). l.refreshes) (all-beside (all_queued state.jobs (next_served state.stored most fan)) next.jobs.fans others)
+    ∙ ap (λ (l : JobLists). l.refreshes) (sym (all-append state.jobs (next_served state.stored most fan) others))
 
 dropped-moved : (fans : List FanEntry) (cursor : ℕ) → drop 1 (with_first_cursor fans cursor) ≡ drop 1 fans
 dropped-moved [] cursor = refl
@@ -336,7 +336,7 @@ ends-by most (suc n) state journal fan positive first below = elim (cases_Bool (
   | inl gone ↦
       let less = ap (λ (fans : List FanEntry). length fans) (after most state next journal fan first done true gone) in
       let one = length-dropped state.jobs.fans fan first in
-      (next_served most state fan, (next, ends first done (omega (arith, less, one))))
+      (next_served state.stored most fan, (next, ends first done (omega (arith, less, one))))
   | inr there ↦
       let as_many = ap (λ (fans : List FanEntry). length fans) (after most state next journal fan first done false there) ∙ length-moved state.jobs.fans (cursor_after most state.stored fan) in
       let some = some-left (drop most (all_of state.stored fan)) (ap (λ ns. eqb (length ns) 0) (sym (left-is most state fan)) ∙ there) in
@@ -344,14 +344,14 @@ ends-by most (suc n) state journal fan positive first below = elim (cases_Bool (
       let is = ap (λ (ns : List ℕ). length ns) (left-behind most state.stored fan) in
       let later = ends-by most n next (journal + 1) (record fan { cursor = cursor_after most state.stored fan }) positive
       (moved-first most state next journal fan first done as_many) (omega (arith, below, fewer, is)) in
-      (next_served most state fan ++ later.0, (later.1.0, goes_on first done as_many later.1.1))
+      (next_served state.stored most fan ++ later.0, (later.1.0, goes_on first done as_many later.1.1))
 ]
   where
     next : State
-    next = with_jobs state (served_by state.stored most state.jobs fan)
+    next = with_jobs state (after_serving state.stored most state.jobs fan)
 
     done : step_by most state journal Fan ≡ Some next
-    done = ap (λ (o : Option FanEntry). option_map (λ jobs. with_jobs state jobs) (option_map (served_by state.stored most state.jobs) o)) first
+    done = ap (λ (o : Option FanEntry). option_map (λ jobs. with_jobs state jobs) (option_map (after_serving state.stored most state.jobs) o)) first
 
 pub run-ends : (most : ℕ) (state : State) (journal : ℕ) (fan : FanEntry) → 1 ≤ most → first_fan state.jobs ≡ Some fan → (pages : List ℕ) × ((last : State) × FanRun most state journal pages last)
 run-ends most state journal fan positive first = ends-by most (length (all_of state.stored fan) + 1) state journal fan positive first (omega arith)

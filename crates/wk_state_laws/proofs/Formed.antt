@@ -7,16 +7,17 @@ use Rattle.std.proofs.lemmas.List.{length-append, length-set, map-append}
 use Rattle.std.proofs.lemmas.List.Elements.{All-from_recursion, recursion_from_All}
 use Rattle.std.proofs.lemmas.List.Sorted.{All-permutation}
 use Rattle.wk_text_rules.specs.Titles.{PageTitle, title_eq}
-use Rattle.wk_page_rules.specs.History.{History, Page, page_exists, with_current, next_revision, saved}
-use Rattle.wk_table_rules.specs.declared.Reach.{Reach}
-use Rattle.wk_table_rules.specs.Changes.{PageLinks, no_links}
+use Rattle.wk_page_rules.specs.History.{History, Page, page_exists, with_current, next_revision, saved, can_save, page_to_save}
+use Rattle.wk_row_rules.specs.declared.Reach.{Reach}
+use Rattle.wk_row_rules.specs.PageRows.{PageRows, no_rows}
 use Rattle.wk_job_rules.specs.Jobs.{RefreshEntry, FanEntry, JobLists, has_refresh, has_fan, fan_set, first_queued, page_held_by, refresh_queued, refresh_dropped, claimed_by, given_back, pages_of}
-use Rattle.wk_job_rules.specs.Steps.{all_queued, served_by, after_save, reach_of_save, reopened_jobs}
-use Rattle.wk_job_rules.specs.Users.{is_named, users}
+use Rattle.wk_job_rules.specs.Steps.{all_queued, after_serving, next_served, after_save, reach_of_save, reopened_jobs}
+use Rattle.wk_job_rules.specs.Users.{some_page_names, users}
 use Rattle.wk_job_rules.proofs.Lists.{IsDistinct-push, list_any-map}
 use Rattle.wk_job_rules.proofs.JobLemmas.{pages-claimed, pages-given_back, pages-reopened, pages-queued, pages-fan_set}
-use Rattle.wk_state_rules.specs.States.{State, no_state, title_at, world_of, links_in}
-use Rattle.wk_state_rules.specs.Events.{Event, Save, Claim, Done, Back, Fan, can_save, page_to_save, stored_with, with_saved, with_refreshed, with_jobs, step_by}
+use Rattle.wk_view_rules.specs.Rows.{rows}
+use Rattle.wk_state_rules.specs.States.{State, no_state, title_at, world_of}
+use Rattle.wk_state_rules.specs.Events.{Event, Save, Claim, Done, Back, Fan, stored_with, with_saved, with_refreshed, with_jobs, step_by}
 use Rattle.wk_state_rules.specs.Lives.{reopened}
 use Rattle.wk_state_laws.specs.WellFormed.{IsWellFormed}
 use Rattle.wk_state_laws.proofs.Served.{found, uses, users-is}
@@ -57,7 +58,7 @@ all_queued-within P lists (page ∷ pages) holds all = all_queued-within P (refr
 
 -- ---- what a fan serves
 
-found-within : (p : ℕ × PageLinks → Bool) (most a : ℕ) (stored : List PageLinks) → 1 ≤ a → AllByRecursion (λ page. (1 ≤ page) × (page < a + length stored)) (found p a stored)
+found-within : (p : ℕ × PageRows → Bool) (most a : ℕ) (stored : List PageRows) → 1 ≤ a → AllByRecursion (λ page. (1 ≤ page) × (page < a + length stored)) (found p a stored)
 found-within p most a [] positive = tt
 found-within p most a (links ∷ stored) positive =
     let later = wider (found p (a + 1) stored) (found-within p most (a + 1) stored (omega (arith, positive))) in
@@ -76,19 +77,19 @@ taken [] n (suc most) all = tt
 taken (page ∷ pages) n zero all = tt
 taken (page ∷ pages) n (suc most) all = ((all.0.0, let below = all.0.1 in omega (arith, below)), taken pages n most all.1)
 
-pub users-within : (stored : List PageLinks) (fan : FanEntry) (most : ℕ) → AllByRecursion (Within (length stored)) (users stored fan.title fan.reach fan.cursor most)
+pub users-within : (stored : List PageRows) (fan : FanEntry) (most : ℕ) → AllByRecursion (Within (length stored)) (users stored fan.title fan.reach fan.cursor most)
 users-within stored fan most =
     rw (users-is stored fan.title fan.reach fan.cursor most)
     (taken (found (uses fan.title fan.reach fan.cursor) 1 stored) (length stored) most (found-within (uses fan.title fan.reach fan.cursor) most 1 stored (omega arith)))
 
-formed-served : (most : ℕ) (state : State) (fan : FanEntry) → IsWellFormed state → IsWellFormed (with_jobs state (served_by state.stored most state.jobs fan))
+formed-served : (most : ℕ) (state : State) (fan : FanEntry) → IsWellFormed state → IsWellFormed (with_jobs state (after_serving state.stored most state.jobs fan))
 formed-served most state fan formed =
     let P = Within (length state.history.pages) in
-    let served = users state.stored fan.title fan.reach fan.cursor most in
+    let served = next_served state.stored most fan in
     let pages : AllByRecursion P served = subst (λ n. AllByRecursion (Within n) served) formed.stored (users-within state.stored fan most) in
     let all = all_queued-within P state.jobs served pages (recursion_from_All P (pages_of state.jobs) formed.jobs) in
-    formed-jobs state (served_by state.stored most state.jobs fan) formed
-    (All-from_recursion P (pages_of (served_by state.stored most state.jobs fan))
+    formed-jobs state (after_serving state.stored most state.jobs fan) formed
+    (All-from_recursion P (pages_of (after_serving state.stored most state.jobs fan))
     (cond_both _ _ _ (λ (after : JobLists). AllByRecursion P (pages_of after)) (λ nobody. all) (λ others. all)))
 
 -- ---- a refresh
@@ -103,7 +104,7 @@ dropped-within P whose (job ∷ jobs) all =
 
 formed-refreshed : (state : State) (page : ℕ) → IsWellFormed state → IsWellFormed (with_refreshed state page)
 formed-refreshed state page formed = record {
-  stored = length-set state.stored (page - 1) (links_in (world_of state) (title_at state.history page)) ∙ formed.stored;
+  stored = length-set state.stored (page - 1) (rows (world_of state) (title_at state.history page)) ∙ formed.stored;
   jobs = All-from_recursion (Within (length state.history.pages)) (pages_of (refresh_dropped state.jobs page))
       (dropped-within (Within (length state.history.pages)) page state.jobs.refreshes (recursion_from_All (Within (length state.history.pages)) (pages_of state.jobs) formed.jobs));
   titles = formed.titles;
@@ -204,12 +205,12 @@ module _ (title : PageTitle) (number : ℕ) where
     | inr none ↦ let more = length-new pages none in omega (arith, more)
   ]
 
-  stored-saved : (stored : List PageLinks) (pages : List Page) → length stored ≡ length pages
-      → length (cond (is_some (option_map (λ place. place + 1) (position is_it pages))) stored (stored ++ no_links ∷ [])) ≡ length (with_current pages title number)
+  stored-saved : (stored : List PageRows) (pages : List Page) → length stored ≡ length pages
+      → length (cond (is_some (option_map (λ place. place + 1) (position is_it pages))) stored (stored ++ no_rows ∷ [])) ≡ length (with_current pages title number)
   stored-saved stored pages same = elim (cases_Bool (list_any is_it pages)) [
     | inl there ↦ rw (numbered pages, there) (same ∙ sym (length-old pages there))
     | inr none ↦
-        let longer = length-append stored (no_links ∷ []) in
+        let longer = length-append stored (no_rows ∷ []) in
         let more = length-new pages none in
         rw (numbered pages, none) (longer ∙ (ap (λ n. n + 1) same ∙ sym more))
   ]
@@ -226,9 +227,9 @@ stands-kept : (h : History) (title : PageTitle) (text : Option (List ℕ)) (mome
 stands-kept h title text moment number (inl none) = inl none
 stands-kept h title text moment number (inr there) = inr (ap (λ (o : Option (List ℕ)). is_some o) (text-kept h title text moment number (inr there)) ∙ there)
 
-after-within : (P : ℕ → Type 0) (stored : List PageLinks) (lists : JobLists) (page : ℕ) (title : PageTitle) (reach : Reach) → AllByRecursion P (pages_of (refresh_queued lists page)) → AllByRecursion P (pages_of (after_save stored lists page title reach))
+after-within : (P : ℕ → Type 0) (stored : List PageRows) (lists : JobLists) (page : ℕ) (title : PageTitle) (reach : Reach) → AllByRecursion P (pages_of (refresh_queued lists page)) → AllByRecursion P (pages_of (after_save stored lists page title reach))
 after-within P stored lists page title reach queued =
-    cond_both (has_fan (refresh_queued lists page) title || is_named stored title reach) (fan_set (refresh_queued lists page) title reach) (refresh_queued lists page) (λ (after : JobLists). AllByRecursion P (pages_of after))
+    cond_both (has_fan (refresh_queued lists page) title || some_page_names stored title reach) (fan_set (refresh_queued lists page) title reach) (refresh_queued lists page) (λ (after : JobLists). AllByRecursion P (pages_of after))
     (λ named. subst (AllByRecursion P) (sym (pages-fan_set (refresh_queued lists page) title reach)) queued) (λ nobody. queued)
 
 formed-saved : (state : State) (title : PageTitle) (text : Option (List ℕ)) (moment : ℕ) → IsWellFormed state → IsWellFormed (with_saved state title text moment)
@@ -275,9 +276,9 @@ IsWellFormed-step most state next journal (Back ticket) done formed =
     (All-permutation (Within (length state.history.pages)) (pages_of state.jobs) (pages_of (given_back state.jobs page)) (pages-given_back state.jobs page) formed.jobs))
 IsWellFormed-step most state next journal Fan done formed = by (slice_get state.jobs.fans 0) done
   where
-    by : (o : Option FanEntry) → option_map (λ jobs. with_jobs state jobs) (option_map (served_by state.stored most state.jobs) o) ≡ Some next → IsWellFormed next
+    by : (o : Option FanEntry) → option_map (λ jobs. with_jobs state jobs) (option_map (after_serving state.stored most state.jobs) o) ≡ Some next → IsWellFormed next
     by None is = absurd (let e : None ≡ Some next = is in cc)
     by (Some fan) is =
-        let got : Some (with_jobs state (served_by state.stored most state.jobs fan)) ≡ Some next = is in
-        let same : with_jobs state (served_by state.stored most state.jobs fan) ≡ next = cc in
+        let got : Some (with_jobs state (after_serving state.stored most state.jobs fan)) ≡ Some next = is in
+        let same : with_jobs state (after_serving state.stored most state.jobs fan) ≡ next = cc in
         subst IsWellFormed same (formed-served most state fan formed)

@@ -6,18 +6,20 @@ use Rattle.std.proofs.lemmas.Bool.{cases_Bool, cond_both, and_parts, not-true, l
 use Rattle.std.proofs.lemmas.List.Elements.{All-from_recursion}
 use Rattle.std.proofs.lemmas.List.Folds.{find_at}
 use Rattle.std.proofs.lemmas.Slice.Eq.{bytes_eq-Decides}
-use Rattle.wk_text_rules.specs.Titles.{PageTitle, title_eq}
+use Rattle.wk_text_rules.specs.Titles.{PageTitle, title_eq, is_normal}
+use Rattle.wk_page_rules.specs.History.{Page, page_number}
+use Rattle.wk_page_rules.specs.Verdict.{max_pages}
 use Rattle.wk_table_rules.specs.Rows.{StoreTables, PageColumns, JobColumns}
 use Rattle.wk_table_rules.specs.JobTable.{FanParams, refresh_cmd, fan_cmd, fan_params}
-use Rattle.wk_table_rules.specs.GoodStore.{IsGood, is_normal, is_good_job, job_bound, max_pages}
+use Rattle.wk_table_rules.specs.Stored.{history_of, page_of_row}
+use Rattle.wk_table_rules.specs.GoodStore.{IsGood, is_good_job, job_bound, has_good_params}
 use Rattle.wk_table_laws.specs.EachGood.{EachGood}
-use Rattle.wk_table_laws.specs.Premises.{has_good_params}
 use Rattle.wk_table_laws.proofs.FirstBad.{KeepsRules-from_good}
 use Rattle.wk_table_laws.proofs.JobRows.{is_good_kind, is_alone_good, may_follow, job-splits}
 use Rattle.wk_table_laws.proofs.Pairs.{each-append, each-front, each-back, each-weaker, Pairs, Passes-from_good}
 use Rattle.wk_table_laws.proofs.SavedPages.{find-passes}
 use Rattle.wk_job_rules.specs.Jobs.{RefreshEntry, FanEntry, JobLists, IsNumbered, IsOneAPage, IsOneATitle, refresh_queued}
-use Rattle.wk_job_rules.specs.Steps.{all_queued, next_above, page_of_title, refresh_of_row, fan_of_row, jobs_of_tables}
+use Rattle.wk_job_rules.specs.Steps.{all_queued, next_above, refresh_of_row, fan_of_row, jobs_of_tables}
 use Rattle.wk_job_rules.proofs.JobLemmas.{IsNumbered-queued, IsOneAPage-all_queued, titles-all_queued}
 use Rattle.wk_job_laws.specs.InOrder.{Rises, IsInOrder}
 use Rattle.wk_view_laws.proofs.PlanLemmas.{title_eq-true, title_eq-same}
@@ -32,14 +34,14 @@ use Rattle.wk_state_laws.proofs.Kept.{IsKept, FanFits, few-pages, greatest-withi
 -- ---- what a row stands for
 
 data Kind (tables : StoreTables) (row : JobColumns) : Type 0 where
-  refreshes : (job : RefreshEntry) → refresh_of_row tables row ≡ Some job → fan_of_row row ≡ None → job.number ≡ row.job_id → page_of_title tables row.job_title ≡ Some job.page → bytes_eq row.job_cmd refresh_cmd ≡ true → Kind tables row
+  refreshes : (job : RefreshEntry) → refresh_of_row tables row ≡ Some job → fan_of_row row ≡ None → job.number ≡ row.job_id → page_number (history_of tables) row.job_title ≡ Some job.page → bytes_eq row.job_cmd refresh_cmd ≡ true → Kind tables row
   fans : (job : FanEntry) → refresh_of_row tables row ≡ None → fan_of_row row ≡ Some job → job.number ≡ row.job_id → job.title ≡ row.job_title → bytes_eq row.job_cmd refresh_cmd ≡ false → bytes_eq row.job_cmd fan_cmd ≡ true
       → ((params : FanParams) × ((fan_params row.job_params ≡ Some params) × (job.cursor ≡ params.cursor))) → Kind tables row
   neither : refresh_of_row tables row ≡ None → fan_of_row row ≡ None → Kind tables row
 
 kind : (tables : StoreTables) (row : JobColumns) → Kind tables row
 kind tables row = elim (cases_Bool (bytes_eq row.job_cmd refresh_cmd)) [
-  | inl refresh ↦ by-page refresh (page_of_title tables row.job_title) refl
+  | inl refresh ↦ by-page refresh (page_number (history_of tables) row.job_title) refl
   | inr other ↦ elim (cases_Bool (bytes_eq row.job_cmd fan_cmd)) [
     | inl fan ↦ by-params other fan (fan_params row.job_params) refl
     | inr none ↦ neither (rw other refl) (rw none refl)
@@ -52,7 +54,7 @@ kind tables row = elim (cases_Bool (bytes_eq row.job_cmd refresh_cmd)) [
         let not_fan : bytes_eq row.job_cmd fan_cmd ≡ false = ap (λ cmd. bytes_eq cmd fan_cmd) is in
         rw not_fan refl
 
-    by-page : bytes_eq row.job_cmd refresh_cmd ≡ true → (o : Option ℕ) → page_of_title tables row.job_title ≡ o → Kind tables row
+    by-page : bytes_eq row.job_cmd refresh_cmd ≡ true → (o : Option ℕ) → page_number (history_of tables) row.job_title ≡ o → Kind tables row
     by-page refresh None at = neither (rw (refresh, at) refl) (no-fan refresh)
     by-page refresh (Some page) at = refreshes (record { number = row.job_id; page = page; ticket = None }) (rw (refresh, at) refl) (no-fan refresh) refl at refresh
 
@@ -138,27 +140,28 @@ module _ (tables : StoreTables) where
 
   -- ---- pages and titles
 
-  title-of-page : (title : PageTitle) (number : ℕ) → page_of_title tables title ≡ Some number → (page : PageColumns) × ((slice_get tables.pages (number - 1) ≡ Some page) × (page.page_title ≡ title))
+  title-of-page : (title : PageTitle) (number : ℕ) → page_number (history_of tables) title ≡ Some number → (page : Page) × ((slice_get (map page_of_row tables.pages) (number - 1) ≡ Some page) × (page.title ≡ title))
   title-of-page title number there =
-      let p = λ (page : PageColumns). title_eq page.page_title title in
-      elim (cases_Bool (ltb (position_or_len (λ (page : PageColumns). title_eq page.page_title title) tables.pages) (length tables.pages))) [
+      let p = λ (page : Page). title_eq page.title title in
+      let pages = map page_of_row tables.pages in
+      elim (cases_Bool (ltb (position_or_len (λ (page : Page). title_eq page.title title) (map page_of_row tables.pages)) (length (map page_of_row tables.pages)))) [
         | inl within ↦
-            let found = got tables.pages (position_or_len (λ (page : PageColumns). title_eq page.page_title title) tables.pages) (ltb-true (position_or_len (λ (page : PageColumns). title_eq page.page_title title) tables.pages) (length tables.pages) within) in
-            let e : Some (position_or_len (λ (page : PageColumns). title_eq page.page_title title) tables.pages + 1) ≡ Some number = rw within at there in
-            let is : position_or_len (λ (page : PageColumns). title_eq page.page_title title) tables.pages + 1 ≡ number = cc in
-            let place : position_or_len (λ (page : PageColumns). title_eq page.page_title title) tables.pages ≡ number - 1 = omega (arith, is) in
-            let passes = (find-passes (λ (page : PageColumns). title_eq page.page_title title) tables.pages found.0 (find_at (λ (page : PageColumns). title_eq page.page_title title) tables.pages ∙ found.1)).0 in
-            (found.0, (subst (λ n. slice_get tables.pages n ≡ Some found.0) place found.1, title_eq-true found.0.page_title title passes))
+            let found = got pages (position_or_len p pages) (ltb-true (position_or_len p pages) (length pages) within) in
+            let e : Some (position_or_len p pages + 1) ≡ Some number = rw within at there in
+            let is : position_or_len p pages + 1 ≡ number = cc in
+            let place : position_or_len p pages ≡ number - 1 = omega (arith, is) in
+            let passes = (find-passes p pages found.0 (find_at p pages ∙ found.1)).0 in
+            (found.0, (subst (λ n. slice_get pages n ≡ Some found.0) place found.1, title_eq-true found.0.title title passes))
         | inr past ↦ absurd (let e : None ≡ Some number = rw past at there in cc)
       ]
 
-  one-title : (a b : PageTitle) (number : ℕ) → page_of_title tables a ≡ Some number → page_of_title tables b ≡ Some number → a ≡ b
+  one-title : (a b : PageTitle) (number : ℕ) → page_number (history_of tables) a ≡ Some number → page_number (history_of tables) b ≡ Some number → a ≡ b
   one-title a b number first second =
       let one = title-of-page a number first in
       let two = title-of-page b number second in
       let e : Some one.0 ≡ Some two.0 = sym one.1.0 ∙ two.1.0 in
       let same : one.0 ≡ two.0 = cc in
-      sym one.1.1 ∙ (ap (λ (page : PageColumns). page.page_title) same ∙ two.1.1)
+      sym one.1.1 ∙ (ap (λ (page : Page). page.title) same ∙ two.1.1)
 
   -- rows of one kind have other titles
   titles-differ : (row y : JobColumns) → may_follow row y ≡ true → bytes_eq row.job_cmd (cond (bytes_eq y.job_cmd refresh_cmd) refresh_cmd fan_cmd) ≡ true → title_eq row.job_title y.job_title ≡ false
@@ -167,7 +170,7 @@ module _ (tables : StoreTables) where
       let none = not-true (bytes_eq row.job_cmd (cond (bytes_eq y.job_cmd refresh_cmd) refresh_cmd fan_cmd) && title_eq row.job_title y.job_title) parts.1 in
       rw same_kind at none
 
-  pages-behind : (row : JobColumns) (number : ℕ) → bytes_eq row.job_cmd refresh_cmd ≡ true → page_of_title tables row.job_title ≡ Some number → (rows : List JobColumns) → AllByRecursion (λ y. may_follow row y ≡ true) rows
+  pages-behind : (row : JobColumns) (number : ℕ) → bytes_eq row.job_cmd refresh_cmd ≡ true → page_number (history_of tables) row.job_title ≡ Some number → (rows : List JobColumns) → AllByRecursion (λ y. may_follow row y ≡ true) rows
       → AllByRecursion (λ n. nat_eq number n ≡ false) (map (λ (job : RefreshEntry). job.page) (refreshes_of rows))
   pages-behind row number refresh there [] pairs = tt
   pages-behind row number refresh there (y ∷ rows) pairs =

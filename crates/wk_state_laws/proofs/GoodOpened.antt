@@ -6,20 +6,20 @@ use Rattle.std.proofs.lemmas.Bool.{cases_Bool, cond_both, and_parts, not-true, l
 use Rattle.std.proofs.lemmas.List.{length-map, map-append}
 use Rattle.std.proofs.lemmas.List.Elements.{All-from_recursion, recursion_from_All}
 use Rattle.std.proofs.lemmas.Option.{slice_get-map}
-use Rattle.wk_text_rules.specs.Titles.{title_eq}
-use Rattle.wk_page_rules.specs.History.{Page, text_of_revision}
+use Rattle.wk_text_rules.specs.Titles.{title_eq, is_page_title}
+use Rattle.wk_page_rules.specs.History.{Page, page_number, text_of_revision}
 use Rattle.wk_table_rules.specs.Rows.{StoreTables, PageColumns, RevisionColumns, JobColumns}
 use Rattle.wk_table_rules.specs.JobTable.{refresh_cmd}
-use Rattle.wk_table_rules.specs.Stored.{links_of}
-use Rattle.wk_table_rules.specs.GoodStore.{IsGood, is_real, has_good_title, has_good_latest, last_revision}
+use Rattle.wk_table_rules.specs.Stored.{rows_of_page, history_of, page_of_row, revision_of_row}
+use Rattle.wk_table_rules.specs.GoodStore.{IsGood, has_good_title, has_good_latest, last_revision}
 use Rattle.wk_table_laws.specs.EachGood.{GoodAfter, EachGood, KeepsRules}
 use Rattle.wk_table_laws.proofs.FirstBad.{KeepsRules-from_good}
 use Rattle.wk_table_laws.proofs.GoodChanges.{rev_id-is}
 use Rattle.wk_job_rules.specs.Jobs.{RefreshEntry, pages_of}
-use Rattle.wk_job_rules.specs.Steps.{page_of_title, refresh_of_row}
+use Rattle.wk_job_rules.specs.Steps.{refresh_of_row}
 use Rattle.wk_job_rules.proofs.Lists.{IsDistinct-push, list_any-map, map-map}
 use Rattle.wk_state_rules.specs.States.{State}
-use Rattle.wk_state_rules.specs.Tables.{state_of, history_of, page_of_row, revision_of_row}
+use Rattle.wk_state_rules.specs.Tables.{state_of}
 use Rattle.wk_state_rules.specs.Lives.{all_refreshed, opened}
 use Rattle.wk_state_laws.specs.WellFormed.{IsWellFormed}
 use Rattle.wk_state_laws.proofs.SavedHistory.{Stands}
@@ -39,24 +39,24 @@ place-within p xs number there = elim (cases_Bool (ltb (position_or_len p xs) (l
 
 -- ---- jobs
 
-pub job-within : (tables : StoreTables) (rows : List JobColumns) → AllByRecursion (Within (length tables.pages)) (map (λ (job : RefreshEntry). job.page) (filter_map (refresh_of_row tables) rows))
+pub job-within : (tables : StoreTables) (rows : List JobColumns) → AllByRecursion (Within (length (map page_of_row tables.pages))) (map (λ (job : RefreshEntry). job.page) (filter_map (refresh_of_row tables) rows))
 job-within tables [] = tt
 job-within tables (row ∷ rows) = let later = job-within tables rows in elim (cases_Bool (bytes_eq row.job_cmd refresh_cmd)) [
-  | inl refresh ↦ by later refresh (page_of_title tables row.job_title) refl
+  | inl refresh ↦ by later refresh (page_number (history_of tables) row.job_title) refl
   | inr other ↦ rw other later
 ]
   where
-    by : AllByRecursion (Within (length tables.pages)) (map (λ (job : RefreshEntry). job.page) (filter_map (refresh_of_row tables) rows)) → bytes_eq row.job_cmd refresh_cmd ≡ true → (o : Option ℕ) → page_of_title tables row.job_title ≡ o
-        → AllByRecursion (Within (length tables.pages)) (map (λ (job : RefreshEntry). job.page) (filter_map (refresh_of_row tables) (row ∷ rows)))
+    by : AllByRecursion (Within (length (map page_of_row tables.pages))) (map (λ (job : RefreshEntry). job.page) (filter_map (refresh_of_row tables) rows)) → bytes_eq row.job_cmd refresh_cmd ≡ true → (o : Option ℕ) → page_number (history_of tables) row.job_title ≡ o
+        → AllByRecursion (Within (length (map page_of_row tables.pages))) (map (λ (job : RefreshEntry). job.page) (filter_map (refresh_of_row tables) (row ∷ rows)))
     by later refresh None is = rw (refresh, is) later
-    by later refresh (Some page) is = rw (refresh, is) (place-within (λ (p : PageColumns). title_eq p.page_title row.job_title) tables.pages page is, later)
+    by later refresh (Some page) is = rw (refresh, is) (place-within (λ (p : Page). title_eq p.title row.job_title) (map page_of_row tables.pages) page is, later)
 
 -- ---- titles
 
 titles-after : (before rows : List PageColumns) → GoodAfter has_good_title before rows → IsDistinct title_eq (map (λ (row : PageColumns). row.page_title) before) → IsDistinct title_eq (map (λ (row : PageColumns). row.page_title) (before ++ rows))
 titles-after before [] good apart = rw append-nil apart
 titles-after before (row ∷ rows) good apart =
-    let parts = and_parts (is_real row.page_title) (not (list_any (λ earlier. title_eq earlier.page_title row.page_title) before)) good.0 in
+    let parts = and_parts (is_page_title row.page_title) (not (list_any (λ earlier. title_eq earlier.page_title row.page_title) before)) good.0 in
     let none = not-true (list_any (λ earlier. title_eq earlier.page_title row.page_title) before) parts.1 in
     let one = IsDistinct-push title_eq (map (λ (r : PageColumns). r.page_title) before) row.page_title apart
     (list_any-map (λ t. title_eq t row.page_title) (λ (r : PageColumns). r.page_title) before ∙ none) in
@@ -141,9 +141,9 @@ range-within a (suc n) m from to = ((from, omega (arith, to)), range-within (a +
 
 pub IsWellFormed-state_of : (tables : StoreTables) → IsGood tables → IsWellFormed (state_of tables)
 IsWellFormed-state_of tables good = record {
-  stored = length-map tables.pages (λ (page : PageColumns). links_of tables page.page_id) ∙ sym (length-map tables.pages page_of_row);
+  stored = length-map tables.pages (λ (page : PageColumns). rows_of_page tables page.page_id) ∙ sym (length-map tables.pages page_of_row);
   jobs = All-from_recursion (Within (length (map page_of_row tables.pages))) (pages_of (state_of tables).jobs)
-      (subst (λ n. AllByRecursion (Within n) (pages_of (state_of tables).jobs)) (sym (length-map tables.pages page_of_row)) (job-within tables tables.jobs));
+      (job-within tables tables.jobs);
   titles = subst (IsDistinct title_eq) (sym (map-map (λ (p : Page). p.title) page_of_row (λ (row : PageColumns). row.page_title) (λ row. refl) tables.pages)) (titles-distinct tables.pages keeps.titles);
   texts = All-from_recursion (λ (page : Page). Stands (history_of tables) page.current) (map page_of_row tables.pages) (texts-after tables [] tables.pages good keeps.latest);
 }

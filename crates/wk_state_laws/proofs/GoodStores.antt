@@ -5,20 +5,21 @@ use Rattle.std.specs.List.{AllByRecursion, filter, enumerate_from}
 use Rattle.std.specs.Ordering.{int_eq, is_lt}
 use Rattle.std.proofs.lemmas.Bool.{cases_Bool, and_parts, eqb-true}
 use Rattle.std.proofs.lemmas.List.{length-append}
-use Rattle.wk_text_rules.specs.Titles.{PageTitle, title_cmp}
+use Rattle.wk_text_rules.specs.Titles.{PageTitle, title_cmp, is_normal, is_page_title}
 use Rattle.wk_page_rules.specs.History.{text_of_revision}
-use Rattle.wk_page_rules.specs.Verdict.{max_text}
+use Rattle.wk_page_rules.specs.Verdict.{max_text, max_pages, max_texts}
 use Rattle.wk_table_rules.specs.Rows.{StoreTables, PageColumns, RevisionColumns, LinkColumns, CategoryColumns, RedirectColumns, category_title}
-use Rattle.wk_table_rules.specs.Changes.{Member, has_page, namespace_of}
-use Rattle.wk_table_rules.specs.Stored.{targets_of, member_of, links_of, stored_links}
-use Rattle.wk_table_rules.specs.GoodStore.{IsGood, is_normal, is_real, row_lt, has_good_id, has_good_latest, is_good_revision, is_good_link, is_good_category, is_good_redirect, texts_len, max_pages, max_texts}
+use Rattle.wk_row_rules.specs.PageRows.{Member}
+use Rattle.wk_table_rules.specs.Changes.{has_page, namespace_of}
+use Rattle.wk_table_rules.specs.Stored.{targets_of, member_of, rows_of_page, stored_rows, history_of, page_of_row, revision_of_row}
+use Rattle.wk_table_rules.specs.GoodStore.{IsGood, row_lt, has_good_id, has_good_latest, is_good_revision, is_good_link, is_good_category, is_good_redirect, texts_len}
 use Rattle.wk_table_laws.specs.EachGood.{GoodAfter, EachGood, KeepsRules}
 use Rattle.wk_table_laws.specs.Premises.{is_next_title, is_next_member}
 use Rattle.wk_table_laws.proofs.FirstBad.{KeepsRules-from_good}
 use Rattle.wk_table_laws.proofs.GoodChanges.{EachGood-at}
 use Rattle.wk_table_laws.proofs.Pairs.{Pairs, Passes-from_good, EachGood-from_passes, each-filter, Pairs-filter}
 use Rattle.wk_table_laws.proofs.Links.{row_lt-same}
-use Rattle.wk_state_rules.specs.Tables.{history_of, page_row, revision_row, revision_of_row, page_of_row}
+use Rattle.wk_state_rules.specs.Tables.{page_row, revision_row}
 use Rattle.wk_state_laws.proofs.GoodOpened.{HasLast, has-last, text-last}
 use Rattle.wk_state_laws.proofs.TableLinks.{AreGoodLinks}
 use Rattle.wk_state_laws.proofs.TableHistory.{bare_tables}
@@ -154,14 +155,14 @@ module _ (tables : StoreTables) (page : ℕ) where
   targets-good : (rows : List LinkColumns) → EachGood (is_good_link tables) rows → EachGood is_next_title (targets_of page rows)
   targets-good rows good =
       let R = λ (earlier row : LinkColumns). row_lt earlier.from earlier.target row.from row.target in
-      let P = λ (row : LinkColumns). (has_page tables row.from && int_eq row.from_namespace (namespace_of tables row.from)) && is_real row.target in
+      let P = λ (row : LinkColumns). (has_page tables row.from && int_eq row.from_namespace (namespace_of tables row.from)) && is_page_title row.target in
       let S = λ (a b : PageTitle). is_lt (title_cmp a b) in
       let mine = filter (λ (row : LinkColumns). eqb row.from page) rows in
       let passes = Passes-from_good R P (is_good_link tables) (λ before row. refl) rows good in
       let own = own-filter (λ (row : LinkColumns). row.from) page rows in
-      EachGood-from_passes S is_real is_next_title (λ earlier title. refl) (targets_of page rows) (record {
-        alone = each-map P is_real (λ (row : LinkColumns). row.target)
-            (λ row holds. (and_parts (has_page tables row.from && int_eq row.from_namespace (namespace_of tables row.from)) (is_real row.target) holds).1)
+      EachGood-from_passes S is_page_title is_next_title (λ earlier title. refl) (targets_of page rows) (record {
+        alone = each-map P is_page_title (λ (row : LinkColumns). row.target)
+            (λ row holds. (and_parts (has_page tables row.from && int_eq row.from_namespace (namespace_of tables row.from)) (is_page_title row.target) holds).1)
             mine (each-filter (λ (row : LinkColumns). P row ≡ true) (λ (row : LinkColumns). eqb row.from page) rows passes.alone);
         paired = pairs-map R S (λ (row : LinkColumns). row.target) (λ (row : LinkColumns). row.from) page
             (λ a b one two before. sym (row_lt-same page a.target b.target)
@@ -172,7 +173,7 @@ module _ (tables : StoreTables) (page : ℕ) where
   abbrev category_of : Member → PageTitle
   category_of member = category_title member.category.key
 
-  members-good : EachGood (is_good_category tables) tables.categorylinks → EachGood is_next_member (links_of tables page).members
+  members-good : EachGood (is_good_category tables) tables.categorylinks → EachGood is_next_member (rows_of_page tables page).members
   members-good good =
       let rows = tables.categorylinks in
       let R = λ (earlier row : CategoryColumns). row_lt earlier.cl_from (category_title earlier.cl_to) row.cl_from (category_title row.cl_to) in
@@ -195,15 +196,15 @@ module _ (tables : StoreTables) (page : ℕ) where
   in-category [] = tt
   in-category (row ∷ rows) = (refl, in-category rows)
 
-  redirect-good : (rows : List RedirectColumns) → AllByRecursion (λ (row : RedirectColumns). (has_page tables row.rd_from && is_real row.rd_title) ≡ true) rows
-      → IfSome (option_map (λ (row : RedirectColumns). row.rd_title) (find (λ (row : RedirectColumns). eqb row.rd_from page) rows)) (λ title. is_real title ≡ true)
+  redirect-good : (rows : List RedirectColumns) → AllByRecursion (λ (row : RedirectColumns). (has_page tables row.rd_from && is_page_title row.rd_title) ≡ true) rows
+      → IfSome (option_map (λ (row : RedirectColumns). row.rd_title) (find (λ (row : RedirectColumns). eqb row.rd_from page) rows)) (λ title. is_page_title title ≡ true)
   redirect-good [] all = tt
   redirect-good (row ∷ rows) all = elim (cases_Bool (eqb row.rd_from page)) [
-    | inl own ↦ rw own (and_parts (has_page tables row.rd_from) (is_real row.rd_title) all.0).1
+    | inl own ↦ rw own (and_parts (has_page tables row.rd_from) (is_page_title row.rd_title) all.0).1
     | inr other ↦ rw other (redirect-good rows all.1)
   ]
 
-  links-good : KeepsRules tables → AreGoodLinks (links_of tables page)
+  links-good : KeepsRules tables → AreGoodLinks (rows_of_page tables page)
   links-good keeps = record {
     templates = targets-good tables.templatelinks keeps.templatelinks;
     exists = targets-good tables.existlinks keeps.existlinks;
@@ -211,13 +212,13 @@ module _ (tables : StoreTables) (page : ℕ) where
     members = members-good keeps.categorylinks;
     categories = in-category (filter (λ (row : CategoryColumns). eqb row.cl_from page) tables.categorylinks);
     redirect = redirect-good tables.redirects
-        (Passes-from_good (λ (earlier row : RedirectColumns). ltb earlier.rd_from row.rd_from) (λ row. has_page tables row.rd_from && is_real row.rd_title)
+        (Passes-from_good (λ (earlier row : RedirectColumns). ltb earlier.rd_from row.rd_from) (λ row. has_page tables row.rd_from && is_page_title row.rd_title)
         (is_good_redirect tables) (λ before row. refl) tables.redirects keeps.redirects).alone;
   }
 
-pub stored-good : (tables : StoreTables) → KeepsRules tables → AllByRecursion AreGoodLinks (stored_links tables)
+pub stored-good : (tables : StoreTables) → KeepsRules tables → AllByRecursion AreGoodLinks (stored_rows tables)
 stored-good tables keeps = by tables.pages
   where
-    by : (pages : List PageColumns) → AllByRecursion AreGoodLinks (map (λ (page : PageColumns). links_of tables page.page_id) pages)
+    by : (pages : List PageColumns) → AllByRecursion AreGoodLinks (map (λ (page : PageColumns). rows_of_page tables page.page_id) pages)
     by [] = tt
     by (page ∷ pages) = (links-good tables page.page_id keeps, by pages)

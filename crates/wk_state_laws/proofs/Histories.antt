@@ -2,11 +2,11 @@
 use Rattle.std.proofs.Common.{◌≡◌, ℕ, ◌+◌, Bool, true, false, cond, List, Option, Some, None, refl, sym, ap, ◌∙◌}
 use Rattle.std.specs.Prelude.{option_map}
 use Rattle.wk_text_rules.specs.Titles.{PageTitle}
-use Rattle.wk_page_rules.specs.History.{History, saved}
+use Rattle.wk_page_rules.specs.History.{History, saved, can_save}
 use Rattle.wk_job_rules.specs.Jobs.{first_queued, page_held_by, claimed_by, given_back}
 use Rattle.wk_job_rules.specs.Steps.{after_fan}
 use Rattle.wk_state_rules.specs.States.{State}
-use Rattle.wk_state_rules.specs.Events.{Save, Claim, Done, Back, Fan, can_save, with_saved, with_refreshed, with_jobs, step_by}
+use Rattle.wk_state_rules.specs.Events.{Save, Claim, Done, Back, Fan, with_saved, with_refreshed, with_jobs, step_by}
 
 -- where there is such a step, its state has what each such state has
 kept_by_step : {X : Type 0} (f : X → State) (h : History) (o : Option X) (next : State) → ((x : X) → (f x).history ≡ h) → option_map f o ≡ Some next → next.history ≡ h

@@ -6,38 +6,37 @@ use Rattle.std.specs.Ordering.{is_lt}
 use Rattle.std.proofs.lemmas.Bool.{cases_Bool, cond_both, and_parts, and_from, or_parts, eqb-true, ltb-false}
 use Rattle.std.proofs.lemmas.List.{length-append}
 use Rattle.std.proofs.lemmas.List.Elements.{recursion_from_All}
-use Rattle.wk_text_rules.specs.Titles.{PageTitle, title_eq, title_cmp, is_virtual}
-use Rattle.wk_page_rules.specs.History.{History, Page, page_number, page_exists, text_bytes}
+use Rattle.wk_text_rules.specs.Titles.{PageTitle, title_eq, title_cmp, is_virtual, is_normal, is_page_title}
+use Rattle.wk_page_rules.specs.History.{History, Page, page_number, page_exists, text_bytes, can_save, page_to_save}
 use Rattle.wk_page_rules.specs.Kept.{kept}
 use Rattle.wk_page_rules.specs.declared.Limit.{Limit}
 use Rattle.wk_page_rules.specs.declared.Limit.TheVariants.{Pages, Revisions, Text}
-use Rattle.wk_page_rules.specs.Verdict.{EditAsked, MostHeld, Refusal, Verdict, refuse, no_change, accept, with_room, judged, judged_at, real_title, limit_passed, is_same_text, is_conflict, is_journal_full, body_bytes, max_text, max_job, content_too_big, article_exists, missing_title, edit_conflict, wiki_full, journal_full, invalid_title}
+use Rattle.wk_page_rules.specs.Verdict.{EditAsked, MostHeld, Refusal, Verdict, refuse, no_change, accept, with_room, judged, judged_at, real_title, limit_passed, is_same_text, is_conflict, is_journal_full, body_bytes, max_text, max_job, content_too_big, article_exists, missing_title, edit_conflict, wiki_full, journal_full, invalid_title, max_pages, max_texts}
 use Rattle.wk_page_rules.specs.History.{current_revision, current_text}
-use Rattle.wk_table_rules.specs.declared.Reach.{Reach}
+use Rattle.wk_row_rules.specs.declared.Reach.{Reach}
 use Rattle.wk_table_rules.specs.Rows.{PageColumns, category_title}
-use Rattle.wk_table_rules.specs.Changes.{Member, PageLinks, no_links}
-use Rattle.wk_table_rules.specs.GoodStore.{IsGood, is_normal, is_real, has_good_id, max_pages, max_texts}
+use Rattle.wk_table_rules.specs.GoodStore.{IsGood, has_good_id}
 use Rattle.wk_table_laws.specs.EachGood.{GoodAfter, EachGood, KeepsRules}
 use Rattle.wk_table_laws.specs.Premises.{is_next_title, is_next_member}
 use Rattle.wk_table_laws.proofs.FirstBad.{IsGood-from_rules}
 use Rattle.wk_table_laws.proofs.Pairs.{Pairs, each-append, each-weaker, EachGood-from_passes}
 use Rattle.wk_job_rules.specs.Jobs.{FanEntry, JobLists, IsNumbered, IsOneAPage, IsOneATitle, first_queued, page_held_by, has_fan, has_refresh, refresh_queued, claimed_by, given_back, fan_set, set_anew, with_first_cursor, left, numbers_of, pages_of}
-use Rattle.wk_job_rules.specs.Steps.{all_queued, served_by, reach_of_save, reopened_jobs}
+use Rattle.wk_job_rules.specs.Steps.{all_queued, after_serving, cursor_behind, next_served, reach_of_save, reopened_jobs}
 use Rattle.wk_job_rules.specs.Users.{users}
 use Rattle.wk_job_rules.proofs.JobLemmas.{IsOneAPage-none, IsOneAPage-claimed, IsOneAPage-given_back, IsOneAPage-reopened, IsOneAPage-dropped, IsOneAPage-saved, IsOneAPage-served, IsOneATitle-none, IsOneATitle-saved, IsOneATitle-served, IsNumbered-none, IsNumbered-claimed, IsNumbered-given_back, IsNumbered-dropped, IsNumbered-saved, IsNumbered-served, IsNumbered-reopened}
 use Rattle.wk_job_laws.specs.InOrder.{IsInOrder}
 use Rattle.wk_job_laws.proofs.FanOrder.{IsInOrder-saved, IsInOrder-served}
-use Rattle.wk_view_rules.specs.Rows.{PageRows}
-use Rattle.wk_view_rules.specs.Rows as rows_of
+use Rattle.wk_row_rules.specs.PageRows.{PageRows, Member, no_rows}
 use Rattle.wk_view_laws.specs.Titles.{IsPageTitle, IsCategoryTitle, IsInTitleOrder, RowsAreInOrder, RowsHavePageTitles}
 use Rattle.wk_view_laws.proofs.OrderLemmas.{order-rows, pages-rows}
 use Rattle.wk_row_laws.specs.NormalTitles.{RowsHaveNormalTitles}
 use Rattle.wk_row_laws.proofs.NormalRows.{normal-rows}
-use Rattle.wk_state_rules.specs.States.{State, no_state, title_at, world_of, links_in, stored_form, stored_member}
-use Rattle.wk_state_rules.specs.Events.{Event, Save, Claim, Done, Back, Fan, can_save, page_to_save, stored_with, with_saved, with_refreshed, with_jobs, step_by}
+use Rattle.wk_view_rules.specs.Rows.{rows}
+use Rattle.wk_state_rules.specs.States.{State, no_state, title_at, world_of}
+use Rattle.wk_state_rules.specs.Events.{Event, Save, Claim, Done, Back, Fan, stored_with, with_saved, with_refreshed, with_jobs, step_by}
 use Rattle.wk_state_rules.specs.Lives.{reopened}
 use Rattle.wk_state_rules.specs.Tables.{tables_of, page_row}
-use Rattle.wk_state_rules.specs.Verdicts.{verdict_in}
+use Rattle.wk_state_rules.specs.Verdicts.{journal_use, verdict_in}
 use Rattle.wk_state_laws.specs.WellFormed.{IsWellFormed}
 use Rattle.wk_state_laws.specs.Reached.{IsWithinFull, IsMade, by_save, by_claim, by_finish, by_give_back, by_fan}
 use Rattle.wk_state_laws.proofs.SavedHistory.{Stands}
@@ -169,16 +168,16 @@ module _ {X : Type 0} (title_of : X → PageTitle) where
     in-order xs (λ i j d lt within. pairs (suc i) (suc j) d (omega (arith, lt)) (omega (arith, within))),
   )
 
-real-of : (title : PageTitle) → is_normal title ≡ true → IsPageTitle title → is_real title ≡ true
+real-of : (title : PageTitle) → is_normal title ≡ true → IsPageTitle title → is_page_title title ≡ true
 real-of title normal_one page = and_from (is_normal title) (not (is_virtual title)) normal_one (ap not page.real)
 
-all-real : (titles : List PageTitle) → AllByRecursion (λ title. is_normal title ≡ true) titles → AllByRecursion IsPageTitle titles → AllByRecursion (λ title. is_real title ≡ true) titles
+all-real : (titles : List PageTitle) → AllByRecursion (λ title. is_normal title ≡ true) titles → AllByRecursion IsPageTitle titles → AllByRecursion (λ title. is_page_title title ≡ true) titles
 all-real [] normals pages = tt
 all-real (title ∷ titles) normals pages = (real-of title normals.0 pages.0, all-real titles normals.1 pages.1)
 
 titles-good : (titles : List PageTitle) → All (λ title. is_normal title ≡ true) titles → All IsPageTitle titles → IsInTitleOrder (λ title. title) titles → EachGood is_next_title titles
 titles-good titles normals pages order =
-    EachGood-from_passes (λ (a b : PageTitle). is_lt (title_cmp a b)) is_real is_next_title (λ earlier title. refl) titles (record {
+    EachGood-from_passes (λ (a b : PageTitle). is_lt (title_cmp a b)) is_page_title is_next_title (λ earlier title. refl) titles (record {
       alone = all-real titles (recursion_from_All (λ title. is_normal title ≡ true) titles normals) (recursion_from_All IsPageTitle titles pages);
       paired = in-order (λ (title : PageTitle). title) titles order;
     })
@@ -190,8 +189,8 @@ category-same title is = ap (λ ns. let t : PageTitle = record { ns = ns; key = 
 abbrev category_of : Member → PageTitle
 category_of member = category_title member.category.key
 
-members-passes : (members : List rows_of.Member) → AllByRecursion (λ (m : rows_of.Member). is_normal m.category ≡ true) members → AllByRecursion (λ (m : rows_of.Member). IsCategoryTitle m.category) members → Pairs (before (λ (m : rows_of.Member). m.category)) members
-    → AllByRecursion (λ (m : Member). is_normal (category_of m) ≡ true) (map stored_member members) × (Pairs (before category_of) (map stored_member members) × AllByRecursion (λ (m : Member). m.category.ns ≡ pos 14) (map stored_member members))
+members-passes : (members : List Member) → AllByRecursion (λ (m : Member). is_normal m.category ≡ true) members → AllByRecursion (λ (m : Member). IsCategoryTitle m.category) members → Pairs (before (λ (m : Member). m.category)) members
+    → AllByRecursion (λ (m : Member). is_normal (category_of m) ≡ true) members × (Pairs (before category_of) members × AllByRecursion (λ (m : Member). m.category.ns ≡ pos 14) members)
 members-passes [] normals titles order = (tt, (tt, tt))
 members-passes (m ∷ members) normals titles order =
     let later = members-passes members normals.1 titles.1 order.1 in
@@ -200,8 +199,8 @@ members-passes (m ∷ members) normals titles order =
       ((ahead members titles.1 order.0, later.1.0), (titles.0.1, later.1.1)),
     )
   where
-    ahead : (rest : List rows_of.Member) → AllByRecursion (λ (n : rows_of.Member). IsCategoryTitle n.category) rest → AllByRecursion (λ (n : rows_of.Member). is_lt (title_cmp m.category n.category) ≡ true) rest
-        → AllByRecursion (λ (n : Member). is_lt (title_cmp (category_title m.category.key) (category_of n)) ≡ true) (map stored_member rest)
+    ahead : (rest : List Member) → AllByRecursion (λ (n : Member). IsCategoryTitle n.category) rest → AllByRecursion (λ (n : Member). is_lt (title_cmp m.category n.category) ≡ true) rest
+        → AllByRecursion (λ (n : Member). is_lt (title_cmp (category_title m.category.key) (category_of n)) ≡ true) rest
     ahead [] each less = tt
     ahead (n ∷ rest) each less = (
       subst (λ t. is_lt (title_cmp t (category_title n.category.key)) ≡ true) (sym (category-same m.category titles.0.1))
@@ -209,19 +208,19 @@ members-passes (m ∷ members) normals titles order =
       ahead rest each.1 less.1,
     )
 
-redirect-real : (o : Option PageTitle) → IfSome o (λ title. is_normal title ≡ true) → IfSome o IsPageTitle → IfSome o (λ title. is_real title ≡ true)
+redirect-real : (o : Option PageTitle) → IfSome o (λ title. is_normal title ≡ true) → IfSome o IsPageTitle → IfSome o (λ title. is_page_title title ≡ true)
 redirect-real None normal_one page = tt
 redirect-real (Some title) normal_one page = real-of title normal_one page
 
-rows-good : (r : PageRows) → RowsHaveNormalTitles r → RowsAreInOrder r → RowsHavePageTitles r → AreGoodLinks (stored_form r)
+rows-good : (r : PageRows) → RowsHaveNormalTitles r → RowsAreInOrder r → RowsHavePageTitles r → AreGoodLinks r
 rows-good r normals order titles =
-    let members = members-passes r.members (recursion_from_All (λ (m : rows_of.Member). is_normal m.category ≡ true) r.members normals.members)
-    (recursion_from_All (λ (m : rows_of.Member). IsCategoryTitle m.category) r.members titles.members) (in-order (λ (m : rows_of.Member). m.category) r.members order.members) in
+    let members = members-passes r.members (recursion_from_All (λ (m : Member). is_normal m.category ≡ true) r.members normals.members)
+    (recursion_from_All (λ (m : Member). IsCategoryTitle m.category) r.members titles.members) (in-order (λ (m : Member). m.category) r.members order.members) in
     record {
       templates = titles-good r.templates normals.templates titles.templates order.templates;
       exists = titles-good r.exists normals.exists titles.exists order.exists;
       links = titles-good r.links normals.links titles.links order.links;
-      members = EachGood-from_passes (λ (a b : Member). is_lt (title_cmp (category_of a) (category_of b))) (λ m. is_normal (category_of m)) is_next_member (λ earlier m. refl) (map stored_member r.members)
+      members = EachGood-from_passes (λ (a b : Member). is_lt (title_cmp (category_of a) (category_of b))) (λ m. is_normal (category_of m)) is_next_member (λ earlier m. refl) r.members
           (record { alone = members.0; paired = members.1.0 });
       categories = members.1.1;
       redirect = redirect-real r.redirect normals.redirect titles.redirect;
@@ -237,8 +236,8 @@ IsKept-refreshed state page keeps formed =
     let title = title_at state.history page in record {
       formed = formed;
       history = keeps.history;
-      links = set-each AreGoodLinks state.stored (page - 1) (links_in (world_of state) title)
-          (rows-good (rows_of.rows (world_of state) title) (normal-rows (world_of state) title) (order-rows (world_of state) title) (pages-rows (world_of state) title)) keeps.links;
+      links = set-each AreGoodLinks state.stored (page - 1) (rows (world_of state) title)
+          (rows-good (rows (world_of state) title) (normal-rows (world_of state) title) (order-rows (world_of state) title) (pages-rows (world_of state) title)) keeps.links;
       numbered = IsNumbered-dropped state.jobs page keeps.numbered;
       one_page = IsOneAPage-dropped state.jobs page keeps.one_page;
       one_title = keeps.one_title;
@@ -265,7 +264,7 @@ length-taken zero (x ∷ xs) = omega arith
 length-taken (suc most) [] = omega arith
 length-taken (suc most) (x ∷ xs) = let later = length-taken most xs in omega (arith, later)
 
-users-few : (stored : List PageLinks) (fan : FanEntry) (most : ℕ) → length (users stored fan.title fan.reach fan.cursor most) ≤ length stored
+users-few : (stored : List PageRows) (fan : FanEntry) (most : ℕ) → length (users stored fan.title fan.reach fan.cursor most) ≤ length stored
 users-few stored fan most =
     let taken = length-taken most (found (uses fan.title fan.reach fan.cursor) 1 stored) in
     let few = found-few (uses fan.title fan.reach fan.cursor) 1 stored in
@@ -287,11 +286,11 @@ first-fits : (n : ℕ) (fans : List FanEntry) (fan : FanEntry) → slice_get fan
 first-fits n [] fan there all = absurd (let e : None ≡ Some fan = there in cc)
 first-fits n (x ∷ fans) fan there all = let is : x ≡ fan = (let e : Some x ≡ Some fan = there in cc) in subst (FanFits n) is all.0
 
-IsKept-served : (most : ℕ) (state : State) (fan : FanEntry) → slice_get state.jobs.fans 0 ≡ Some fan → state.jobs.next ≤ max_job → IsKept state → IsWellFormed (with_jobs state (served_by state.stored most state.jobs fan))
-    → IsKept (with_jobs state (served_by state.stored most state.jobs fan))
+IsKept-served : (most : ℕ) (state : State) (fan : FanEntry) → slice_get state.jobs.fans 0 ≡ Some fan → state.jobs.next ≤ max_job → IsKept state → IsWellFormed (with_jobs state (after_serving state.stored most state.jobs fan))
+    → IsKept (with_jobs state (after_serving state.stored most state.jobs fan))
 IsKept-served most state fan first low keeps formed =
     let n = length state.history.pages in
-    let served = users state.stored fan.title fan.reach fan.cursor most in
+    let served = next_served state.stored most fan in
     let few = users-few state.stored fan most in
     let queued = all_queued state.jobs served in
     let pages = few-pages state.history keeps.history in
@@ -302,10 +301,10 @@ IsKept-served most state fan first low keeps formed =
     let fits = first-fits max_pages state.jobs.fans fan first keeps.fans in
     let cursor = last-within max_pages fan.cursor None served fits.1 (each-weaker (Within n) (Within max_pages) (λ m inside. (inside.0, let low_page = inside.1 in omega (arith, low_page, pages))) served within) in
     let fans : AllByRecursion (FanFits max_pages) queued.fans = rw (fans-all_queued state.jobs served) keeps.fans in
-    kept-jobs state (served_by state.stored most state.jobs fan) keeps formed (IsNumbered-served state.stored most state.jobs fan keeps.numbered) (IsOneAPage-served state.stored most state.jobs fan keeps.one_page)
+    kept-jobs state (after_serving state.stored most state.jobs fan) keeps formed (IsNumbered-served state.stored most state.jobs fan keeps.numbered) (IsOneAPage-served state.stored most state.jobs fan keeps.one_page)
     (IsOneATitle-served state.stored most state.jobs fan keeps.one_title) (IsInOrder-served state.stored most state.jobs fan keeps.in_order)
     (cond_both _ _ _ (λ (after : JobLists). after.next ≤ 2 ^ 63) (λ nobody. next) (λ others. next))
-    (cond_both _ _ _ (λ (after : JobLists). AllByRecursion (FanFits max_pages) after.fans) (λ nobody. fits-dropped max_pages queued.fans fans) (λ others. fits-moved max_pages (unwrap_or (last_or None served) fan.cursor) queued.fans cursor fans))
+    (cond_both _ _ _ (λ (after : JobLists). AllByRecursion (FanFits max_pages) after.fans) (λ nobody. fits-dropped max_pages queued.fans fans) (λ others. fits-moved max_pages (cursor_behind served fan.cursor) queued.fans cursor fans))
 
 -- ---- what an accepted edit is
 
@@ -380,7 +379,7 @@ module _ (most : MostHeld) (full : IsWithinFull most) (state : State) where
   pub accepted : (journal : ℕ) (edit : EditAsked) (title : PageTitle) (text : Option (List ℕ)) → verdict_in most state journal edit ≡ accept title text → LeavesRoom state title text
   unfolding judged
   accepted journal edit title text is =
-      let parts = with_room-accept (is_journal_full most journal (left state.jobs).claimed state.jobs.next) (judged state.history most edit) title text is in
+      let parts = with_room-accept (is_journal_full most (journal_use state journal)) (judged state.history most edit) title text is in
       let low = ltb-false max_job state.jobs.next (or_parts (leb most.journal (journal + (left state.jobs).claimed)) (ltb max_job state.jobs.next) parts.0).1 in
       by (real_title edit.title) (omega (arith, low)) parts.1
     where
@@ -406,7 +405,7 @@ fits-set n lists title reach normal_one all = elim (cases_Bool (has_fan lists ti
   | inr none ↦ rw none (each-append (FanFits n) lists.fans (record { number = lists.next; title = title; reach = reach; cursor = 0 } ∷ []) all ((normal_one, omega arith), tt))
 ]
 
-IsKept-saved : (state : State) (title : PageTitle) (text : Option (List ℕ)) (moment : ℕ) → is_real title ≡ true → LeavesRoom state title text → IsKept state → IsWellFormed (with_saved state title text moment) → IsKept (with_saved state title text moment)
+IsKept-saved : (state : State) (title : PageTitle) (text : Option (List ℕ)) (moment : ℕ) → is_page_title title ≡ true → LeavesRoom state title text → IsKept state → IsWellFormed (with_saved state title text moment) → IsKept (with_saved state title text moment)
 IsKept-saved state title text moment real leaves keeps formed =
     let h = state.history in
     let page = page_to_save h title in
@@ -427,8 +426,8 @@ IsKept-saved state title text moment real leaves keeps formed =
         | inl there ↦ saved-old h title text moment keeps.history stand real leaves.short leaves.room there
         | inr none ↦ saved-new h title text moment keeps.history stand real leaves.short leaves.room none (leaves.pages none)
       ];
-      links = cond_both (is_some (page_number h title)) state.stored (state.stored ++ no_links ∷ []) (AllByRecursion AreGoodLinks) (λ old. keeps.links)
-          (λ new. each-append AreGoodLinks state.stored (no_links ∷ []) keeps.links (AreGoodLinks-none, tt));
+      links = cond_both (is_some (page_number h title)) state.stored (state.stored ++ no_rows ∷ []) (AllByRecursion AreGoodLinks) (λ old. keeps.links)
+          (λ new. each-append AreGoodLinks state.stored (no_rows ∷ []) keeps.links (AreGoodLinks-none, tt));
       numbered = IsNumbered-saved stored state.jobs page title reach keeps.numbered;
       one_page = IsOneAPage-saved stored state.jobs page title reach keeps.one_page;
       one_title = IsOneATitle-saved stored state.jobs page title reach keeps.one_title;
@@ -445,7 +444,7 @@ IsKept-step most served state next journal (Save title text moment) full (by_sav
       let after : Some (with_saved state title text moment) ≡ Some next = rw can at done in
       let same : with_saved state title text moment ≡ next = cc in
       let formed = subst IsWellFormed (sym same) (IsWellFormed-step served state next journal (Save title text moment) done keeps.formed) in
-      let real = (and_parts (is_real title) (is_some text || page_exists state.history title) can).0 in
+      let real = (and_parts (is_page_title title) (is_some text || page_exists state.history title) can).0 in
       subst IsKept same (IsKept-saved state title text moment real (accepted most full state journal edit title text is) keeps formed)
   | inr cannot ↦ absurd (let e : None ≡ Some next = rw cannot at done in cc)
 ]
@@ -463,10 +462,10 @@ IsKept-step most served state next journal Fan full (by_fan room) done keeps = b
     low : state.jobs.next ≤ max_job
     low = let at = ltb-false max_job state.jobs.next (or_parts (leb most.journal (journal + (left state.jobs).claimed)) (ltb max_job state.jobs.next) room).1 in omega (arith, at)
 
-    by : (o : Option FanEntry) → slice_get state.jobs.fans 0 ≡ o → option_map (λ jobs. with_jobs state jobs) (option_map (served_by state.stored served state.jobs) o) ≡ Some next → IsKept next
+    by : (o : Option FanEntry) → slice_get state.jobs.fans 0 ≡ o → option_map (λ jobs. with_jobs state jobs) (option_map (after_serving state.stored served state.jobs) o) ≡ Some next → IsKept next
     by None none is = absurd (let e : None ≡ Some next = is in cc)
     by (Some fan) first is =
-        let got : Some (with_jobs state (served_by state.stored served state.jobs fan)) ≡ Some next = is in
-        let same : with_jobs state (served_by state.stored served state.jobs fan) ≡ next = cc in
+        let got : Some (with_jobs state (after_serving state.stored served state.jobs fan)) ≡ Some next = is in
+        let same : with_jobs state (after_serving state.stored served state.jobs fan) ≡ next = cc in
         let formed = subst IsWellFormed (sym same) (IsWellFormed-step served state next journal Fan done keeps.formed) in
         subst IsKept same (IsKept-served served state fan first low keeps formed)

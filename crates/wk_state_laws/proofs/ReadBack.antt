@@ -6,23 +6,23 @@ use Rattle.std.specs.Option.{option_to_list}
 use Rattle.std.proofs.lemmas.Bool.{cases_Bool, eqb-true, eqb-false, eq-eqb, ne_eqb, lt-ltb}
 use Rattle.std.proofs.lemmas.List.Elements.{filter-append, recursion_from_All}
 use Rattle.wk_text_rules.specs.Titles.{PageTitle, title_eq}
-use Rattle.wk_page_rules.specs.History.{History, Page, Revision}
+use Rattle.wk_page_rules.specs.History.{History, Page, Revision, page_number}
 use Rattle.wk_table_rules.specs.Rows.{PageColumns, LinkColumns, CategoryColumns, RedirectColumns}
-use Rattle.wk_table_rules.specs.Changes.{Member, PageLinks, link_row, category_row, redirect_row}
-use Rattle.wk_table_rules.specs.Stored.{targets_of, member_of, links_of, stored_links}
-use Rattle.wk_table_rules.specs.GoodStore.{max_pages}
+use Rattle.wk_row_rules.specs.PageRows.{Member, PageRows}
+use Rattle.wk_table_rules.specs.Changes.{link_row, category_row, redirect_row}
+use Rattle.wk_table_rules.specs.Stored.{targets_of, member_of, rows_of_page, stored_rows, history_of, page_of_row, revision_of_row}
+use Rattle.wk_page_rules.specs.Verdict.{max_pages}
 use Rattle.wk_job_rules.specs.Jobs.{RefreshEntry, FanEntry, JobLists, pages_of, queued_again}
-use Rattle.wk_job_rules.specs.Steps.{by_number, reopened_jobs, jobs_of_tables, page_of_title}
+use Rattle.wk_job_rules.specs.Steps.{by_number, reopened_jobs, jobs_of_tables}
 use Rattle.wk_job_rules.proofs.Lists.{map-map}
 use Rattle.wk_job_laws.proofs.Order.{by_number-map, by_number-twice, greatest-fold}
 use Rattle.wk_job_laws.proofs.RoundTrip.{jobs_of_tables-rows}
 use Rattle.wk_view_laws.proofs.PlanLemmas.{title_eq-same}
 use Rattle.wk_state_rules.specs.States.{State, title_at}
-use Rattle.wk_state_rules.specs.Tables.{tables_of, state_of, history_of, page_row, revision_row, revision_of_row, page_of_row, link_rows, rows_of_pages}
+use Rattle.wk_state_rules.specs.Tables.{tables_of, state_of, page_row, revision_row, link_rows, rows_of_pages}
 use Rattle.wk_state_rules.specs.Lives.{reopened, opened}
 use Rattle.wk_state_laws.proofs.Formed.{Within}
 use Rattle.wk_state_laws.proofs.TableLinks.{AreGoodLinks}
-use Rattle.wk_state_laws.proofs.TableHistory.{length-rows}
 use Rattle.wk_state_laws.proofs.TableJobs.{at-map, page-at}
 use Rattle.wk_state_laws.proofs.Kept.{IsKept, FanFits}
 
@@ -45,8 +45,8 @@ history-back state = λ i. record { revisions = revisions-back 1 state.history.r
 
 -- ---- the rows of one page among those of all
 
-module _ {Row : Type 0} (from : Row → ℕ) (rows_of : ℕ → PageLinks → List Row) (own : (number : ℕ) (links : PageLinks) → AllByRecursion (λ row. from row ≡ number) (rows_of number links)) where
-  abbrev rows_from : ℕ → List PageLinks → List Row
+module _ {Row : Type 0} (from : Row → ℕ) (rows_of : ℕ → PageRows → List Row) (own : (number : ℕ) (links : PageRows) → AllByRecursion (λ row. from row ≡ number) (rows_of number links)) where
+  abbrev rows_from : ℕ → List PageRows → List Row
   rows_from a stored = flat_map (λ page. rows_of page.0 page.1) (enumerate_from a stored)
 
   abbrev is_of : ℕ → Row → Bool
@@ -61,13 +61,13 @@ module _ {Row : Type 0} (from : Row → ℕ) (rows_of : ℕ → PageLinks → Li
   none-own number other apart (row ∷ rows) all =
       let differs : eqb (from row) number ≡ false = ne_eqb (from row) number (λ same. apart (sym all.0 ∙ same)) in rw differs (none-own number other apart rows all.1)
 
-  none-below : (a number : ℕ) (stored : List PageLinks) → number < a → filter (is_of number) (rows_from a stored) ≡ []
+  none-below : (a number : ℕ) (stored : List PageRows) → number < a → filter (is_of number) (rows_from a stored) ≡ []
   none-below a number [] below = refl
   none-below a number (links ∷ stored) below =
       filter-append (is_of number) (rows_of a links) (rows_from (a + 1) stored)
       ∙ ap₂ (λ xs ys. xs ++ ys) (none-own number a (λ same. omega (arith, below, same)) (rows_of a links) (own a links)) (none-below (a + 1) number stored (omega (arith, below)))
 
-  pub of-page : (a number : ℕ) (stored : List PageLinks) (links : PageLinks) → a ≤ number → slice_get stored (number - a) ≡ Some links → filter (is_of number) (rows_from a stored) ≡ rows_of number links
+  pub of-page : (a number : ℕ) (stored : List PageRows) (links : PageRows) → a ≤ number → slice_get stored (number - a) ≡ Some links → filter (is_of number) (rows_from a stored) ≡ rows_of number links
   of-page a number [] links from_a there = absurd (let e : None ≡ Some links = there in cc)
   of-page a number (x ∷ stored) links from_a there = elim (cases_Bool (eqb a number)) [
     | inl same ↦
@@ -100,7 +100,7 @@ find-filter p [] = refl
 find-filter p (x ∷ xs) = elim (cases_Bool (p x)) [ inl passes ↦ rw passes refl | inr fails ↦ rw fails (find-filter p xs) ]
 
 module _ (state : State) where
-  titles-back : (titles : PageLinks → List PageTitle) (number : ℕ) (links : PageLinks) → 1 ≤ number → slice_get state.stored (number - 1) ≡ Some links → targets_of number (rows_of_pages (link_rows state.history titles) state.stored) ≡ titles links
+  titles-back : (titles : PageRows → List PageTitle) (number : ℕ) (links : PageRows) → 1 ≤ number → slice_get state.stored (number - 1) ≡ Some links → targets_of number (rows_of_pages (link_rows state.history titles) state.stored) ≡ titles links
   titles-back titles number links low there =
       ap (λ (rows : List LinkColumns). map (λ (row : LinkColumns). row.target) rows)
       (of-page (λ (row : LinkColumns). row.from) (link_rows state.history titles) (λ n l. own-row (λ (row : LinkColumns). row.from) (link_row n (title_at state.history n).ns) n (λ t. refl) (titles l)) 1 number state.stored links low there)
@@ -111,13 +111,13 @@ module _ (state : State) where
   member-back number (m ∷ members) all =
       ap₂ (λ x xs. x ∷ xs) (ap (λ ns. let one : Member = record { category = record { ns = ns; key = m.category.key }; sortkey = m.sortkey; prefix = m.prefix } in one) (sym all.0)) (member-back number members all.1)
 
-  members-back : (number : ℕ) (links : PageLinks) → 1 ≤ number → slice_get state.stored (number - 1) ≡ Some links → AreGoodLinks links → map member_of (filter (λ (row : CategoryColumns). eqb row.cl_from number) (tables_of state).categorylinks) ≡ links.members
+  members-back : (number : ℕ) (links : PageRows) → 1 ≤ number → slice_get state.stored (number - 1) ≡ Some links → AreGoodLinks links → map member_of (filter (λ (row : CategoryColumns). eqb row.cl_from number) (tables_of state).categorylinks) ≡ links.members
   members-back number links low there good =
       ap (map member_of)
       (of-page (λ (row : CategoryColumns). row.cl_from) (λ page l. map (category_row page) l.members) (λ n l. own-row (λ (row : CategoryColumns). row.cl_from) (category_row n) n (λ m. refl) l.members) 1 number state.stored links low there)
       ∙ member-back number links.members good.categories
 
-  redirect-back : (number : ℕ) (links : PageLinks) → 1 ≤ number → slice_get state.stored (number - 1) ≡ Some links → option_map (λ (row : RedirectColumns). row.rd_title) (find (λ (row : RedirectColumns). eqb row.rd_from number) (tables_of state).redirects) ≡ links.redirect
+  redirect-back : (number : ℕ) (links : PageRows) → 1 ≤ number → slice_get state.stored (number - 1) ≡ Some links → option_map (λ (row : RedirectColumns). row.rd_title) (find (λ (row : RedirectColumns). eqb row.rd_from number) (tables_of state).redirects) ≡ links.redirect
   redirect-back number links low there =
       ap (λ o. option_map (λ (row : RedirectColumns). row.rd_title) o) (find-filter (λ (row : RedirectColumns). eqb row.rd_from number) (tables_of state).redirects)
       ∙ (ap (λ rows. option_map (λ (row : RedirectColumns). row.rd_title) (slice_get rows 0))
@@ -128,7 +128,7 @@ module _ (state : State) where
       one None = refl
       one (Some t) = refl
 
-  links-back : (number : ℕ) (links : PageLinks) → 1 ≤ number → slice_get state.stored (number - 1) ≡ Some links → AreGoodLinks links → links_of (tables_of state) number ≡ links
+  links-back : (number : ℕ) (links : PageRows) → 1 ≤ number → slice_get state.stored (number - 1) ≡ Some links → AreGoodLinks links → rows_of_page (tables_of state) number ≡ links
   links-back number links low there good = λ i. record {
     templates = titles-back (λ l. l.templates) number links low there i;
     exists = titles-back (λ l. l.exists) number links low there i;
@@ -137,8 +137,8 @@ module _ (state : State) where
     redirect = redirect-back number links low there i;
   }
 
-  stored-from : (a : ℕ) (pages : List Page) (stored : List PageLinks) → 1 ≤ a → length stored ≡ length pages → ((place : ℕ) (links : PageLinks) → slice_get stored place ≡ Some links → slice_get state.stored (a + place - 1) ≡ Some links)
-      → AllByRecursion AreGoodLinks stored → map (λ (row : PageColumns). links_of (tables_of state) row.page_id) (map (page_row state.history) (enumerate_from a pages)) ≡ stored
+  stored-from : (a : ℕ) (pages : List Page) (stored : List PageRows) → 1 ≤ a → length stored ≡ length pages → ((place : ℕ) (links : PageRows) → slice_get stored place ≡ Some links → slice_get state.stored (a + place - 1) ≡ Some links)
+      → AllByRecursion AreGoodLinks stored → map (λ (row : PageColumns). rows_of_page (tables_of state) row.page_id) (map (page_row state.history) (enumerate_from a pages)) ≡ stored
   stored-from a [] [] low same at good = refl
   stored-from a [] (links ∷ stored) low same at good = absurd (omega (arith, same))
   stored-from a (page ∷ pages) [] low same at good = absurd (omega (arith, same))
@@ -148,39 +148,38 @@ module _ (state : State) where
       (stored-from (a + 1) pages stored (omega (arith, low)) (omega (arith, same))
       (λ place l there. let one : a + suc place - 1 ≡ (a + 1) + place - 1 = omega arith in subst (λ n. slice_get state.stored n ≡ Some l) one (at (suc place) l there)) good.1)
 
-  stored-back : IsKept state → stored_links (tables_of state) ≡ state.stored
+  stored-back : IsKept state → stored_rows (tables_of state) ≡ state.stored
   stored-back keeps =
       stored-from 1 state.history.pages state.stored (omega arith) keeps.formed.stored
       (λ place links there. let same : 1 + place - 1 ≡ place = omega arith in subst (λ n. slice_get state.stored n ≡ Some links) (sym same) there) keeps.links
 
 -- ---- jobs
 
-found-at : (h : History) (a : ℕ) (pages : List Page) (place : ℕ) (page : Page) → IsDistinct title_eq (map (λ (p : Page). p.title) pages) → slice_get pages place ≡ Some page
-    → position_or_len (λ (row : PageColumns). title_eq row.page_title page.title) (map (page_row h) (enumerate_from a pages)) ≡ place
+found-at : (pages : List Page) (place : ℕ) (page : Page) → IsDistinct title_eq (map (λ (p : Page). p.title) pages) → slice_get pages place ≡ Some page
+    → position_or_len (λ (p : Page). title_eq p.title page.title) pages ≡ place
 unfolding IsDistinct
-found-at h a [] place page distinct there = absurd (let e : None ≡ Some page = there in cc)
-found-at h a (p ∷ pages) zero page distinct there =
+found-at [] place page distinct there = absurd (let e : None ≡ Some page = there in cc)
+found-at (p ∷ pages) zero page distinct there =
     let is : p ≡ page = (let e : Some p ≡ Some page = there in cc) in
     let same : title_eq p.title page.title ≡ true = subst (λ (q : Page). title_eq q.title page.title ≡ true) (sym is) (title_eq-same page.title) in
     rw same refl
-found-at h a (p ∷ pages) (suc place) page distinct there =
+found-at (p ∷ pages) (suc place) page distinct there =
     let differs = at-map (λ t. title_eq p.title t ≡ false) (λ (q : Page). q.title) pages place page distinct.0 there in
-    let later = found-at h (a + 1) pages place page distinct.1 there in
+    let later = found-at pages place page distinct.1 there in
     rw (differs, later) (omega arith)
 
-page-found : (state : State) (number : ℕ) → IsKept state → Within (length state.history.pages) number → page_of_title (tables_of state) (title_at state.history number) ≡ Some number
+page-found : (state : State) (number : ℕ) → IsKept state → Within (length state.history.pages) number → page_number (history_of (tables_of state)) (title_at state.history number) ≡ Some number
 page-found state number keeps within =
     let h = state.history in
     let found = page-at h number within in
-    let place = found-at h 1 h.pages (number - 1) found.0 keeps.formed.titles found.1.0 in
-    let same = length-rows (page_row h) 1 h.pages in
-    let below : ltb (number - 1) (length (tables_of state).pages) ≡ true = lt-ltb (number - 1) (length (tables_of state).pages) (omega (arith, within.0, within.1, same)) in
-    let at : page_of_title (tables_of state) found.0.title ≡ Some (number - 1 + 1) = rw (place, below) refl in
+    let place = found-at h.pages (number - 1) found.0 keeps.formed.titles found.1.0 in
+    let below : ltb (number - 1) (length h.pages) ≡ true = lt-ltb (number - 1) (length h.pages) (omega (arith, within.0, within.1)) in
+    let at : page_number h found.0.title ≡ Some (number - 1 + 1) = rw (place, below) refl in
     let one : number - 1 + 1 ≡ number = omega (arith, within.0) in
-    ap (page_of_title (tables_of state)) found.1.1 ∙ (at ∙ ap (λ n. Some n) one)
+    ap (λ (g : History). page_number g (title_at h number)) (history-back state) ∙ ap (page_number h) found.1.1 ∙ at ∙ ap (λ n. Some n) one
 
 jobs-found : (state : State) → IsKept state → (jobs : List RefreshEntry) → AllByRecursion (Within (length state.history.pages)) (map (λ (job : RefreshEntry). job.page) jobs)
-    → AllByRecursion (λ (job : RefreshEntry). page_of_title (tables_of state) (title_at state.history job.page) ≡ Some job.page) jobs
+    → AllByRecursion (λ (job : RefreshEntry). page_number (history_of (tables_of state)) (title_at state.history job.page) ≡ Some job.page) jobs
 jobs-found state keeps [] within = tt
 jobs-found state keeps (job ∷ jobs) within = (page-found state job.page keeps within.0, jobs-found state keeps jobs within.1)
 

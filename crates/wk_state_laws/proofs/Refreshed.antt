@@ -7,11 +7,12 @@ use Rattle.std.proofs.lemmas.List.{get_or-set_same, get_or-set_other}
 use Rattle.std.proofs.lemmas.List.Elements.{recursion_from_All}
 use Rattle.std.proofs.lemmas.Option.{unwrap_or-slice_get}
 use Rattle.wk_page_rules.specs.History.{Page}
-use Rattle.wk_table_rules.specs.Changes.{PageLinks, no_links}
+use Rattle.wk_row_rules.specs.PageRows.{PageRows, no_rows}
 use Rattle.wk_job_rules.specs.Jobs.{RefreshEntry, JobLists, has_refresh, is_held_by, page_held_by, refresh_dropped, pages_of}
 use Rattle.wk_job_rules.specs.Covers.{is_covered, fan_covers}
 use Rattle.wk_job_rules.proofs.JobLemmas.{has_refresh-dropped}
-use Rattle.wk_state_rules.specs.States.{State, page_at, title_at, stored_at, world_of, links_in}
+use Rattle.wk_view_rules.specs.Rows.{rows}
+use Rattle.wk_state_rules.specs.States.{State, page_at, title_at, stored_at, world_of}
 use Rattle.wk_state_rules.specs.Events.{Done, with_refreshed, step_by}
 use Rattle.wk_state_rules.specs.Soundness.{IsSound, IsCurrent}
 use Rattle.wk_state_laws.specs.WellFormed.{IsWellFormed}
@@ -36,23 +37,23 @@ held-within state ticket page formed held =
 
 -- ---- what is stored
 
-set-own : (stored : List PageLinks) (held : ℕ) (new : PageLinks) → (1 ≤ held) × (held ≤ length stored) → cond (eqb held 0) no_links (unwrap_or (slice_get (set stored (held - 1) new) (held - 1)) no_links) ≡ new
+set-own : (stored : List PageRows) (held : ℕ) (new : PageRows) → (1 ≤ held) × (held ≤ length stored) → cond (eqb held 0) no_rows (unwrap_or (slice_get (set stored (held - 1) new) (held - 1)) no_rows) ≡ new
 set-own stored held new within =
     let positive : eqb held 0 ≡ false = ne_eqb held 0 (λ none. omega (arith, within.0)) in
-    rw (positive, unwrap_or-slice_get (set stored (held - 1) new) (held - 1) no_links)
-    (get_or-set_same stored (held - 1) new no_links (omega (arith, within.0, within.1)))
+    rw (positive, unwrap_or-slice_get (set stored (held - 1) new) (held - 1) no_rows)
+    (get_or-set_same stored (held - 1) new no_rows (omega (arith, within.0, within.1)))
 
-stored-own : (state : State) (held : ℕ) → (1 ≤ held) × (held ≤ length state.stored) → stored_at (with_refreshed state held) held ≡ links_in (world_of state) (title_at state.history held)
-stored-own state held within = set-own state.stored held (links_in (world_of state) (title_at state.history held)) within
+stored-own : (state : State) (held : ℕ) → (1 ≤ held) × (held ≤ length state.stored) → stored_at (with_refreshed state held) held ≡ rows (world_of state) (title_at state.history held)
+stored-own state held within = set-own state.stored held (rows (world_of state) (title_at state.history held)) within
 
 stored-other : (state : State) (held number : ℕ) → 1 ≤ held → number ≢ held → stored_at (with_refreshed state held) number ≡ stored_at state number
 stored-other state held number positive apart = elim (cases_Bool (eqb number 0)) [
   | inl none ↦ rw none refl
   | inr more ↦
-      let new = links_in (world_of state) (title_at state.history held) in
+      let new = rows (world_of state) (title_at state.history held) in
       let other : (number - 1) ≢ (held - 1) = λ same. apart (let some = eqb-false number 0 more in omega arith) in
-      rw (more, unwrap_or-slice_get (set state.stored (held - 1) new) (number - 1) no_links, unwrap_or-slice_get state.stored (number - 1) no_links)
-      (get_or-set_other state.stored (held - 1) (number - 1) new no_links other)
+      rw (more, unwrap_or-slice_get (set state.stored (held - 1) new) (number - 1) no_rows, unwrap_or-slice_get state.stored (number - 1) no_rows)
+      (get_or-set_other state.stored (held - 1) (number - 1) new no_rows other)
 ]
 
 -- ---- what is covered
@@ -75,7 +76,7 @@ covered-other state held number positive apart =
 current-own : (state : State) (held : ℕ) (page : Page) → (1 ≤ held) × (held ≤ length state.stored) → page_at state.history held ≡ Some page → IsCurrent (with_refreshed state held) held page
 current-own state held page within there =
     let title : title_at state.history held ≡ page.title = rw there refl in
-    stored-own state held within ∙ ap (links_in (world_of state)) title
+    stored-own state held within ∙ ap (rows (world_of state)) title
 
 sound-refreshed : (state : State) (held : ℕ) → (1 ≤ held) × (held ≤ length state.stored) → IsSound state → IsSound (with_refreshed state held)
 sound-refreshed state held within sound number page there = elim (cases_Bool (eqb number held)) [

@@ -6,13 +6,13 @@ use Rattle.std.proofs.lemmas.Bool.{cases_Bool, cond_both, and_parts, and_from, o
 use Rattle.std.proofs.lemmas.List.Folds.{list_any-append}
 use Rattle.std.proofs.lemmas.List.Elements.{recursion_from_All}
 use Rattle.wk_text_rules.specs.Titles.{PageTitle, title_eq}
-use Rattle.wk_page_rules.specs.History.{History, Page, page_number, page_exists, current_revision, current_text, text_of_revision, with_current, next_revision, saved}
-use Rattle.wk_table_rules.specs.declared.Reach.{Reach}
-use Rattle.wk_table_rules.specs.declared.Reach.TheVariants.{Text, Both}
-use Rattle.wk_table_rules.specs.Changes.{PageLinks, no_links}
+use Rattle.wk_page_rules.specs.History.{History, Page, page_number, page_exists, current_revision, current_text, text_of_revision, with_current, next_revision, saved, can_save, page_to_save}
+use Rattle.wk_row_rules.specs.declared.Reach.{Reach}
+use Rattle.wk_row_rules.specs.declared.Reach.TheVariants.{Text, Both}
+use Rattle.wk_row_rules.specs.PageRows.{PageRows, no_rows, names}
 use Rattle.wk_job_rules.specs.Jobs.{FanEntry, JobLists, has_refresh, has_fan, refresh_queued, wider, set_anew, fan_set}
 use Rattle.wk_job_rules.specs.Steps.{reach_of_save, after_save}
-use Rattle.wk_job_rules.specs.Users.{names, is_named}
+use Rattle.wk_job_rules.specs.Users.{some_page_names}
 use Rattle.wk_job_rules.specs.Covers.{is_covered, fan_covers}
 use Rattle.wk_job_rules.proofs.JobLemmas.{has_refresh-queued}
 use Rattle.wk_view_rules.specs.Worlds.{PageText}
@@ -20,8 +20,8 @@ use Rattle.wk_view_rules.specs.Rows.{rows}
 use Rattle.wk_view_laws.specs.Changes.{DifferOnlyAt}
 use Rattle.wk_view_laws.proofs.PlanLemmas.{title_eq-true}
 use Rattle.wk_view_laws.proofs.RowLemmas.{rows-unnamed_both, rows-unnamed_text}
-use Rattle.wk_state_rules.specs.States.{State, page_at, stored_at, world_of, links_in, stored_form}
-use Rattle.wk_state_rules.specs.Events.{Save, can_save, page_to_save, stored_with, with_saved, step_by}
+use Rattle.wk_state_rules.specs.States.{State, page_at, stored_at, world_of}
+use Rattle.wk_state_rules.specs.Events.{Save, stored_with, with_saved, step_by}
 use Rattle.wk_state_rules.specs.Soundness.{IsSound, IsCurrent, Covers}
 use Rattle.wk_state_laws.specs.WellFormed.{IsWellFormed}
 use Rattle.wk_state_laws.proofs.Opened.{page-within}
@@ -30,17 +30,17 @@ use Rattle.wk_state_laws.proofs.SavedHistory.{eq-apart, number-other, number-own
 
 -- ---- the jobs after a save
 
-wider-names : (links : PageLinks) (title : PageTitle) (was reach : Reach) → names links title was ≡ true → names links title (wider was reach) ≡ true
+wider-names : (links : PageRows) (title : PageTitle) (was reach : Reach) → names links title was ≡ true → names links title (wider was reach) ≡ true
 wider-names links title Text Text named = named
 wider-names links title Text Both named = or_left (list_any (title_eq title) links.templates) (list_any (title_eq title) links.exists) named
 wider-names links title Both reach named = named
 
-reach-names : (links : PageLinks) (title : PageTitle) (was reach : Reach) → names links title reach ≡ true → names links title (wider was reach) ≡ true
+reach-names : (links : PageRows) (title : PageTitle) (was reach : Reach) → names links title reach ≡ true → names links title (wider was reach) ≡ true
 reach-names links title Text reach named = named
 reach-names links title Both Text named = or_left (list_any (title_eq title) links.templates) (list_any (title_eq title) links.exists) named
 reach-names links title Both Both named = named
 
-module _ (number : ℕ) (links : PageLinks) (title : PageTitle) (reach : Reach) (positive : 1 ≤ number) where
+module _ (number : ℕ) (links : PageRows) (title : PageTitle) (reach : Reach) (positive : 1 ≤ number) where
   anew-covers : (fan : FanEntry) → fan_covers number links fan ≡ true → fan_covers number links (set_anew title reach fan) ≡ true
   anew-covers fan covers = elim (cases_Bool (title_eq fan.title title)) [
     | inl same ↦ rw same
@@ -89,11 +89,11 @@ module _ (number : ℕ) (links : PageLinks) (title : PageTitle) (reach : Reach) 
 set-refresh : (lists : JobLists) (title : PageTitle) (reach : Reach) (number : ℕ) → has_refresh lists number ≡ true → has_refresh (fan_set lists title reach) number ≡ true
 set-refresh lists title reach number there = elim (cases_Bool (has_fan lists title)) [ inl fan ↦ rw fan there | inr none ↦ rw none there ]
 
-after-refresh : (stored : List PageLinks) (lists : JobLists) (page : ℕ) (title : PageTitle) (reach : Reach) (number : ℕ) → has_refresh (refresh_queued lists page) number ≡ true → has_refresh (after_save stored lists page title reach) number ≡ true
+after-refresh : (stored : List PageRows) (lists : JobLists) (page : ℕ) (title : PageTitle) (reach : Reach) (number : ℕ) → has_refresh (refresh_queued lists page) number ≡ true → has_refresh (after_save stored lists page title reach) number ≡ true
 after-refresh stored lists page title reach number there =
     cond_both _ _ _ (λ (after : JobLists). has_refresh after number ≡ true) (λ named. set-refresh (refresh_queued lists page) title reach number there) (λ nobody. there)
 
-covered-kept : (stored : List PageLinks) (lists : JobLists) (page : ℕ) (title : PageTitle) (reach : Reach) (number : ℕ) (links : PageLinks) → 1 ≤ number → is_covered lists number links ≡ true → is_covered (after_save stored lists page title reach) number links ≡ true
+covered-kept : (stored : List PageRows) (lists : JobLists) (page : ℕ) (title : PageTitle) (reach : Reach) (number : ℕ) (links : PageRows) → 1 ≤ number → is_covered lists number links ≡ true → is_covered (after_save stored lists page title reach) number links ≡ true
 covered-kept stored lists page title reach number links positive covered = elim (cases_Bool (has_refresh lists number)) [
   | inl there ↦
       or_left (has_refresh (after_save stored lists page title reach) number) (list_any (fan_covers number links) (after_save stored lists page title reach).fans)
@@ -105,16 +105,16 @@ covered-kept stored lists page title reach number links positive covered = elim 
       (cond_both _ _ _ (λ (after : JobLists). list_any (fan_covers number links) after.fans ≡ true) (λ named. set-keeps number links title reach positive (refresh_queued lists page) queued) (λ nobody. queued))
 ]
 
-covered-named : (stored : List PageLinks) (lists : JobLists) (page : ℕ) (title : PageTitle) (reach : Reach) (number : ℕ) (links : PageLinks) → 1 ≤ number → is_named stored title reach ≡ true → names links title reach ≡ true → is_covered (after_save stored lists page title reach) number links ≡ true
+covered-named : (stored : List PageRows) (lists : JobLists) (page : ℕ) (title : PageTitle) (reach : Reach) (number : ℕ) (links : PageRows) → 1 ≤ number → some_page_names stored title reach ≡ true → names links title reach ≡ true → is_covered (after_save stored lists page title reach) number links ≡ true
 covered-named stored lists page title reach number links positive someone named =
-    let goes : (has_fan (refresh_queued lists page) title || is_named stored title reach) ≡ true = or_right (has_fan (refresh_queued lists page) title) (is_named stored title reach) someone in
+    let goes : (has_fan (refresh_queued lists page) title || some_page_names stored title reach) ≡ true = or_right (has_fan (refresh_queued lists page) title) (some_page_names stored title reach) someone in
     let covers = or_right (has_refresh (fan_set (refresh_queued lists page) title reach) number) (list_any (fan_covers number links) (fan_set (refresh_queued lists page) title reach).fans)
     (set-covers number links title reach positive (refresh_queued lists page) named) in
     subst (λ b. is_covered (cond b (fan_set (refresh_queued lists page) title reach) (refresh_queued lists page)) number links ≡ true) (sym goes) covers
 
 -- ---- what is stored
 
-one-more : (stored : List PageLinks) (place : ℕ) → unwrap_or (slice_get (stored ++ no_links ∷ []) place) no_links ≡ unwrap_or (slice_get stored place) no_links
+one-more : (stored : List PageRows) (place : ℕ) → unwrap_or (slice_get (stored ++ no_rows ∷ []) place) no_rows ≡ unwrap_or (slice_get stored place) no_rows
 one-more [] zero = refl
 one-more [] (suc place) = refl
 one-more (links ∷ stored) zero = refl
@@ -124,18 +124,18 @@ stored-kept : (state : State) (title : PageTitle) (text : Option (List ℕ)) (mo
 stored-kept state title text moment number = elim (cases_Bool (eqb number 0)) [
   | inl none ↦ rw none refl
   | inr more ↦ rw more
-      (cond_both (is_some (page_number state.history title)) state.stored (state.stored ++ no_links ∷ []) (λ (stored : List PageLinks). unwrap_or (slice_get stored (number - 1)) no_links ≡ unwrap_or (slice_get state.stored (number - 1)) no_links)
+      (cond_both (is_some (page_number state.history title)) state.stored (state.stored ++ no_rows ∷ []) (λ (stored : List PageRows). unwrap_or (slice_get stored (number - 1)) no_rows ≡ unwrap_or (slice_get state.stored (number - 1)) no_rows)
       (λ old. refl) (λ new. one-more state.stored (number - 1)))
 ]
 
-nothing-named : (title : PageTitle) (reach : Reach) → names no_links title reach ≡ true → ⊥
+nothing-named : (title : PageTitle) (reach : Reach) → names no_rows title reach ≡ true → ⊥
 nothing-named title Text named = let e : false ≡ true = named in cc
 nothing-named title Both named = let e : false ≡ true = named in cc
 
-named-at : (stored : List PageLinks) (place : ℕ) (title : PageTitle) (reach : Reach) → names (unwrap_or (slice_get stored place) no_links) title reach ≡ true → is_named stored title reach ≡ true
+named-at : (stored : List PageRows) (place : ℕ) (title : PageTitle) (reach : Reach) → names (unwrap_or (slice_get stored place) no_rows) title reach ≡ true → some_page_names stored title reach ≡ true
 named-at [] place title reach named = absurd (nothing-named title reach named)
-named-at (links ∷ stored) zero title reach named = or_left (names links title reach) (list_any (λ (l : PageLinks). names l title reach) stored) named
-named-at (links ∷ stored) (suc place) title reach named = or_right (names links title reach) (list_any (λ (l : PageLinks). names l title reach) stored) (named-at stored place title reach named)
+named-at (links ∷ stored) zero title reach named = or_left (names links title reach) (list_any (λ (l : PageRows). names l title reach) stored) named
+named-at (links ∷ stored) (suc place) title reach named = or_right (names links title reach) (list_any (λ (l : PageRows). names l title reach) stored) (named-at stored place title reach named)
 
 -- ---- the world
 
@@ -194,7 +194,7 @@ module _ (state : State) (title : PageTitle) (text : Option (List ℕ)) (moment 
       is_some-paged (current_revision next.history title) (current_text next.history title)
       ∙ ap (λ (t : Option (List ℕ)). is_some t) (ap (text_of_revision next.history) (revision-own state.history title text moment) ∙ text-own state.history title text moment)
 
-  rows-kept : (page : PageTitle) → page ≢ title → (r : Reach) → r ≡ reach → names (links_in (world_of state) page) title r ≡ false → rows (world_of next) page ≡ rows (world_of state) page
+  rows-kept : (page : PageTitle) → page ≢ title → (r : Reach) → r ≡ reach → names (rows (world_of state) page) title r ≡ false → rows (world_of next) page ≡ rows (world_of state) page
   rows-kept page apart Both is unnamed = rows-unnamed_both (world_of state) (world_of next) page title elsewhere apart unnamed
   rows-kept page apart Text is unnamed =
       rows-unnamed_text (world_of state) (world_of next) page title elsewhere apart
@@ -221,17 +221,17 @@ module _ (state : State) (title : PageTitle) (text : Option (List ℕ)) (moment 
   other-sound : (number : ℕ) (page : Page) → 1 ≤ number → page.title ≢ title → IsCurrent state number page ⊎ Covers state number → IsCurrent next number page ⊎ Covers next number
   other-sound number page positive apart (inr covered) =
       inr (covered-kept (stored_with state title) state.jobs (page_to_save state.history title) title reach number (stored_at next number) positive
-      (subst (λ (l : PageLinks). is_covered state.jobs number l ≡ true) (sym (stored-kept state title text moment number)) covered))
+      (subst (λ (l : PageRows). is_covered state.jobs number l ≡ true) (sym (stored-kept state title text moment number)) covered))
   other-sound number page positive apart (inl current) = elim (cases_Bool (names (stored_at next number) title reach)) [
     | inl named ↦
         let more : eqb number 0 ≡ false = ne_eqb number 0 (λ none. omega (arith, none, positive)) in
-        let at : stored_at next number ≡ unwrap_or (slice_get (stored_with state title) (number - 1)) no_links = rw more refl in
-        let someone = named-at (stored_with state title) (number - 1) title reach (subst (λ (l : PageLinks). names l title reach ≡ true) at named) in
+        let at : stored_at next number ≡ unwrap_or (slice_get (stored_with state title) (number - 1)) no_rows = rw more refl in
+        let someone = named-at (stored_with state title) (number - 1) title reach (subst (λ (l : PageRows). names l title reach ≡ true) at named) in
         inr (covered-named (stored_with state title) state.jobs (page_to_save state.history title) title reach number (stored_at next number) positive someone named)
     | inr unnamed ↦
-        let is : stored_at next number ≡ links_in (world_of state) page.title = stored-kept state title text moment number ∙ current in
-        let kept = rows-kept page.title apart reach refl (subst (λ (l : PageLinks). names l title reach ≡ false) is unnamed) in
-        inl (is ∙ ap stored_form (sym kept))
+        let is : stored_at next number ≡ rows (world_of state) page.title = stored-kept state title text moment number ∙ current in
+        let kept = rows-kept page.title apart reach refl (subst (λ (l : PageRows). names l title reach ≡ false) is unnamed) in
+        inl (is ∙ sym kept)
   ]
 
   sound-saved : IsSound state → IsSound next

@@ -4,34 +4,34 @@ use Rattle.std.specs.Prelude.{slice_get}
 use Rattle.std.specs.List.{filter, list_any, enumerate_from, last_or}
 use Rattle.std.proofs.lemmas.Bool.{cases_Bool, eqb-true, eqb-false, ne_eqb}
 use Rattle.wk_text_rules.specs.Titles.{PageTitle}
-use Rattle.wk_table_rules.specs.declared.Reach.{Reach}
-use Rattle.wk_table_rules.specs.Changes.{PageLinks}
-use Rattle.wk_job_rules.specs.Users.{names, users}
+use Rattle.wk_row_rules.specs.declared.Reach.{Reach}
+use Rattle.wk_row_rules.specs.PageRows.{PageRows, names}
+use Rattle.wk_job_rules.specs.Users.{users}
 
 -- the numbers of the pages that pass a test, where the first has this number
-abbrev pub found : (ℕ × PageLinks → Bool) → ℕ → List PageLinks → List ℕ
+abbrev pub found : (ℕ × PageRows → Bool) → ℕ → List PageRows → List ℕ
 found p a stored = map (λ page. page.0) (filter p (enumerate_from a stored))
 
-abbrev pub uses : PageTitle → Reach → ℕ → ℕ × PageLinks → Bool
+abbrev pub uses : PageTitle → Reach → ℕ → ℕ × PageRows → Bool
 uses title reach above page = ltb above page.0 && names page.1 title reach
 
-pub users-is : (stored : List PageLinks) (title : PageTitle) (reach : Reach) (above most : ℕ) → users stored title reach above most ≡ take most (found (uses title reach above) 1 stored)
+pub users-is : (stored : List PageRows) (title : PageTitle) (reach : Reach) (above most : ℕ) → users stored title reach above most ≡ take most (found (uses title reach above) 1 stored)
 unfolding users
 users-is stored title reach above most = refl
 
-module _ (p : ℕ × PageLinks → Bool) (number : ℕ) (links : PageLinks) (passes : p (number, links) ≡ true) where
-  at-start : (a : ℕ) (x : PageLinks) (xs : List PageLinks) → a ≡ number → slice_get (x ∷ xs) (number - a) ≡ Some links → p (a, x) ≡ true
+module _ (p : ℕ × PageRows → Bool) (number : ℕ) (links : PageRows) (passes : p (number, links) ≡ true) where
+  at-start : (a : ℕ) (x : PageRows) (xs : List PageRows) → a ≡ number → slice_get (x ∷ xs) (number - a) ≡ Some links → p (a, x) ≡ true
   at-start a x xs same there =
       let none : number - a ≡ 0 = omega arith in
       let got : Some x ≡ Some links = rw none at there in
       let is : x ≡ links = cc in
       rw (same, is) passes
 
-  behind : (a : ℕ) (x : PageLinks) (xs : List PageLinks) → a ≤ number → a ≢ number → slice_get (x ∷ xs) (number - a) ≡ Some links → slice_get xs (number - (a + 1)) ≡ Some links
+  behind : (a : ℕ) (x : PageRows) (xs : List PageRows) → a ≤ number → a ≢ number → slice_get (x ∷ xs) (number - a) ≡ Some links → slice_get xs (number - (a + 1)) ≡ Some links
   behind a x xs from apart there =
       let one : number - a ≡ suc (number - (a + 1)) = omega arith in rw one at there
 
-  pub is-found : (a : ℕ) (stored : List PageLinks) → a ≤ number → slice_get stored (number - a) ≡ Some links → list_any (λ n. eqb n number) (found p a stored) ≡ true
+  pub is-found : (a : ℕ) (stored : List PageRows) → a ≤ number → slice_get stored (number - a) ≡ Some links → list_any (λ n. eqb n number) (found p a stored) ≡ true
   is-found a [] from there = absurd (let e : None ≡ Some links = there in cc)
   is-found a (x ∷ xs) from there = elim (cases_Bool (eqb a number)) [
     | inl same ↦ rw (at-start a x xs (eqb-true a number same) there, same) refl
@@ -44,7 +44,7 @@ module _ (p : ℕ × PageLinks → Bool) (number : ℕ) (links : PageLinks) (pas
         ]
   ]
 
-  pub is-served : (a : ℕ) (stored : List PageLinks) (most : ℕ) (o : Option ℕ) (d : ℕ) → a ≤ number → slice_get stored (number - a) ≡ Some links → unwrap_or o d < number → number ≤ unwrap_or (last_or o (take most (found p a stored))) d → list_any (λ n. eqb n number) (take most (found p a stored)) ≡ true
+  pub is-served : (a : ℕ) (stored : List PageRows) (most : ℕ) (o : Option ℕ) (d : ℕ) → a ≤ number → slice_get stored (number - a) ≡ Some links → unwrap_or o d < number → number ≤ unwrap_or (last_or o (take most (found p a stored))) d → list_any (λ n. eqb n number) (take most (found p a stored)) ≡ true
   is-served a [] most o d from there low high = absurd (let e : None ≡ Some links = there in cc)
   is-served a (x ∷ xs) zero o d from there low high = absurd (omega (arith, low, high))
   is-served a (x ∷ xs) (suc most) o d from there low high = elim (cases_Bool (eqb a number)) [

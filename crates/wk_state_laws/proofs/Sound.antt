@@ -2,7 +2,7 @@
 use Rattle.std.proofs.Common.{◌≡◌, ℕ, ◌+◌, ◌-◌, true, false, cond, eqb, [], Option, Some, None, refl, sym, ◌∙◌, inl, inr}
 use Rattle.std.specs.Prelude.{slice_get, option_map}
 use Rattle.wk_page_rules.specs.History.{Page, no_history}
-use Rattle.wk_table_rules.specs.Changes.{PageLinks}
+use Rattle.wk_row_rules.specs.PageRows.{PageRows}
 use Rattle.wk_job_rules.specs.Jobs.{JobLists, has_refresh, first_queued, page_held_by, claimed_by, given_back}
 use Rattle.wk_job_rules.specs.Steps.{reopened_jobs}
 use Rattle.wk_job_rules.specs.Covers.{is_covered}
@@ -20,7 +20,7 @@ IsSound-none number page there = absurd (let e : None ≡ Some page = rw (no-pag
 
 -- ---- no job left
 
-uncovered : (lists : JobLists) (number : ℕ) (links : PageLinks) → lists.refreshes ≡ [] → lists.fans ≡ [] → is_covered lists number links ≡ false
+uncovered : (lists : JobLists) (number : ℕ) (links : PageRows) → lists.refreshes ≡ [] → lists.fans ≡ [] → is_covered lists number links ≡ false
 uncovered lists number links no_refresh no_fan = rw (no_refresh, no_fan) refl
 
 pub IsCurrent-at_rest : (state : State) → IsSound state → state.jobs.refreshes ≡ [] → state.jobs.fans ≡ [] → (number : ℕ) (page : Page) → page_at state.history number ≡ Some page → IsCurrent state number page
@@ -31,13 +31,13 @@ IsCurrent-at_rest state sound no_refresh no_fan number page there = elim (sound 
 
 -- ---- other jobs that cover no less
 
-pub IsSound-with_jobs : (state : State) (lists : JobLists) → ((page : ℕ) (links : PageLinks) → is_covered state.jobs page links ≡ true → is_covered lists page links ≡ true) → IsSound state → IsSound (with_jobs state lists)
+pub IsSound-with_jobs : (state : State) (lists : JobLists) → ((page : ℕ) (links : PageRows) → is_covered state.jobs page links ≡ true → is_covered lists page links ≡ true) → IsSound state → IsSound (with_jobs state lists)
 IsSound-with_jobs state lists covers sound number page there = elim (sound number page there) [
   | inl current ↦ inl current
   | inr covered ↦ inr (covers number (stored_at state number) covered)
 ]
 
-same_covers : (before after : JobLists) → ((page : ℕ) → has_refresh after page ≡ has_refresh before page) → after.fans ≡ before.fans → (page : ℕ) (links : PageLinks) → is_covered before page links ≡ true → is_covered after page links ≡ true
+same_covers : (before after : JobLists) → ((page : ℕ) → has_refresh after page ≡ has_refresh before page) → after.fans ≡ before.fans → (page : ℕ) (links : PageRows) → is_covered before page links ≡ true → is_covered after page links ≡ true
 same_covers before after refreshes fans page links covered = rw (refreshes page, fans) covered
 
 -- what an option gives, where it gives something

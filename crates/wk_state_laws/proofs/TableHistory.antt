@@ -6,12 +6,12 @@ use Rattle.std.proofs.lemmas.Bool.{cases_Bool, and_parts, and_from, or_parts, eq
 use Rattle.std.proofs.Math.Numerals.{one-add}
 use Rattle.std.proofs.lemmas.List.Folds.{find_at}
 use Rattle.std.proofs.lemmas.List.Sums.{sum_by-append}
-use Rattle.wk_text_rules.specs.Titles.{PageTitle, title_eq}
+use Rattle.wk_text_rules.specs.Titles.{PageTitle, title_eq, is_page_title}
 use Rattle.wk_page_rules.specs.History.{History, Page, Revision, page_number, current_revision, text_bytes, with_current, next_revision, saved}
-use Rattle.wk_page_rules.specs.Verdict.{max_text, body_bytes}
+use Rattle.wk_page_rules.specs.Verdict.{max_text, body_bytes, max_pages, max_texts}
 use Rattle.wk_table_rules.specs.Rows.{StoreTables, PageColumns, RevisionColumns}
 use Rattle.wk_table_rules.specs.Changes.{add_revision, set_page, applied, has_page, with_page}
-use Rattle.wk_table_rules.specs.GoodStore.{is_real, has_good_latest, is_good_revision, current_of, texts_len, max_pages, max_texts}
+use Rattle.wk_table_rules.specs.GoodStore.{has_good_latest, is_good_revision, current_of, texts_len}
 use Rattle.wk_table_laws.specs.EachGood.{GoodAfter, KeepsRules}
 use Rattle.wk_table_laws.specs.Premises.{FitRevision, IsStanding, IsNext}
 use Rattle.wk_table_laws.proofs.FirstBad.{IsGood-from_rules}
@@ -118,7 +118,7 @@ none-of tables number missing before (row ∷ rows) good = elim (cases_Bool (eqb
 -- ---- a save
 
 module _ (h : History) (title : PageTitle) (text : Option (List ℕ)) (moment : ℕ) (keeps : KeepsRules (bare_tables h)) (stand : AllByRecursion (λ (page : Page). Stands h page.current) h.pages)
-    (real : is_real title ≡ true) (short : body_bytes text ≤ max_text) (room : text_bytes h + body_bytes text ≤ max_texts) where
+    (real : is_page_title title ≡ true) (short : body_bytes text ≤ max_text) (room : text_bytes h + body_bytes text ≤ max_texts) where
   abbrev after : History
   after = saved h title text moment
 
@@ -245,7 +245,7 @@ module _ (h : History) (title : PageTitle) (text : Option (List ℕ)) (moment : 
       let next : IsNext (bare_tables h) new = record {
         number = omega (arith, length_same);
         few = omega (arith, few);
-        title = and_from (is_real title) (not (list_any (λ (r : PageColumns). title_eq r.page_title title) (bare_tables h).pages)) real (ap not (titles-any h title 1 h.pages ∙ none));
+        title = and_from (is_page_title title) (not (list_any (λ (r : PageColumns). title_eq r.page_title title) (bare_tables h).pages)) real (ap not (titles-any h title 1 h.pages ∙ none));
       } in
       let added : with_page (bare_tables h).pages new ≡ (bare_tables h).pages ++ new ∷ [] = rw (at, with_page) refl in
       let pages : with_page (bare_tables h).pages new ≡ (bare_tables after).pages =

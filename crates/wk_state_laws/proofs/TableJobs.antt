@@ -5,13 +5,13 @@ use Rattle.std.specs.List.{AllByRecursion, IsDistinct, list_any, enumerate_from}
 use Rattle.std.proofs.lemmas.Bool.{cases_Bool, and_parts, and_from, or_left, or_right, eqb-false, ne_eqb, ltb-true, ltb-false, lt-ltb, le-leb}
 use Rattle.std.proofs.lemmas.List.Elements.{All-from_recursion, recursion_from_All}
 use Rattle.std.proofs.lemmas.List.Sorted.{All-permutation}
-use Rattle.wk_text_rules.specs.Titles.{title_eq}
+use Rattle.wk_text_rules.specs.Titles.{title_eq, is_normal}
 use Rattle.wk_page_rules.specs.History.{History, Page}
 use Rattle.wk_table_rules.specs.Rows.{StoreTables, PageColumns, JobColumns}
 use Rattle.wk_table_rules.specs.JobTable.{refresh_cmd, fan_cmd, refresh_row, fan_row}
-use Rattle.wk_table_rules.specs.GoodStore.{is_normal, is_good_job, max_pages}
+use Rattle.wk_page_rules.specs.Verdict.{max_pages}
+use Rattle.wk_table_rules.specs.GoodStore.{is_good_job, has_good_params}
 use Rattle.wk_table_laws.specs.EachGood.{EachGood}
-use Rattle.wk_table_laws.specs.Premises.{has_good_params}
 use Rattle.wk_table_laws.proofs.JobParams.{fan_params-params_text}
 use Rattle.wk_table_laws.proofs.JobRows.{is_good_kind, is_alone_good, may_follow, job-splits}
 use Rattle.wk_table_laws.proofs.Pairs.{each-append, each-front, each-back, Pairs, EachGood-from_passes}

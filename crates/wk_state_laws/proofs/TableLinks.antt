@@ -5,11 +5,12 @@ use Rattle.std.specs.List.{AllByRecursion, list_all, list_any, enumerate_from}
 use Rattle.std.specs.Option.{option_to_list}
 use Rattle.std.specs.Ordering.{int_eq}
 use Rattle.std.proofs.lemmas.Bool.{cases_Bool, eqb-true, eqb-false, ne_eqb, lt-ltb}
-use Rattle.wk_text_rules.specs.Titles.{PageTitle}
+use Rattle.wk_text_rules.specs.Titles.{PageTitle, is_normal, is_page_title}
 use Rattle.wk_page_rules.specs.History.{History, Page}
 use Rattle.wk_table_rules.specs.Rows.{StoreTables, PageColumns, LinkColumns, CategoryColumns, RedirectColumns, category_title}
-use Rattle.wk_table_rules.specs.Changes.{Member, PageLinks, no_links, has_page, namespace_of, link_row, category_row, redirect_row}
-use Rattle.wk_table_rules.specs.GoodStore.{is_normal, is_real, row_lt, is_good_link, is_good_category, is_good_redirect}
+use Rattle.wk_row_rules.specs.PageRows.{Member, PageRows, no_rows}
+use Rattle.wk_table_rules.specs.Changes.{has_page, namespace_of, link_row, category_row, redirect_row}
+use Rattle.wk_table_rules.specs.GoodStore.{row_lt, is_good_link, is_good_category, is_good_redirect}
 use Rattle.wk_table_laws.specs.EachGood.{EachGood}
 use Rattle.wk_table_laws.specs.Premises.{is_next_title, is_next_member}
 use Rattle.wk_table_laws.proofs.Pairs.{each-append, each-weaker, Cross, Pairs-append, Passes, Passes-from_good, EachGood-from_passes}
@@ -18,15 +19,15 @@ use Rattle.wk_state_rules.specs.States.{State, title_at}
 use Rattle.wk_state_rules.specs.Tables.{tables_of, page_row, link_rows, rows_of_pages}
 
 -- the link rows of a page are such as good tables have
-pub record AreGoodLinks (stored : PageLinks) : Type 0 where
+pub record AreGoodLinks (stored : PageRows) : Type 0 where
   pub templates : EachGood is_next_title stored.templates
   pub exists : EachGood is_next_title stored.exists
   pub links : EachGood is_next_title stored.links
   pub members : EachGood is_next_member stored.members
   pub categories : AllByRecursion (λ (m : Member). m.category.ns ≡ pos 14) stored.members
-  pub redirect : IfSome stored.redirect (λ title. is_real title ≡ true)
+  pub redirect : IfSome stored.redirect (λ title. is_page_title title ≡ true)
 
-pub AreGoodLinks-none : AreGoodLinks no_links
+pub AreGoodLinks-none : AreGoodLinks no_rows
 AreGoodLinks-none = record { templates = tt; exists = tt; links = tt; members = tt; categories = tt; redirect = tt }
 
 -- ---- the page table
@@ -63,16 +64,16 @@ namespace-is state number from =
 -- ---- the rows of all pages
 
 -- each page's rows are good, and are its own
-pub Good : {Row : Type 0} (is_good : List Row → Row → Bool) (from : Row → ℕ) (rows_of : ℕ → PageLinks → List Row) → ℕ → List PageLinks → Type 0
+pub Good : {Row : Type 0} (is_good : List Row → Row → Bool) (from : Row → ℕ) (rows_of : ℕ → PageRows → List Row) → ℕ → List PageRows → Type 0
 Good is_good from rows_of a [] = Unit {0}
 Good is_good from rows_of a (links ∷ stored) = (EachGood is_good (rows_of a links) × AllByRecursion (λ row. from row ≡ a) (rows_of a links)) × Good is_good from rows_of (a + 1) stored
 
 module _ {Row : Type 0} (R : Row → Row → Bool) (P : Row → Bool) (is_good : List Row → Row → Bool) (splits : (before : List Row) (row : Row) → is_good before row ≡ (P row && list_all (λ earlier. R earlier row) before))
-    (from : Row → ℕ) (lower : (earlier row : Row) → from earlier < from row → R earlier row ≡ true) (rows_of : ℕ → PageLinks → List Row) where
-  abbrev rows_from : ℕ → List PageLinks → List Row
+    (from : Row → ℕ) (lower : (earlier row : Row) → from earlier < from row → R earlier row ≡ true) (rows_of : ℕ → PageRows → List Row) where
+  abbrev rows_from : ℕ → List PageRows → List Row
   rows_from a stored = flat_map (λ page. rows_of page.0 page.1) (enumerate_from a stored)
 
-  from-at_least : (a : ℕ) (stored : List PageLinks) → Good is_good from rows_of a stored → AllByRecursion (λ row. a ≤ from row) (rows_from a stored)
+  from-at_least : (a : ℕ) (stored : List PageRows) → Good is_good from rows_of a stored → AllByRecursion (λ row. a ≤ from row) (rows_from a stored)
   unfolding Good
   from-at_least a [] good = tt
   from-at_least a (links ∷ stored) good =
@@ -87,7 +88,7 @@ module _ {Row : Type 0} (R : Row → Row → Bool) (P : Row → Bool) (is_good :
     across a xs ys own.1 far,
   )
 
-  passes : (a : ℕ) (stored : List PageLinks) → Good is_good from rows_of a stored → Passes R P is_good splits (rows_from a stored)
+  passes : (a : ℕ) (stored : List PageRows) → Good is_good from rows_of a stored → Passes R P is_good splits (rows_from a stored)
   unfolding Good
   passes a [] good = record { alone = tt; paired = tt }
   passes a (links ∷ stored) good =
@@ -99,7 +100,7 @@ module _ {Row : Type 0} (R : Row → Row → Bool) (P : Row → Bool) (is_good :
             (across a (rows_of a links) (rows_from (a + 1) stored) good.0.1 (from-at_least (a + 1) stored good.1));
       }
 
-  pub each-page : (stored : List PageLinks) → Good is_good from rows_of 1 stored → EachGood is_good (rows_of_pages rows_of stored)
+  pub each-page : (stored : List PageRows) → Good is_good from rows_of 1 stored → EachGood is_good (rows_of_pages rows_of stored)
   each-page stored good = EachGood-from_passes R P is_good splits (rows_from 1 stored) (passes 1 stored good)
 
 -- ---- the link tables of a state
@@ -117,7 +118,7 @@ module _ (state : State) where
       subst (λ ns. EachGood (is_good_link tables) (map (link_row number ns) titles)) (namespace-is state number low)
       (GoodAfter-map (link_row number (namespace_of tables number)) is_next_title (is_good_link tables) (link-good tables number there) [] titles good)
 
-  links-from : (titles : PageLinks → List PageTitle) → ((links : PageLinks) → AreGoodLinks links → EachGood is_next_title (titles links)) → (a : ℕ) (stored : List PageLinks) → 1 ≤ a → a + length stored ≤ pages + 1 → AllByRecursion AreGoodLinks stored
+  links-from : (titles : PageRows → List PageTitle) → ((links : PageRows) → AreGoodLinks links → EachGood is_next_title (titles links)) → (a : ℕ) (stored : List PageRows) → 1 ≤ a → a + length stored ≤ pages + 1 → AllByRecursion AreGoodLinks stored
       → Good (is_good_link tables) (λ (row : LinkColumns). row.from) (link_rows state.history titles) a stored
   unfolding Good
   links-from titles each a [] low high good = tt
@@ -129,16 +130,16 @@ module _ (state : State) where
     links-from titles each (a + 1) stored (omega (arith, low)) (omega (arith, high)) good.1,
   )
 
-  pub links-good : (titles : PageLinks → List PageTitle) → ((links : PageLinks) → AreGoodLinks links → EachGood is_next_title (titles links)) → length state.stored ≡ pages → AllByRecursion AreGoodLinks state.stored
+  pub links-good : (titles : PageRows → List PageTitle) → ((links : PageRows) → AreGoodLinks links → EachGood is_next_title (titles links)) → length state.stored ≡ pages → AllByRecursion AreGoodLinks state.stored
       → EachGood (is_good_link tables) (rows_of_pages (link_rows state.history titles) state.stored)
   links-good titles each same good =
       each-page (λ (earlier row : LinkColumns). row_lt earlier.from earlier.target row.from row.target)
-      (λ row. (has_page tables row.from && int_eq row.from_namespace (namespace_of tables row.from)) && is_real row.target)
+      (λ row. (has_page tables row.from && int_eq row.from_namespace (namespace_of tables row.from)) && is_page_title row.target)
       (is_good_link tables) (λ before row. refl)
       (λ row. row.from) (λ earlier row. row_lt-lower earlier.from earlier.target row.from row.target)
       (link_rows state.history titles) state.stored (links-from titles each 1 state.stored (omega arith) (omega (arith, same)) good)
 
-  categories-from : (a : ℕ) (stored : List PageLinks) → 1 ≤ a → a + length stored ≤ pages + 1 → AllByRecursion AreGoodLinks stored
+  categories-from : (a : ℕ) (stored : List PageRows) → 1 ≤ a → a + length stored ≤ pages + 1 → AllByRecursion AreGoodLinks stored
       → Good (is_good_category tables) (λ (row : CategoryColumns). row.cl_from) (λ page links. map (category_row page) links.members) a stored
   unfolding Good
   categories-from a [] low high good = tt
@@ -159,7 +160,7 @@ module _ (state : State) where
       (λ row. row.cl_from) (λ earlier row. row_lt-lower earlier.cl_from (category_title earlier.cl_to) row.cl_from (category_title row.cl_to))
       (λ page links. map (category_row page) links.members) state.stored (categories-from 1 state.stored (omega arith) (omega (arith, same)) good)
 
-  redirects-from : (a : ℕ) (stored : List PageLinks) → 1 ≤ a → a + length stored ≤ pages + 1 → AllByRecursion AreGoodLinks stored
+  redirects-from : (a : ℕ) (stored : List PageRows) → 1 ≤ a → a + length stored ≤ pages + 1 → AllByRecursion AreGoodLinks stored
       → Good (is_good_redirect tables) (λ (row : RedirectColumns). row.rd_from) (λ page links. map (redirect_row page) (option_to_list links.redirect)) a stored
   unfolding Good
   redirects-from a [] low high good = tt
@@ -175,7 +176,7 @@ module _ (state : State) where
   pub redirects-good : length state.stored ≡ pages → AllByRecursion AreGoodLinks state.stored → EachGood (is_good_redirect tables) (tables_of state).redirects
   redirects-good same good =
       each-page (λ (earlier row : RedirectColumns). ltb earlier.rd_from row.rd_from)
-      (λ row. has_page tables row.rd_from && is_real row.rd_title)
+      (λ row. has_page tables row.rd_from && is_page_title row.rd_title)
       (is_good_redirect tables) (λ before row. refl)
       (λ row. row.rd_from) (λ earlier row under. lt-ltb earlier.rd_from row.rd_from under)
       (λ page links. map (redirect_row page) (option_to_list links.redirect)) state.stored (redirects-from 1 state.stored (omega arith) (omega (arith, same)) good)

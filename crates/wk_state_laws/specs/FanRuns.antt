@@ -2,13 +2,9 @@
 -- the job goes (own).
 use Rattle.std.specs.Prelude.{◌≡◌, ℕ, ◌+◌, List, ◌++◌, length, Some}
 use Rattle.wk_job_rules.specs.Jobs.{FanEntry, first_fan}
-use Rattle.wk_job_rules.specs.Users.{users}
+use Rattle.wk_job_rules.specs.Steps.{next_served}
 use Rattle.wk_state_rules.specs.States.{State}
 use Rattle.wk_state_rules.specs.Events.{Fan, step_by}
-
--- the pages that the next fan serves of this job
-abbrev pub next_served : ℕ → State → FanEntry → List ℕ
-next_served most state fan = users state.stored fan.title fan.reach fan.cursor most
 
 -- Fans that serve these pages, in this order, from a state behind a journal of this length to another state.
 pub data FanRun : ℕ → State → ℕ → List ℕ → State → Type 0 where
@@ -16,10 +12,10 @@ pub data FanRun : ℕ → State → ℕ → List ℕ → State → Type 0 where
   ends : {most : ℕ} {state next : State} {journal : ℕ} {fan : FanEntry}
       → first_fan state.jobs ≡ Some fan → step_by most state journal Fan ≡ Some next
       → length next.jobs.fans + 1 ≡ length state.jobs.fans
-      → FanRun most state journal (next_served most state fan) next
+      → FanRun most state journal (next_served state.stored most fan) next
   -- there are as many fan jobs as before, and the next event is a fan
   goes_on : {most : ℕ} {state next last : State} {journal : ℕ} {fan : FanEntry} {pages : List ℕ}
       → first_fan state.jobs ≡ Some fan → step_by most state journal Fan ≡ Some next
       → length next.jobs.fans ≡ length state.jobs.fans
       → FanRun most next (journal + 1) pages last
-      → FanRun most state journal (next_served most state fan ++ pages) last
+      → FanRun most state journal (next_served state.stored most fan ++ pages) last

@@ -2,14 +2,14 @@
 -- good tables).
 use Rattle.std.specs.Prelude.{◌≡◌, ℕ, ◌≤◌, false, List, Option, Some}
 use Rattle.wk_text_rules.specs.Titles.{PageTitle}
-use Rattle.wk_page_rules.specs.Verdict.{EditAsked, MostHeld, accept, is_journal_full}
+use Rattle.wk_page_rules.specs.Verdict.{EditAsked, MostHeld, accept, is_journal_full, max_pages, max_texts}
 use Rattle.wk_table_rules.specs.Rows.{StoreTables}
-use Rattle.wk_table_rules.specs.GoodStore.{IsGood, max_pages, max_texts}
-use Rattle.wk_job_rules.specs.Jobs.{left, page_held_by}
+use Rattle.wk_table_rules.specs.GoodStore.{IsGood}
+use Rattle.wk_job_rules.specs.Jobs.{page_held_by}
 use Rattle.wk_state_rules.specs.States.{State, no_state}
 use Rattle.wk_state_rules.specs.Events.{Event, Save, Claim, Done, Back, Fan, step_by}
 use Rattle.wk_state_rules.specs.Lives.{reopened, opened}
-use Rattle.wk_state_rules.specs.Verdicts.{verdict_in}
+use Rattle.wk_state_rules.specs.Verdicts.{journal_use, verdict_in}
 
 -- The limits of pages and of texts are at most the full ones, which good tables have. How many revisions and events
 -- there may be plays no part.
@@ -28,7 +28,7 @@ pub data IsMade : MostHeld → State → ℕ → Event → Type 0 where
   by_give_back : {most : MostHeld} {state : State} {journal ticket : ℕ} → IsMade most state journal (Back ticket)
   -- a fan is refused as a save is, where the journal is full or the next job's number is past the greatest
   by_fan : {most : MostHeld} {state : State} {journal : ℕ}
-      → is_journal_full most journal (left state.jobs).claimed state.jobs.next ≡ false
+      → is_journal_full most (journal_use state journal) ≡ false
       → IsMade most state journal Fan
 
 -- A state that an empty wiki, or one that is opened over good tables, reaches by such events and by restarts, over any

@@ -1,14 +1,15 @@
 //! Laws of fans, and of what was read for a page while other events came between.
-ghost use Rattle.std.specs.Prelude.{◌≡◌, ◌==◌, ◌&&◌, ℕ, ◌<◌, ◌≤◌, nat_lt, All, AllPairs, true, false, List, length, drop, Option, Some, None, unwrap_or};
-ghost use Rattle.std.specs.List.{last_or, list_any};
+ghost use Rattle.std.specs.Prelude.{◌≡◌, ◌==◌, ◌&&◌, ℕ, ◌<◌, ◌≤◌, nat_lt, All, AllPairs, true, false, List, length, drop, Some};
+ghost use Rattle.std.specs.List.{list_any};
 ghost use Rattle.wk_text_rules.specs.Titles.{PageTitle};
 ghost use Rattle.wk_page_rules.specs.History.{text_of_revision};
-ghost use Rattle.wk_table_rules.specs.declared.Reach.{Reach};
+ghost use Rattle.wk_row_rules.specs.declared.Reach.{Reach};
 ghost use Rattle.wk_table_rules.specs.Rows.{StoreTables};
 ghost use Rattle.wk_view_rules.specs.Worlds.{IsHonest, Read};
 ghost use Rattle.wk_job_rules.specs.Jobs.{FanEntry, first_fan, with_first_cursor};
-ghost use Rattle.wk_job_rules.specs.Steps.{all_queued};
-ghost use Rattle.wk_job_rules.specs.Users.{names, users};
+ghost use Rattle.wk_job_rules.specs.Steps.{all_queued, cursor_behind, next_served};
+ghost use Rattle.wk_row_rules.specs.PageRows.{names};
+ghost use Rattle.wk_job_rules.specs.Users.{users};
 ghost use Rattle.wk_state_rules.specs.States.{State, stored_at};
 ghost use Rattle.wk_state_rules.specs.Events.{Event, Fan, step_by};
 ghost use Rattle.wk_state_rules.specs.Lives.{replay_from, reopened, opened, Lives, LivesOfStore};
@@ -20,19 +21,19 @@ ghost use Rattle.wk_state_laws.specs.FanRuns.{FanRun};
 pub fn a_fan_serves_each_page_once()
     ensures queued { (most : ℕ) (state next : State) (journal : ℕ) (fan : FanEntry)
         → first_fan state.jobs ≡ Some fan → step_by most state journal Fan ≡ Some next
-        → next.jobs.refreshes ≡ (all_queued state.jobs (users state.stored fan.title fan.reach fan.cursor most)).refreshes }
+        → next.jobs.refreshes ≡ (all_queued state.jobs (next_served state.stored most fan)).refreshes }
     ensures served { (state : State) (title : PageTitle) (reach : Reach) (above most : ℕ)
         → All (λ page. (above < page) × (names (stored_at state page) title reach ≡ true)) (users state.stored title reach above most) }
     ensures rising { (state : State) (title : PageTitle) (reach : Reach) (above most : ℕ)
         → AllPairs (λ (a b : ℕ). a < b) (users state.stored title reach above most) }
     ensures ended { (most : ℕ) (state next : State) (journal : ℕ) (fan : FanEntry) (cursor : ℕ)
         → first_fan state.jobs ≡ Some fan → step_by most state journal Fan ≡ Some next
-        → cursor ≡ unwrap_or (last_or None (users state.stored fan.title fan.reach fan.cursor most)) fan.cursor
+        → cursor ≡ cursor_behind (next_served state.stored most fan) fan.cursor
         → ((page : ℕ) → cursor < page → names (stored_at state page) fan.title fan.reach ≡ false)
         → next.jobs.fans ≡ drop 1 state.jobs.fans }
     ensures moved { (most : ℕ) (state next : State) (journal : ℕ) (fan : FanEntry) (cursor page : ℕ)
         → first_fan state.jobs ≡ Some fan → step_by most state journal Fan ≡ Some next
-        → cursor ≡ unwrap_or (last_or None (users state.stored fan.title fan.reach fan.cursor most)) fan.cursor
+        → cursor ≡ cursor_behind (next_served state.stored most fan) fan.cursor
         → cursor < page → names (stored_at state page) fan.title fan.reach ≡ true
         → next.jobs.fans ≡ with_first_cursor state.jobs.fans cursor }
 {}
@@ -40,7 +41,7 @@ pub fn a_fan_serves_each_page_once()
 /// No page is missed: those above the old cursor that name the title, up to the last page that is served, are served.
 pub fn a_fan_misses_no_page()
     ensures { (state : State) (title : PageTitle) (reach : Reach) (above most page : ℕ)
-        → above < page → page ≤ unwrap_or (last_or None (users state.stored title reach above most)) above
+        → above < page → page ≤ cursor_behind (users state.stored title reach above most) above
         → names (stored_at state page) title reach ≡ true
         → list_any (λ served. served == page) (users state.stored title reach above most) ≡ true }
 {}

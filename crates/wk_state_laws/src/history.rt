@@ -2,7 +2,7 @@
 ghost use Rattle.std.specs.Prelude.{◌≡◌, List, Option, Some, flat_map, ℕ};
 ghost use Rattle.wk_text_rules.specs.Titles.{PageTitle};
 ghost use Rattle.wk_page_rules.specs.History.{History, saved};
-ghost use Rattle.wk_page_rules.specs.Verdict.{EditAsked, MostHeld, edit_conflict, judged, refuse, verdict};
+ghost use Rattle.wk_page_rules.specs.Verdict.{EditAsked, JournalUse, MostHeld, edit_conflict, judged, refuse, verdict};
 ghost use Rattle.wk_table_rules.specs.Rows.{StoreTables};
 ghost use Rattle.wk_state_rules.specs.States.{State};
 ghost use Rattle.wk_state_rules.specs.Events.{Event, Save, Claim, Done, Back, Fan, step_by};
@@ -72,11 +72,11 @@ pub fn a_conflict_is_a_base_that_is_not_current()
         → IsInConflict h edit current → judged h most edit ≡ refuse (edit_conflict current) }
     ensures judged_only_so { (h : History) (most : MostHeld) (edit : EditAsked) (current : ℕ)
         → judged h most edit ≡ refuse (edit_conflict current) → IsInConflict h edit current }
-    ensures verdict_conflict { (h : History) (most : MostHeld) (journal tickets next_job : ℕ) (edit : EditAsked) (current : ℕ)
+    ensures verdict_conflict { (h : History) (most : MostHeld) (used : JournalUse) (edit : EditAsked) (current : ℕ)
         → IsInConflict h edit current
-        → verdict h most journal tickets next_job edit ≡ refuse (edit_conflict current) }
-    ensures verdict_only_so { (h : History) (most : MostHeld) (journal tickets next_job : ℕ) (edit : EditAsked) (current : ℕ)
-        → verdict h most journal tickets next_job edit ≡ refuse (edit_conflict current)
+        → verdict h most used edit ≡ refuse (edit_conflict current) }
+    ensures verdict_only_so { (h : History) (most : MostHeld) (used : JournalUse) (edit : EditAsked) (current : ℕ)
+        → verdict h most used edit ≡ refuse (edit_conflict current)
         → IsInConflict h edit current }
     ensures state_conflict { (most : MostHeld) (state : State) (journal : ℕ) (edit : EditAsked) (current : ℕ)
         → IsInConflict state.history edit current

@@ -1,13 +1,13 @@
 -- What happens to a wiki, and what each event does (own; saves, link rows and jobs are those of MediaWiki's
 -- Manual:Revision table, Manual:Page table and Manual:Job queue).
-use Rattle.std.specs.Prelude.{ℕ, ◌+◌, ◌-◌, Bool, ◌&&◌, ◌||◌, List, [], ◌∷◌, ◌++◌, length, slice_set, Option, Some, None, is_some, unwrap_or, option_map, if◌then◌else◌}
+use Rattle.std.specs.Prelude.{ℕ, ◌+◌, ◌-◌, List, [], ◌∷◌, ◌++◌, slice_set, Option, Some, None, is_some, option_map, if◌then◌else◌}
 use Rattle.wk_text_rules.specs.Titles.{PageTitle}
-use Rattle.wk_page_rules.specs.History.{History, page_number, page_exists, saved}
-use Rattle.wk_table_rules.specs.Changes.{PageLinks, no_links}
-use Rattle.wk_table_rules.specs.GoodStore.{is_real}
+use Rattle.wk_page_rules.specs.History.{page_number, page_exists, page_to_save, can_save, saved}
+use Rattle.wk_row_rules.specs.PageRows.{PageRows, no_rows}
+use Rattle.wk_view_rules.specs.Rows.{rows}
 use Rattle.wk_job_rules.specs.Jobs.{JobLists, first_queued, page_held_by, claimed_by, given_back, refresh_dropped}
 use Rattle.wk_job_rules.specs.Steps.{reach_of_save, after_save, after_fan, fan_pages}
-use Rattle.wk_state_rules.specs.States.{State, title_at, world_of, links_in}
+use Rattle.wk_state_rules.specs.States.{State, title_at, world_of}
 
 pub data Event : Type 0 where
   -- a title, the text as it is kept, or nothing for a deletion, and the moment in seconds since 1970
@@ -23,18 +23,9 @@ pub data Event : Type 0 where
 
 -- ---- a save
 
--- A title can be saved that a text can name and that isn't in a virtual namespace; and only a page that exists can be
--- deleted.
-abbrev pub can_save : History → PageTitle → Option (List ℕ) → Bool
-can_save h title text = is_real title && (is_some text || page_exists h title)
-
--- the number of the title's page, or the next one where the title is new
-abbrev pub page_to_save : History → PageTitle → ℕ
-page_to_save h title = unwrap_or (page_number h title) (length h.pages + 1)
-
 -- the stored link rows, with none for a page whose title is new
-abbrev pub stored_with : State → PageTitle → List PageLinks
-stored_with state title = if is_some (page_number state.history title) then state.stored else state.stored ++ no_links ∷ []
+abbrev pub stored_with : State → PageTitle → List PageRows
+stored_with state title = if is_some (page_number state.history title) then state.stored else state.stored ++ no_rows ∷ []
 
 -- the page exists after the save exactly where there is a text
 abbrev pub jobs_after_save : State → PageTitle → Option (List ℕ) → JobLists
@@ -57,7 +48,7 @@ with_saved state title text moment = record {
 -- when, plays no part.
 abbrev pub with_refreshed : State → ℕ → State
 with_refreshed state page = record state {
-  stored = slice_set state.stored (page - 1) (links_in (world_of state) (title_at state.history page));
+  stored = slice_set state.stored (page - 1) (rows (world_of state) (title_at state.history page));
   jobs = refresh_dropped state.jobs page;
 }
 

@@ -1,12 +1,10 @@
 -- What a wiki's state is, and the pages that it shows (MediaWiki's Manual:Page table and Manual:Job queue; that link
 -- rows are kept apart from the pages that they are of, and may be behind them, is MediaWiki's too).
-use Rattle.std.specs.Prelude.{ℕ, pos, ◌-◌, ◌==◌, List, [], map, slice_get, Option, None, unwrap_or, option_map, if◌then◌else◌}
+use Rattle.std.specs.Prelude.{ℕ, pos, ◌-◌, ◌==◌, List, [], slice_get, Option, None, unwrap_or, option_map, if◌then◌else◌}
 use Rattle.wk_text_rules.specs.Titles.{PageTitle}
 use Rattle.wk_page_rules.specs.History.{History, Page, no_history, current_revision, current_text}
+use Rattle.wk_row_rules.specs.PageRows.{PageRows, no_rows}
 use Rattle.wk_view_rules.specs.Worlds.{World}
-use Rattle.wk_view_rules.specs.Rows.{PageRows, Member, rows}
-use Rattle.wk_table_rules.specs.Changes.{PageLinks, no_links}
-use Rattle.wk_table_rules.specs.Changes as changes
 use Rattle.wk_job_rules.specs.Jobs.{JobLists, no_jobs}
 
 -- What a wiki is at one moment.
@@ -14,7 +12,7 @@ pub record State : Type 0 where
   -- the revisions and the pages
   pub history : History
   -- the link rows that are stored of each page, in the order of the pages
-  pub stored : List PageLinks
+  pub stored : List PageRows
   -- the refresh jobs and the fan jobs, and the number of the next new job
   pub jobs : JobLists
 
@@ -33,8 +31,8 @@ abbrev pub title_at : History → ℕ → PageTitle
 title_at h number = unwrap_or (option_map (λ page. page.title) (page_at h number)) (record { ns = pos 0; key = [] })
 
 -- the link rows that are stored of the page with this number
-abbrev pub stored_at : State → ℕ → PageLinks
-stored_at state number = if number == 0 then no_links else unwrap_or (slice_get state.stored (number - 1)) no_links
+abbrev pub stored_at : State → ℕ → PageRows
+stored_at state number = if number == 0 then no_rows else unwrap_or (slice_get state.stored (number - 1)) no_rows
 
 -- ---- the world
 
@@ -45,22 +43,3 @@ current_pages h title = option_map (λ text. record { revision = current_revisio
 -- the world that expansions meet in this state
 abbrev pub world_of : State → World
 world_of state = current_pages state.history
-
--- ---- link rows computed from scratch
-
-abbrev pub stored_member : Member → changes.Member
-stored_member member = record { category = member.category; sortkey = member.sortkey; prefix = member.prefix }
-
--- the rows of an expansion, as the tables store them
-abbrev pub stored_form : PageRows → PageLinks
-stored_form rows = record {
-  templates = rows.templates;
-  exists = rows.exists;
-  links = rows.links;
-  members = map stored_member rows.members;
-  redirect = rows.redirect;
-}
-
--- the link rows that a title's page has in a world, by its expansion there and by nothing else
-abbrev pub links_in : World → PageTitle → PageLinks
-links_in pages title = stored_form (rows pages title)

@@ -1,12 +1,13 @@
 -- The tables of a store that hold a state, and the state that tables stand for (MediaWiki's Manual:Database layout).
-use Rattle.std.specs.Prelude.{ℕ, List, [], length, map, flat_map, Some, None, is_none, unwrap_or, if◌then◌else◌}
+use Rattle.std.specs.Prelude.{ℕ, List, [], length, map, flat_map, is_none, unwrap_or}
 use Rattle.std.specs.List.{enumerate_from}
 use Rattle.std.specs.Option.{option_to_list}
 use Rattle.wk_text_rules.specs.Titles.{PageTitle}
 use Rattle.wk_page_rules.specs.History.{History, Page, Revision, text_of_revision}
+use Rattle.wk_row_rules.specs.PageRows.{PageRows}
 use Rattle.wk_table_rules.specs.Rows.{PageColumns, RevisionColumns, LinkColumns, StoreTables, newest_version}
-use Rattle.wk_table_rules.specs.Changes.{PageLinks, link_row, category_row, redirect_row}
-use Rattle.wk_table_rules.specs.Stored.{stored_links}
+use Rattle.wk_table_rules.specs.Changes.{link_row, category_row, redirect_row}
+use Rattle.wk_table_rules.specs.Stored.{history_of, stored_rows}
 use Rattle.wk_job_rules.specs.Steps.{rows_of_jobs, jobs_of_tables}
 use Rattle.wk_state_rules.specs.States.{State, title_at}
 
@@ -32,12 +33,12 @@ revision_row (number, revision) = record {
 }
 
 -- the rows that each page has in one table, in the order of the pages
-abbrev pub rows_of_pages : {Row : Type 0} → (ℕ → PageLinks → List Row) → List PageLinks → List Row
+abbrev pub rows_of_pages : {Row : Type 0} → (ℕ → PageRows → List Row) → List PageRows → List Row
 rows_of_pages rows_of stored = flat_map (λ page. rows_of page.0 page.1) (enumerate_from 1 stored)
 
 -- the link rows of one page, of the titles that one list names
-abbrev pub link_rows : History → (PageLinks → List PageTitle) → ℕ → PageLinks → List LinkColumns
-link_rows h titles page links = map (link_row page (title_at h page).ns) (titles links)
+abbrev pub link_rows : History → (PageRows → List PageTitle) → ℕ → PageRows → List LinkColumns
+link_rows h titles page rows = map (link_row page (title_at h page).ns) (titles rows)
 
 -- The tables of a state. Which jobs are claimed, the order of the jobs after one was given back, and the number of the
 -- next job aren't in them.
@@ -45,39 +46,21 @@ abbrev pub tables_of : State → StoreTables
 tables_of state = record {
   pages = map (page_row state.history) (enumerate_from 1 state.history.pages);
   revisions = map revision_row (enumerate_from 1 state.history.revisions);
-  pagelinks = rows_of_pages (link_rows state.history (λ links. links.links)) state.stored;
-  templatelinks = rows_of_pages (link_rows state.history (λ links. links.templates)) state.stored;
-  existlinks = rows_of_pages (link_rows state.history (λ links. links.exists)) state.stored;
-  categorylinks = rows_of_pages (λ page links. map (category_row page) links.members) state.stored;
-  redirects = rows_of_pages (λ page links. map (redirect_row page) (option_to_list links.redirect)) state.stored;
+  pagelinks = rows_of_pages (link_rows state.history (λ rows. rows.links)) state.stored;
+  templatelinks = rows_of_pages (link_rows state.history (λ rows. rows.templates)) state.stored;
+  existlinks = rows_of_pages (link_rows state.history (λ rows. rows.exists)) state.stored;
+  categorylinks = rows_of_pages (λ page rows. map (category_row page) rows.members) state.stored;
+  redirects = rows_of_pages (λ page rows. map (redirect_row page) (option_to_list rows.redirect)) state.stored;
   jobs = rows_of_jobs (title_at state.history) state.jobs;
   version = newest_version;
 }
 
 -- ---- the state of tables
 
-abbrev pub revision_of_row : RevisionColumns → Revision
-revision_of_row row = record {
-  page = row.rev_page;
-  parent = row.rev_parent_id;
-  moment = row.rev_timestamp;
-  text = if row.rev_gone then None else Some row.rev_text;
-}
-
-abbrev pub page_of_row : PageColumns → Page
-page_of_row row = record { title = row.page_title; current = row.page_latest }
-
--- the revisions and pages that good tables stand for
-abbrev pub history_of : StoreTables → History
-history_of tables = record {
-  revisions = map revision_of_row tables.revisions;
-  pages = map page_of_row tables.pages;
-}
-
 -- the state that good tables stand for, in which each job waits
 abbrev pub state_of : StoreTables → State
 state_of tables = record {
   history = history_of tables;
-  stored = stored_links tables;
+  stored = stored_rows tables;
   jobs = jobs_of_tables tables;
 }

@@ -7,8 +7,8 @@ use Rattle.std.proofs.lemmas.List.{append-nil, append_assoc, length-append}
 use Rattle.wk_table_rules.specs.JobTable.{refresh_cmd}
 use Rattle.wk_table_rules.specs.Rows.{StoreTables, PageColumns, RevisionColumns, JobColumns, no_tables}
 use Rattle.wk_table_rules.specs.Changes.{TableEdit, add_revision, set_page, add_job, applied, edit_fits, fits, has_page}
-use Rattle.wk_table_rules.specs.GoodStore.{IsGood, first_broken, is_good_revision, is_good_number, is_good_refresh, is_good_fan, is_good_job, texts_len, max_texts, job_bound, has_good_id, max_pages}
-use Rattle.wk_page_rules.specs.Verdict.{max_text}
+use Rattle.wk_table_rules.specs.GoodStore.{IsGood, first_broken, is_good_revision, is_good_number, is_good_refresh, is_good_fan, is_good_job, texts_len, job_bound, has_good_id}
+use Rattle.wk_page_rules.specs.Verdict.{max_text, max_pages, max_texts}
 use Rattle.wk_table_laws.specs.EachGood.{GoodAfter, EachGood, KeepsRules}
 use Rattle.wk_table_laws.specs.Premises.{FitChange, nothing, saves_page, adds_page, sets_rows, adds_job, sets_job, drops_job, raises_version, FitRevision, IsStanding, IsNext}
 use Rattle.wk_table_laws.proofs.FirstBad.{KeepsRules-from_good, IsGood-from_rules}

@@ -4,13 +4,14 @@ use Rattle.std.specs.Prelude.{bytes_eq, slice_get, position}
 use Rattle.std.specs.List.{AllByRecursion, list_all, list_any, position_or_len, remove}
 use Rattle.std.proofs.lemmas.Bool.{cases_Bool, and_parts, and_from, ltb-true, lt-ltb}
 use Rattle.std.proofs.lemmas.List.Folds.{find_at}
-use Rattle.wk_text_rules.specs.Titles.{title_eq}
+use Rattle.wk_text_rules.specs.Titles.{title_eq, is_normal}
 use Rattle.wk_table_rules.specs.Rows.{StoreTables, JobColumns}
 use Rattle.wk_table_rules.specs.Changes.{edited, add_job, set_job, drop_job, set_version, with_job, without_job}
 use Rattle.wk_table_rules.specs.JobTable.{refresh_cmd, fan_cmd, fan_params}
-use Rattle.wk_table_rules.specs.GoodStore.{is_normal, stands_already, is_good_number, is_good_refresh, is_good_fan, is_good_job, job_bound, max_pages}
+use Rattle.wk_page_rules.specs.Verdict.{max_pages}
+use Rattle.wk_table_rules.specs.GoodStore.{stands_already, is_good_number, is_good_refresh, is_good_fan, is_good_job, job_bound, has_good_params}
 use Rattle.wk_table_laws.specs.EachGood.{GoodAfter, EachGood, KeepsRules}
-use Rattle.wk_table_laws.specs.Premises.{has_good_params, FitJob}
+use Rattle.wk_table_laws.specs.Premises.{FitJob}
 use Rattle.wk_table_laws.proofs.FirstBad.{EachGood-push}
 use Rattle.wk_table_laws.proofs.Pairs.{Pairs, Passes-from_good, EachGood-from_passes, EachGood-remove}
 

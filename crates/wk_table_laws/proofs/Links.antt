@@ -7,10 +7,11 @@ use Rattle.std.specs.declared.cmp.Ordering.TheVariants.{Less, Equal}
 use Rattle.std.proofs.lemmas.Bool.{cases_Bool, and_parts, ltb-true, lt-ltb, le-ltb, eqb-true, eq-eqb, false≢true}
 use Rattle.std.proofs.lemmas.List.{map-append}
 use Rattle.std.proofs.lemmas.List.Folds.{list_all-map}
-use Rattle.wk_text_rules.specs.Titles.{PageTitle, title_cmp}
+use Rattle.wk_text_rules.specs.Titles.{PageTitle, title_cmp, is_normal, is_page_title}
 use Rattle.wk_table_rules.specs.Rows.{StoreTables, LinkColumns, CategoryColumns, RedirectColumns, category_title}
-use Rattle.wk_table_rules.specs.Changes.{Member, PageLinks, has_page, namespace_of, link_row, category_row, redirect_row, with_links, with_rows_of}
-use Rattle.wk_table_rules.specs.GoodStore.{is_normal, is_real, row_lt, is_good_link, is_good_category, is_good_redirect}
+use Rattle.wk_row_rules.specs.PageRows.{Member, PageRows}
+use Rattle.wk_table_rules.specs.Changes.{has_page, namespace_of, link_row, category_row, redirect_row, with_page_rows, with_rows_of}
+use Rattle.wk_table_rules.specs.GoodStore.{row_lt, is_good_link, is_good_category, is_good_redirect}
 use Rattle.wk_table_laws.specs.EachGood.{GoodAfter, EachGood, KeepsRules}
 use Rattle.wk_table_laws.specs.Premises.{is_next_title, is_next_member, FitLinks}
 use Rattle.wk_table_laws.proofs.Pairs.{EachGood-with_rows_of}
@@ -60,7 +61,7 @@ module _ (tables : StoreTables) (page : ℕ) (there : has_page tables page ≡ t
   pub link-good : (before : List PageTitle) (title : PageTitle) → is_next_title before title ≡ true
       → is_good_link tables (map (link_row page (namespace_of tables page)) before) (link_row page (namespace_of tables page) title) ≡ true
   link-good before title next =
-      let parts = and_parts (is_real title) (list_all (λ earlier. is_lt (title_cmp earlier title)) before) next in
+      let parts = and_parts (is_page_title title) (list_all (λ earlier. is_lt (title_cmp earlier title)) before) next in
       let behind : list_all (λ row. row_lt row.from row.target page title) (map (link_row page (namespace_of tables page)) before) ≡ true =
       list_all-map (λ row. row_lt row.from row.target page title) (link_row page (namespace_of tables page)) before
       ∙ (list_all-same (λ earlier. row_lt page earlier page title) (λ earlier. is_lt (title_cmp earlier title)) (λ earlier. row_lt-same page earlier title) before ∙ parts.1) in
@@ -77,7 +78,7 @@ module _ (tables : StoreTables) (page : ℕ) (there : has_page tables page ≡ t
       (λ earlier. row_lt-same page (category_title earlier.category.key) title) before ∙ parts.1) in
       rw (there, parts.0) behind
 
-  pub redirect-good : (redirect : Option PageTitle) → IfSome redirect (λ title. is_real title ≡ true) → EachGood (is_good_redirect tables) (map (redirect_row page) (option_to_list redirect))
+  pub redirect-good : (redirect : Option PageTitle) → IfSome redirect (λ title. is_page_title title ≡ true) → EachGood (is_good_redirect tables) (map (redirect_row page) (option_to_list redirect))
   redirect-good None real = tt
   redirect-good (Some title) real = (rw (there, real) refl, tt)
 
@@ -89,7 +90,7 @@ module _ (tables : StoreTables) (page : ℕ) (there : has_page tables page ≡ t
       → EachGood (is_good_link tables) (with_rows_of (λ row. row.from) page rows (map (link_row page (namespace_of tables page)) titles))
   links-good rows titles good next =
       EachGood-with_rows_of (λ (earlier row : LinkColumns). row_lt earlier.from earlier.target row.from row.target)
-      (λ row. (has_page tables row.from && int_eq row.from_namespace (namespace_of tables row.from)) && is_real row.target)
+      (λ row. (has_page tables row.from && int_eq row.from_namespace (namespace_of tables row.from)) && is_page_title row.target)
       (is_good_link tables) (λ before row. refl)
       (λ row. row.from) (λ earlier row. row_lt-rise earlier.from earlier.target row.from row.target) (λ earlier row. row_lt-lower earlier.from earlier.target row.from row.target) page
       rows (map (link_row page (namespace_of tables page)) titles) good
@@ -108,11 +109,11 @@ module _ (tables : StoreTables) (page : ℕ) (there : has_page tables page ≡ t
       (GoodAfter-map (category_row page) is_next_member (is_good_category tables) category-good [] members next)
       (own-page (λ row. row.cl_from) (category_row page) (λ member. refl) members)
 
-  redirects-good : (rows : List RedirectColumns) (redirect : Option PageTitle) → EachGood (is_good_redirect tables) rows → IfSome redirect (λ title. is_real title ≡ true)
+  redirects-good : (rows : List RedirectColumns) (redirect : Option PageTitle) → EachGood (is_good_redirect tables) rows → IfSome redirect (λ title. is_page_title title ≡ true)
       → EachGood (is_good_redirect tables) (with_rows_of (λ row. row.rd_from) page rows (map (redirect_row page) (option_to_list redirect)))
   redirects-good rows redirect good real =
       EachGood-with_rows_of (λ (earlier row : RedirectColumns). ltb earlier.rd_from row.rd_from)
-      (λ row. has_page tables row.rd_from && is_real row.rd_title)
+      (λ row. has_page tables row.rd_from && is_page_title row.rd_title)
       (is_good_redirect tables) (λ before row. refl)
       (λ row. row.rd_from) (λ earlier row before. let under : earlier.rd_from < row.rd_from = ltb-true earlier.rd_from row.rd_from before in omega arith)
       (λ earlier row under. lt-ltb earlier.rd_from row.rd_from under) page
@@ -121,7 +122,7 @@ module _ (tables : StoreTables) (page : ℕ) (there : has_page tables page ≡ t
       (own-page (λ row. row.rd_from) (redirect_row page) (λ title. refl) (option_to_list redirect))
 
 -- the link rows of a page that is there are replaced
-pub KeepsRules-set_rows : (tables : StoreTables) (page : ℕ) (links : PageLinks) → FitLinks tables page links → KeepsRules tables → KeepsRules (with_links tables page links)
+pub KeepsRules-set_rows : (tables : StoreTables) (page : ℕ) (links : PageRows) → FitLinks tables page links → KeepsRules tables → KeepsRules (with_page_rows tables page links)
 KeepsRules-set_rows tables page links fit keeps = record {
   ids = keeps.ids;
   titles = keeps.titles;

@@ -6,10 +6,11 @@ use Rattle.std.proofs.Math.Numerals.{one-add}
 use Rattle.std.proofs.lemmas.Bool.{cases_Bool, and_parts, and_from, or_left, or_right, lt-ltb, le-ltb, le-leb, eqb-true, eq-eqb, ne_eqb}
 use Rattle.std.proofs.lemmas.List.{length-append, length-map, map-append}
 use Rattle.std.proofs.lemmas.List.Folds.{find_at, list_any-append}
-use Rattle.wk_text_rules.specs.Titles.{PageTitle, title_eq}
+use Rattle.wk_text_rules.specs.Titles.{PageTitle, title_eq, is_page_title}
 use Rattle.wk_table_rules.specs.Rows.{StoreTables, PageColumns, RevisionColumns}
 use Rattle.wk_table_rules.specs.Changes.{with_page, applied, add_revision, set_page}
-use Rattle.wk_table_rules.specs.GoodStore.{is_real, has_good_id, has_good_title, has_good_latest, max_pages}
+use Rattle.wk_page_rules.specs.Verdict.{max_pages}
+use Rattle.wk_table_rules.specs.GoodStore.{has_good_id, has_good_title, has_good_latest}
 use Rattle.wk_table_laws.specs.EachGood.{GoodAfter, EachGood, KeepsRules}
 use Rattle.wk_table_laws.specs.Premises.{FitRevision, IsStanding, IsNext}
 use Rattle.wk_table_laws.proofs.FirstBad.{EachGood-push}
@@ -103,8 +104,8 @@ module _ {K : Type 0} (key : PageColumns → K) (by_row : List PageColumns → P
 id-by_key : (before : List PageColumns) (row : PageColumns) → has_good_id before row ≡ (eqb row.page_id (length (map (λ (earlier : PageColumns). earlier.page_id) before) + 1) && leb row.page_id max_pages)
 id-by_key before row = rw length-map refl
 
-title-by_key : (before : List PageColumns) (row : PageColumns) → has_good_title before row ≡ (is_real row.page_title && not (list_any (λ earlier. title_eq earlier row.page_title) (map (λ (earlier : PageColumns). earlier.page_title) before)))
-title-by_key before row = ap (λ b. is_real row.page_title && not b) (sym (list_any-map (λ earlier. title_eq earlier row.page_title) (λ (earlier : PageColumns). earlier.page_title) before))
+title-by_key : (before : List PageColumns) (row : PageColumns) → has_good_title before row ≡ (is_page_title row.page_title && not (list_any (λ earlier. title_eq earlier row.page_title) (map (λ (earlier : PageColumns). earlier.page_title) before)))
+title-by_key before row = ap (λ b. is_page_title row.page_title && not b) (sym (list_any-map (λ earlier. title_eq earlier row.page_title) (λ (earlier : PageColumns). earlier.page_title) before))
 
 pub find-passes : {X : Type 0} (p : X → Bool) (xs : List X) (x : X) → find p xs ≡ Some x → (p x ≡ true) × (list_any p xs ≡ true)
 find-passes p [] x found = absurd (let e : None ≡ Some x = found in cc)
@@ -158,7 +159,7 @@ KeepsRules-standing tables revision old page fit standing keeps =
     (grows.there revision.rev_page (subst (λ n. list_any (λ row. eqb row.page_id n) tables.pages ≡ true) (sym fit.of_page) found.1))
     (EachGood-alike (λ (row : PageColumns). row.page_id) has_good_id (λ ids n. eqb n (length ids + 1) && leb n max_pages) id-by_key tables.pages pages
     (map-set-alike (λ (row : PageColumns). row.page_id) old page id tables.pages place there) keeps.ids)
-    (EachGood-alike (λ (row : PageColumns). row.page_title) has_good_title (λ titles t. is_real t && not (list_any (λ earlier. title_eq earlier t) titles)) title-by_key tables.pages pages
+    (EachGood-alike (λ (row : PageColumns). row.page_title) has_good_title (λ titles t. is_page_title t && not (list_any (λ earlier. title_eq earlier t) titles)) title-by_key tables.pages pages
     (map-set-alike (λ (row : PageColumns). row.page_title) old page standing.title tables.pages place there) keeps.titles)
     (latest-set pages id tables.pages [] place there keeps.ids keeps.latest))
   where

@@ -6,12 +6,12 @@ use Rattle.std.specs.Ordering.{int_eq}
 use Rattle.std.proofs.lemmas.Bool.{and_parts, and_from, le-leb, eqb-true, eq-eqb, ne_eqb}
 use Rattle.std.proofs.lemmas.List.{append-nil, length-append}
 use Rattle.std.proofs.lemmas.List.Elements.{filter-append}
-use Rattle.wk_text_rules.specs.Titles.{PageTitle, title_eq}
-use Rattle.wk_page_rules.specs.Verdict.{max_text}
+use Rattle.wk_text_rules.specs.Titles.{PageTitle, title_eq, is_normal, is_page_title}
+use Rattle.wk_page_rules.specs.Verdict.{max_text, max_pages, max_texts}
 use Rattle.wk_table_rules.specs.Rows.{StoreTables, PageColumns, RevisionColumns, LinkColumns, CategoryColumns, RedirectColumns, JobColumns, category_title}
 use Rattle.wk_table_rules.specs.Changes.{has_page, namespace_of}
 use Rattle.wk_table_rules.specs.JobTable.{refresh_cmd}
-use Rattle.wk_table_rules.specs.GoodStore.{is_normal, is_real, row_lt, has_good_id, has_good_title, is_good_revision, has_good_parent, has_good_latest, is_good_link, is_good_category, is_good_redirect, is_good_number, is_good_refresh, is_good_fan, is_good_job, stands_already, current_of, last_revision, texts_len, max_texts, max_pages}
+use Rattle.wk_table_rules.specs.GoodStore.{row_lt, has_good_id, has_good_title, is_good_revision, has_good_parent, has_good_latest, is_good_link, is_good_category, is_good_redirect, is_good_number, is_good_refresh, is_good_fan, is_good_job, stands_already, current_of, last_revision, texts_len}
 use Rattle.wk_table_laws.specs.EachGood.{GoodAfter, EachGood, KeepsRules}
 use Rattle.wk_table_laws.specs.Premises.{FitRevision}
 use Rattle.wk_table_laws.proofs.FirstBad.{EachGood-push}
@@ -43,13 +43,13 @@ module _ (tables : StoreTables) (pages : List PageColumns) (revisions : List Rev
   link-grows before row good =
       let right = int_eq row.from_namespace (namespace_of tables row.from) in
       let behind = list_all (λ earlier. row_lt earlier.from earlier.target row.from row.target) before in
-      let a = and_parts ((has_page tables row.from && right) && is_real row.target) behind good in
-      let b = and_parts (has_page tables row.from && right) (is_real row.target) a.0 in
+      let a = and_parts ((has_page tables row.from && right) && is_page_title row.target) behind good in
+      let b = and_parts (has_page tables row.from && right) (is_page_title row.target) a.0 in
       let c = and_parts (has_page tables row.from) right b.0 in
       let right' = int_eq row.from_namespace (namespace_of (record tables { pages = pages }) row.from) in
       let still : right' ≡ true = ap (λ z. int_eq row.from_namespace z) (grows.placed row.from c.0) ∙ c.1 in
-      and_from ((list_any (λ page. eqb page.page_id row.from) pages && right') && is_real row.target) behind
-      (and_from (list_any (λ page. eqb page.page_id row.from) pages && right') (is_real row.target)
+      and_from ((list_any (λ page. eqb page.page_id row.from) pages && right') && is_page_title row.target) behind
+      (and_from (list_any (λ page. eqb page.page_id row.from) pages && right') (is_page_title row.target)
       (and_from (list_any (λ page. eqb page.page_id row.from) pages) right' (grows.there row.from c.0) still) b.1) a.1
 
   category-grows : (before : List CategoryColumns) (row : CategoryColumns) → is_good_category tables before row ≡ true → is_good_category (record tables { pages = pages; revisions = revisions }) before row ≡ true
@@ -62,8 +62,8 @@ module _ (tables : StoreTables) (pages : List PageColumns) (revisions : List Rev
   redirect-grows : (before : List RedirectColumns) (row : RedirectColumns) → is_good_redirect tables before row ≡ true → is_good_redirect (record tables { pages = pages; revisions = revisions }) before row ≡ true
   redirect-grows before row good =
       let behind = list_all (λ earlier. ltb earlier.rd_from row.rd_from) before in
-      let a = and_parts (has_page tables row.rd_from && is_real row.rd_title) behind good in
-      let b = and_parts (has_page tables row.rd_from) (is_real row.rd_title) a.0 in
+      let a = and_parts (has_page tables row.rd_from && is_page_title row.rd_title) behind good in
+      let b = and_parts (has_page tables row.rd_from) (is_page_title row.rd_title) a.0 in
       rw (grows.there row.rd_from b.0, b.1) a.1
 
   job-grows : (before : List JobColumns) (row : JobColumns) → is_good_job tables before row ≡ true → is_good_job (record tables { pages = pages; revisions = revisions }) before row ≡ true

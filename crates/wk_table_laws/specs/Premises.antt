@@ -1,18 +1,18 @@
 -- What an edit must bring so that good tables stay good.
-use Rattle.std.specs.Prelude.{◌≡◌, ℕ, Bool, true, false, ◌&&◌, ◌||◌, ◌==◌, not, nat_le, ◌+◌, ◌≤◌, List, [], ◌∷◌, ◌++◌, length, find, bytes_eq, Some, None, IfSome, if◌then◌else◌}
+use Rattle.std.specs.Prelude.{◌≡◌, ℕ, Bool, true, false, ◌&&◌, ◌||◌, ◌==◌, not, ◌+◌, ◌≤◌, List, [], ◌∷◌, ◌++◌, length, find, Some, IfSome, if◌then◌else◌}
 use Rattle.std.specs.List.{list_all}
 use Rattle.std.specs.Ordering.{is_lt}
-use Rattle.wk_text_rules.specs.Titles.{PageTitle, title_cmp}
-use Rattle.wk_page_rules.specs.Verdict.{max_text}
+use Rattle.wk_text_rules.specs.Titles.{PageTitle, title_cmp, is_normal, is_page_title}
+use Rattle.wk_page_rules.specs.Verdict.{max_text, max_pages, max_texts}
 use Rattle.wk_table_rules.specs.Rows.{JobColumns, PageColumns, RevisionColumns, StoreTables, category_title}
-use Rattle.wk_table_rules.specs.Changes.{Member, PageLinks, TableEdit, add_revision, set_page, set_rows, add_job, set_job, drop_job, set_version, applied, edited, has_job, has_page}
-use Rattle.wk_table_rules.specs.JobTable.{fan_params, refresh_cmd}
-use Rattle.wk_table_rules.specs.GoodStore.{current_of, has_good_title, is_good_job, is_normal, is_real, max_pages, max_texts, texts_len}
+use Rattle.wk_row_rules.specs.PageRows.{Member, PageRows}
+use Rattle.wk_table_rules.specs.Changes.{TableEdit, add_revision, set_page, set_rows, add_job, set_job, drop_job, set_version, applied, edited, has_job, has_page}
+use Rattle.wk_table_rules.specs.GoodStore.{current_of, has_good_params, has_good_title, is_good_job, texts_len}
 use Rattle.wk_table_laws.specs.EachGood.{EachGood}
 
 -- a title that a page can have, behind all titles before it
 abbrev pub is_next_title : List PageTitle → PageTitle → Bool
-is_next_title before title = is_real title && list_all (λ earlier. is_lt (title_cmp earlier title)) before
+is_next_title before title = is_page_title title && list_all (λ earlier. is_lt (title_cmp earlier title)) before
 
 -- a category, behind all categories before it
 abbrev pub is_next_member : List Member → Member → Bool
@@ -21,7 +21,7 @@ is_next_member before member =
     && list_all (λ earlier. is_lt (title_cmp (category_title earlier.category.key) (category_title member.category.key))) before
 
 -- the link rows of a page that is there: each list is in order and names no title twice
-pub record FitLinks (tables : StoreTables) (page : ℕ) (new : PageLinks) : Type 0 where
+pub record FitLinks (tables : StoreTables) (page : ℕ) (new : PageRows) : Type 0 where
   pub there : has_page tables page ≡ true
   -- a store of version 1 has no redirect row
   pub version : tables.version ≡ 2
@@ -29,13 +29,7 @@ pub record FitLinks (tables : StoreTables) (page : ℕ) (new : PageLinks) : Type
   pub exists : EachGood is_next_title new.exists
   pub links : EachGood is_next_title new.links
   pub members : EachGood is_next_member new.members
-  pub redirect : IfSome new.redirect (λ title. is_real title ≡ true)
-
--- a job's params are of its kind
-abbrev pub has_good_params : JobColumns → Bool
-has_good_params job =
-    if bytes_eq job.job_cmd refresh_cmd then length job.job_params == 0
-    else elim (fan_params job.job_params) [ None ↦ false | Some params ↦ nat_le params.cursor max_pages ]
+  pub redirect : IfSome new.redirect (λ title. is_page_title title ≡ true)
 
 -- the row of a job that is there, with other params of its kind
 pub record FitJob (tables : StoreTables) (old new : JobColumns) : Type 0 where
@@ -77,7 +71,7 @@ pub data FitChange : StoreTables → List TableEdit → Type 0 where
       → FitRevision tables revision page → IsNext tables page
       → FitChange (applied tables (add_revision revision ∷ set_page page ∷ [])) change
       → FitChange tables (add_revision revision ∷ set_page page ∷ change)
-  sets_rows : {tables : StoreTables} {page : ℕ} {links : PageLinks} {change : List TableEdit}
+  sets_rows : {tables : StoreTables} {page : ℕ} {links : PageRows} {change : List TableEdit}
       → FitLinks tables page links → FitChange (edited tables (set_rows page links)) change
       → FitChange tables (set_rows page links ∷ change)
   adds_job : {tables : StoreTables} {job : JobColumns} {change : List TableEdit}

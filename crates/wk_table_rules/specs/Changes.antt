@@ -1,34 +1,10 @@
 -- What a change does to the tables, and when it fits them (own). A change is a list of edits, made in order.
-use Rattle.std.specs.Prelude.{ℕ, ℤ, pos, Bool, true, ◌&&◌, ◌||◌, ◌==◌, not, nat_lt, List, [], ◌∷◌, ◌++◌, map, filter, find, fold, position, slice_set, remove, Option, Some, None, unwrap_or, option_map}
+use Rattle.std.specs.Prelude.{ℕ, ℤ, pos, Bool, true, ◌&&◌, ◌||◌, ◌==◌, not, nat_lt, List, [], ◌∷◌, ◌++◌, map, filter, find, fold, position, slice_set, remove, Some, None, unwrap_or, option_map}
 use Rattle.std.specs.List.{insert_slice, list_all, list_any, position_or_len}
 use Rattle.std.specs.Option.{option_to_list}
 use Rattle.wk_text_rules.specs.Titles.{PageTitle}
+use Rattle.wk_row_rules.specs.PageRows.{Member, PageRows}
 use Rattle.wk_table_rules.specs.Rows.{PageColumns, RevisionColumns, LinkColumns, CategoryColumns, RedirectColumns, JobColumns, StoreTables}
-
--- ---- the link rows of one page
-
--- a category that a page is in, with its sort key and the prefix that the page gave
-pub record Member : Type 0 where
-  pub category : PageTitle
-  pub sortkey : List ℕ
-  pub prefix : List ℕ
-
--- The link rows of a page, in five lists. They are written in the order of the lists; what fits the tables has each
--- list in the order of its titles, and each title once.
-pub record PageLinks : Type 0 where
-  -- the titles that the page includes
-  pub templates : List PageTitle
-  -- the titles whose existence the page tests
-  pub exists : List PageTitle
-  -- the titles that the page links to
-  pub links : List PageTitle
-  pub members : List Member
-  -- the title that the page is a redirect to
-  pub redirect : Option PageTitle
-
--- a page without link rows
-abbrev pub no_links : PageLinks
-no_links = record { templates = []; exists = []; links = []; members = []; redirect = None }
 
 -- ---- edits
 
@@ -36,7 +12,7 @@ pub data TableEdit : Type 0 where
   add_revision : RevisionColumns → TableEdit
   set_page : PageColumns → TableEdit
   -- the number of a page, and the link rows that it has from now on
-  set_rows : ℕ → PageLinks → TableEdit
+  set_rows : ℕ → PageRows → TableEdit
   add_job : JobColumns → TableEdit
   set_job : JobColumns → TableEdit
   -- the number of a job
@@ -97,15 +73,15 @@ abbrev pub redirect_row : ℕ → PageTitle → RedirectColumns
 redirect_row page title = record { rd_from = page; rd_title = title }
 
 -- the link tables, where the page has these link rows from now on
-abbrev pub with_links : StoreTables → ℕ → PageLinks → StoreTables
-with_links tables page links =
+abbrev pub with_page_rows : StoreTables → ℕ → PageRows → StoreTables
+with_page_rows tables page rows =
     let row = link_row page (namespace_of tables page) in
     record tables {
-      pagelinks = with_rows_of (λ row. row.from) page tables.pagelinks (map row links.links);
-      templatelinks = with_rows_of (λ row. row.from) page tables.templatelinks (map row links.templates);
-      existlinks = with_rows_of (λ row. row.from) page tables.existlinks (map row links.exists);
-      categorylinks = with_rows_of (λ row. row.cl_from) page tables.categorylinks (map (category_row page) links.members);
-      redirects = with_rows_of (λ row. row.rd_from) page tables.redirects (map (redirect_row page) (option_to_list links.redirect));
+      pagelinks = with_rows_of (λ row. row.from) page tables.pagelinks (map row rows.links);
+      templatelinks = with_rows_of (λ row. row.from) page tables.templatelinks (map row rows.templates);
+      existlinks = with_rows_of (λ row. row.from) page tables.existlinks (map row rows.exists);
+      categorylinks = with_rows_of (λ row. row.cl_from) page tables.categorylinks (map (category_row page) rows.members);
+      redirects = with_rows_of (λ row. row.rd_from) page tables.redirects (map (redirect_row page) (option_to_list rows.redirect));
     }
 
 -- ---- what a change gives
@@ -113,7 +89,7 @@ with_links tables page links =
 abbrev pub edited : StoreTables → TableEdit → StoreTables
 edited tables (add_revision row) = record tables { revisions = tables.revisions ++ row ∷ [] }
 edited tables (set_page row) = record tables { pages = with_page tables.pages row }
-edited tables (set_rows page links) = with_links tables page links
+edited tables (set_rows page rows) = with_page_rows tables page rows
 edited tables (add_job row) = record tables { jobs = tables.jobs ++ row ∷ [] }
 edited tables (set_job row) = record tables { jobs = with_job tables.jobs row }
 edited tables (drop_job id) = record tables { jobs = without_job tables.jobs id }
@@ -129,7 +105,7 @@ applied tables change = fold edited tables change
 abbrev pub edit_fits : StoreTables → TableEdit → Bool
 edit_fits tables (add_revision new) = list_all (λ row. nat_lt row.rev_id new.rev_id) tables.revisions
 edit_fits tables (set_page new) = has_page tables new.page_id || list_all (λ row. nat_lt row.page_id new.page_id) tables.pages
-edit_fits tables (set_rows page links) = has_page tables page
+edit_fits tables (set_rows page rows) = has_page tables page
 edit_fits tables (add_job new) = list_all (λ row. nat_lt row.job_id new.job_id) tables.jobs
 edit_fits tables (set_job new) = has_job tables new.job_id
 edit_fits tables (drop_job id) = has_job tables id

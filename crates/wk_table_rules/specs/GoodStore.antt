@@ -1,24 +1,14 @@
 -- When the tables of a store are good (own; the columns are those of MediaWiki's Manual:Database layout). There are
 -- seven rules. Of tables that break one, the first rule that is broken is told, and the least row that breaks it.
-use Rattle.std.specs.Prelude.{◌≡◌, ℕ, ◌+◌, ◌-◌, ◌^◌, pos, Bool, false, ◌&&◌, ◌||◌, ◌==◌, not, nat_lt, nat_le, List, [], ◌∷◌, ◌++◌, length, filter, sum_by, bytes_eq, Option, Some, None, option_map, if◌then◌else◌}
+use Rattle.std.specs.Prelude.{◌≡◌, ℕ, ◌+◌, ◌-◌, ◌^◌, Bool, false, ◌&&◌, ◌||◌, ◌==◌, not, nat_lt, nat_le, List, [], ◌∷◌, ◌++◌, length, filter, sum_by, bytes_eq, Option, Some, None, option_map, if◌then◌else◌}
 use Rattle.std.specs.List.{last_or, list_all, list_any}
 use Rattle.std.specs.Ordering.{int_eq, is_lt, nat_cmp, ordering_then}
-use Rattle.wk_text_rules.specs.Titles.{PageTitle, normal, shown, title_cmp, title_eq, is_virtual}
-use Rattle.wk_page_rules.specs.Verdict.{max_text}
+use Rattle.wk_text_rules.specs.Titles.{PageTitle, is_normal, is_page_title, title_cmp, title_eq}
+use Rattle.wk_page_rules.specs.Verdict.{max_pages, max_text, max_texts}
 use Rattle.wk_table_rules.specs.declared.BadStore.{BadStore}
 use Rattle.wk_table_rules.specs.Rows.{category_title, PageColumns, RevisionColumns, LinkColumns, CategoryColumns, RedirectColumns, JobColumns, StoreTables}
 use Rattle.wk_table_rules.specs.Changes.{has_page, namespace_of}
 use Rattle.wk_table_rules.specs.JobTable.{refresh_cmd, fan_cmd, fan_params}
-
--- ---- titles
-
--- the title is one that a text can name: its shown form names it
-abbrev pub is_normal : PageTitle → Bool
-is_normal title = elim (normal (shown title) (pos 0)) [ None ↦ false | Some named ↦ title_eq named title ]
-
--- the title is one that a page can have
-abbrev pub is_real : PageTitle → Bool
-is_real title = is_normal title && not (is_virtual title)
 
 -- ---- rows
 
@@ -50,9 +40,6 @@ first_in_tables ((rows, None) ∷ tables) = option_map (λ row. rows + row) (fir
 
 -- ---- first: page ids are 1, 2, 3 and so on, at most 1,000,000
 
-abbrev pub max_pages : ℕ
-max_pages = 1000000
-
 abbrev pub has_good_id : List PageColumns → PageColumns → Bool
 has_good_id before page = page.page_id == length before + 1 && nat_le page.page_id max_pages
 
@@ -60,15 +47,12 @@ has_good_id before page = page.page_id == length before + 1 && nat_le page.page_
 
 abbrev pub has_good_title : List PageColumns → PageColumns → Bool
 has_good_title before page =
-    is_real page.page_title && not (list_any (λ earlier. title_eq earlier.page_title page.page_title) before)
+    is_page_title page.page_title && not (list_any (λ earlier. title_eq earlier.page_title page.page_title) before)
 
 -- ---- third: revisions are numbered 1, 2, 3 and so on; each is of a page; a deletion has no text; rev_len is the
 -- ---- text's length and at most the greatest; all texts together are within the limit
 
 -- bytes of the texts of all revisions
-abbrev pub max_texts : ℕ
-max_texts = 1073741824
-
 abbrev pub texts_len : List RevisionColumns → ℕ
 texts_len revisions = sum_by (λ revision. length revision.rev_text) revisions
 
@@ -115,7 +99,7 @@ abbrev pub is_good_link : StoreTables → List LinkColumns → LinkColumns → B
 is_good_link tables before row =
     has_page tables row.from
     && int_eq row.from_namespace (namespace_of tables row.from)
-    && is_real row.target
+    && is_page_title row.target
     && list_all (λ earlier. row_lt earlier.from earlier.target row.from row.target) before
 
 abbrev pub is_good_category : StoreTables → List CategoryColumns → CategoryColumns → Bool
@@ -126,7 +110,7 @@ is_good_category tables before row =
 
 abbrev pub is_good_redirect : StoreTables → List RedirectColumns → RedirectColumns → Bool
 is_good_redirect tables before row =
-    has_page tables row.rd_from && is_real row.rd_title && list_all (λ earlier. nat_lt earlier.rd_from row.rd_from) before
+    has_page tables row.rd_from && is_page_title row.rd_title && list_all (λ earlier. nat_lt earlier.rd_from row.rd_from) before
 
 -- ---- sixth: job numbers are at least 1, below a bound, and rise; each job is a refresh of a page, each page once,
 -- ---- with empty params, or a fan of a normal title, each title once, with a cursor of at most 1,000,000
@@ -134,6 +118,19 @@ is_good_redirect tables before row =
 -- With version 1 there is room above it, below 2^63, for a refresh job of each page, which the step to version 2 adds.
 abbrev pub job_bound : ℕ → ℕ
 job_bound version = if version == 1 then 2 ^ 63 - max_pages else 2 ^ 63
+
+-- the params of a refresh job are empty
+abbrev pub is_refresh_params : List ℕ → Bool
+is_refresh_params params = length params == 0
+
+-- those of a fan job have a cursor of at most 1,000,000
+abbrev pub is_fan_params : List ℕ → Bool
+is_fan_params text = elim (fan_params text) [ None ↦ false | Some params ↦ nat_le params.cursor max_pages ]
+
+-- a job's params are of its kind
+abbrev pub has_good_params : JobColumns → Bool
+has_good_params job =
+    if bytes_eq job.job_cmd refresh_cmd then is_refresh_params job.job_params else is_fan_params job.job_params
 
 -- a row before has this cmd and title
 abbrev pub stands_already : List JobColumns → List ℕ → PageTitle → Bool
@@ -147,14 +144,14 @@ abbrev pub is_good_refresh : StoreTables → List JobColumns → JobColumns → 
 is_good_refresh tables before job =
     list_any (λ page. title_eq page.page_title job.job_title) tables.pages
     && not (stands_already before refresh_cmd job.job_title)
-    && length job.job_params == 0
+    && is_refresh_params job.job_params
 
 abbrev pub is_good_fan : List JobColumns → JobColumns → Bool
 is_good_fan before job =
     bytes_eq job.job_cmd fan_cmd
     && is_normal job.job_title
     && not (stands_already before fan_cmd job.job_title)
-    && elim (fan_params job.job_params) [ None ↦ false | Some params ↦ nat_le params.cursor max_pages ]
+    && is_fan_params job.job_params
 
 abbrev pub is_good_job : StoreTables → List JobColumns → JobColumns → Bool
 is_good_job tables before job =

@@ -1,8 +1,31 @@
--- The link rows that the tables of a store have of each page.
-use Rattle.std.specs.Prelude.{ℕ, ◌==◌, List, map, filter, find, option_map}
+-- What the tables of a store hold: the revisions and pages, and the link rows of each page.
+use Rattle.std.specs.Prelude.{ℕ, ◌==◌, List, map, filter, find, Some, None, option_map, if◌then◌else◌}
 use Rattle.wk_text_rules.specs.Titles.{PageTitle}
-use Rattle.wk_table_rules.specs.Rows.{category_title, LinkColumns, CategoryColumns, StoreTables}
-use Rattle.wk_table_rules.specs.Changes.{Member, PageLinks}
+use Rattle.wk_page_rules.specs.History.{History, Page, Revision}
+use Rattle.wk_row_rules.specs.PageRows.{Member, PageRows}
+use Rattle.wk_table_rules.specs.Rows.{category_title, PageColumns, RevisionColumns, LinkColumns, CategoryColumns, StoreTables}
+
+-- ---- the revisions and pages
+
+abbrev pub revision_of_row : RevisionColumns → Revision
+revision_of_row row = record {
+  page = row.rev_page;
+  parent = row.rev_parent_id;
+  moment = row.rev_timestamp;
+  text = if row.rev_gone then None else Some row.rev_text;
+}
+
+abbrev pub page_of_row : PageColumns → Page
+page_of_row row = record { title = row.page_title; current = row.page_latest }
+
+-- the revisions and pages that good tables stand for
+abbrev pub history_of : StoreTables → History
+history_of tables = record {
+  revisions = map revision_of_row tables.revisions;
+  pages = map page_of_row tables.pages;
+}
+
+-- ---- the link rows
 
 -- the titles that the rows of one table name for a page, in the order of the rows
 abbrev pub targets_of : ℕ → List LinkColumns → List PageTitle
@@ -12,8 +35,8 @@ abbrev pub member_of : CategoryColumns → Member
 member_of row = record { category = category_title row.cl_to; sortkey = row.cl_sortkey; prefix = row.cl_sortkey_prefix }
 
 -- the link rows of the page with this number
-abbrev pub links_of : StoreTables → ℕ → PageLinks
-links_of tables page = record {
+abbrev pub rows_of_page : StoreTables → ℕ → PageRows
+rows_of_page tables page = record {
   templates = targets_of page tables.templatelinks;
   exists = targets_of page tables.existlinks;
   links = targets_of page tables.pagelinks;
@@ -22,5 +45,5 @@ links_of tables page = record {
 }
 
 -- the link rows of each page, in the order of the pages
-abbrev pub stored_links : StoreTables → List PageLinks
-stored_links tables = map (λ page. links_of tables page.page_id) tables.pages
+abbrev pub stored_rows : StoreTables → List PageRows
+stored_rows tables = map (λ page. rows_of_page tables page.page_id) tables.pages

@@ -2,15 +2,6 @@
 //! Nothing here runs. The contracts of the crates above cite `specs/`.
 #![tactic(auto)]
 
-/// Which rows of a page count, where it is asked which titles they name.
-#[derive(Clone, Copy, Debug, PartialEq, Eq)]
-pub enum Reach {
-    /// The titles that the page includes.
-    Text,
-    /// The titles that the page includes, and those whose existence it tests.
-    Both,
-}
-
 /// Where a store breaks a rule.
 #[derive(Clone, Copy, Debug, PartialEq, Eq)]
 pub struct BadStore {

@@ -172,3 +172,11 @@ unfoldable pub shown : PageTitle → List ℕ
 shown title =
     let name = namespace_name title.ns in
     (if length name == 0 then [] else name ++ 58 ∷ []) ++ with_spaces title.key
+
+-- The title is one that a text can name: its shown form names it.
+abbrev pub is_normal : PageTitle → Bool
+is_normal title = elim (normal (shown title) (pos 0)) [ None ↦ false | Some named ↦ title_eq named title ]
+
+-- the title is one that a page can have
+abbrev pub is_page_title : PageTitle → Bool
+is_page_title title = is_normal title && not (is_virtual title)

@@ -13,12 +13,14 @@ use Rattle.std.proofs.lemmas.List.Folds.{list_any_at}
 use Rattle.std.specs.Prelude.{◌⊎◌}
 use Rattle.std.proofs.lemmas.Map.Text.{is_eq-slice_cmp}
 use Rattle.wk_text_rules.specs.Titles.{PageTitle, title_cmp, title_eq}
+use Rattle.wk_row_rules.specs.PageRows.{names}
+use Rattle.wk_row_rules.specs.declared.Reach.TheVariants.{Text, Both}
 use Rattle.wk_tree_rules.specs.Tree.{tree}
 use Rattle.wk_tree_rules.specs.declared.Mode.TheVariants as mode
 use Rattle.wk_view_rules.specs.Expand.{expand}
 use Rattle.wk_view_rules.specs.Expansions.{Output, Progress, no_counters, no_progress, most_open}
 use Rattle.wk_view_rules.specs.Plans.{Plan, gives, asks, and_then, Outcome, done, need, noted, run, reads_of, IsDone}
-use Rattle.wk_view_rules.specs.Rows.{put_in_order, in_title_order, titles_in_order, titles_read, rows, rows_at, rows_by, names_text, names_both}
+use Rattle.wk_view_rules.specs.Rows.{put_in_order, in_title_order, titles_in_order, titles_read, rows, rows_at, rows_by}
 use Rattle.wk_view_rules.specs.Views.{Expanded, expanded_by, view, view_plan, text_plan}
 use Rattle.wk_view_rules.specs.Worlds.{Answer, existence, page_of, Read, Source, World, of_world, ask, answer_in, is_read_of, kind_eq, Agrees}
 use Rattle.wk_view_rules.specs.Worlds.{page as page_answer}
@@ -114,16 +116,16 @@ of_done pages page P h = go (view (of_world pages) page) (IsDone-run pages (view
     go (done x seen) is_done = h x seen
     go (need title kind seen) is_done = absurd is_done
 
-pub names_text-rows : (pages : World) (page title : PageTitle) → names_text (rows pages page) title ≡ list_any (is_read_of title Include) (reads_of (view (of_world pages) page))
+pub names_text-rows : (pages : World) (page title : PageTitle) → names (rows pages page) title Text ≡ list_any (is_read_of title Include) (reads_of (view (of_world pages) page))
 unfolding rows rows_by
 names_text-rows pages page title =
-    of_done pages page (λ o. names_text (rows_at page o) title ≡ list_any (is_read_of title Include) (reads_of o))
+    of_done pages page (λ o. names (rows_at page o) title Text ≡ list_any (is_read_of title Include) (reads_of o))
     (λ x seen. list_any-titles_in_order title (titles_read Include seen) ∙ list_any-titles_read title Include seen)
 
-pub names_both-rows : (pages : World) (page title : PageTitle) → names_both (rows pages page) title ≡ (list_any (is_read_of title Include) (reads_of (view (of_world pages) page)) || list_any (is_read_of title Exists) (reads_of (view (of_world pages) page)))
+pub names_both-rows : (pages : World) (page title : PageTitle) → names (rows pages page) title Both ≡ (list_any (is_read_of title Include) (reads_of (view (of_world pages) page)) || list_any (is_read_of title Exists) (reads_of (view (of_world pages) page)))
 unfolding rows rows_by
 names_both-rows pages page title =
-    of_done pages page (λ o. names_both (rows_at page o) title ≡ (list_any (is_read_of title Include) (reads_of o) || list_any (is_read_of title Exists) (reads_of o)))
+    of_done pages page (λ o. names (rows_at page o) title Both ≡ (list_any (is_read_of title Include) (reads_of o) || list_any (is_read_of title Exists) (reads_of o)))
     (λ x seen.
     ap (λ b. b || list_any (title_eq title) (titles_in_order (titles_read Exists seen))) (list_any-titles_in_order title (titles_read Include seen) ∙ list_any-titles_read title Include seen)
     ∙ ap (λ b. list_any (is_read_of title Include) seen || b) (list_any-titles_in_order title (titles_read Exists seen) ∙ list_any-titles_read title Exists seen))
@@ -219,12 +221,12 @@ module _ (v w : World) (page title : PageTitle) (elsewhere : DifferOnlyAt title 
   or_false true b e = cc
   or_false false b e = (refl, e)
 
-  pub rows-unnamed_both : names_both (rows v page) title ≡ false → rows w page ≡ rows v page
+  pub rows-unnamed_both : names (rows v page) title Both ≡ false → rows w page ≡ rows v page
   rows-unnamed_both unnamed =
       let unread = or_false _ _ (sym (names_both-rows v page title) ∙ unnamed) in
       rows-elsewhere v w page (agrees-elsewhere unread.0 (inl unread.1))
 
-  pub rows-unnamed_text : is_some (w title) ≡ is_some (v title) → names_text (rows v page) title ≡ false → rows w page ≡ rows v page
+  pub rows-unnamed_text : is_some (w title) ≡ is_some (v title) → names (rows v page) title Text ≡ false → rows w page ≡ rows v page
   rows-unnamed_text same unnamed = rows-elsewhere v w page (agrees-elsewhere (sym (names_text-rows v page title) ∙ unnamed) (inr same))
 
 -- ---- the titles that were tested

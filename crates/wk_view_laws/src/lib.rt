@@ -4,6 +4,8 @@
 ghost use Rattle.std.specs.Prelude.{◌≡◌, ◌≢◌, ◌||◌, false, is_some, ℕ, ◌≤◌, List, [], length, None};
 ghost use Rattle.std.specs.List.{list_any};
 ghost use Rattle.wk_text_rules.specs.Titles.{PageTitle};
+ghost use Rattle.wk_row_rules.specs.PageRows.{no_rows, names};
+ghost use Rattle.wk_row_rules.specs.declared.Reach.TheVariants.{Text, Both};
 ghost use Rattle.wk_tree_rules.specs.Tree.{tree, nodes, Part};
 ghost use Rattle.wk_tree_rules.specs.Trees.{Item};
 ghost use Rattle.wk_tree_rules.specs.declared.Mode.TheVariants as mode;
@@ -11,7 +13,7 @@ ghost use Rattle.wk_view_rules.specs.Expand.{expand, included, inclusion};
 ghost use Rattle.wk_view_rules.specs.Expansions.{Expansion, Output, Progress};
 ghost use Rattle.wk_view_rules.specs.Frames.{Frame};
 ghost use Rattle.wk_view_rules.specs.Plans.{Plan, and_then, done, need, run, reads_of, IsDone, NeedsOrReads};
-ghost use Rattle.wk_view_rules.specs.Rows.{rows, no_rows, names_text, names_both, titles_read};
+ghost use Rattle.wk_view_rules.specs.Rows.{rows, titles_read};
 ghost use Rattle.wk_view_rules.specs.Views.{Expanded, view, reads, shown_text};
 ghost use Rattle.wk_view_rules.specs.Worlds.{World, PageText, Source, Answer, Read, Seen, of_world, of_seen, ask, is_read_of, Agrees, IsSeen};
 ghost use Rattle.wk_view_rules.specs.declared.Kind.{Kind};
@@ -143,10 +145,10 @@ pub fn redirects_are_followed_once()
 /// be tested. The read of the page's own text names nothing.
 pub fn rows_name_what_is_read()
     ensures text { (pages : World) (page title : PageTitle)
-        → names_text (rows pages page) title
+        → names (rows pages page) title Text
         ≡ list_any (is_read_of title Include) (reads (of_world pages) page) }
     ensures both { (pages : World) (page title : PageTitle)
-        → names_both (rows pages page) title
+        → names (rows pages page) title Both
         ≡ (list_any (is_read_of title Include) (reads (of_world pages) page)
         || list_any (is_read_of title Exists) (reads (of_world pages) page)) }
 {}
@@ -155,10 +157,10 @@ pub fn rows_name_what_is_read()
 /// another text, it is enough that they don't name it as an included title.
 pub fn unnamed_titles_change_no_rows()
     ensures any_change { (v w : World) (page title : PageTitle) → DifferOnlyAt title v w
-        → page ≢ title → names_both (rows v page) title ≡ false → rows w page ≡ rows v page }
+        → page ≢ title → names (rows v page) title Both ≡ false → rows w page ≡ rows v page }
     ensures other_text { (v w : World) (page title : PageTitle) → DifferOnlyAt title v w
         → page ≢ title → is_some (w title) ≡ is_some (v title)
-        → names_text (rows v page) title ≡ false → rows w page ≡ rows v page }
+        → names (rows v page) title Text ≡ false → rows w page ≡ rows v page }
 {}
 
 /// The counters of an expansion never pass its limits.

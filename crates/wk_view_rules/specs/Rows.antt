@@ -1,40 +1,16 @@
--- The rows that a page has in the link tables (MediaWiki's Manual:Pagelinks table, Manual:Templatelinks table,
+-- The rows that a page's text gives in a world (MediaWiki's Manual:Pagelinks table, Manual:Templatelinks table,
 -- Manual:Categorylinks table and Manual:Redirect table; existence tests as rows, and the corners, are own).
-use Rattle.std.specs.Prelude.{ℕ, Bool, ◌||◌, ◌==◌, List, [], ◌∷◌, ◌++◌, length, filter_map, fold, Option, Some, None, if◌then◌else◌}
-use Rattle.std.specs.List.{list_any}
+use Rattle.std.specs.Prelude.{ℕ, ◌==◌, List, [], ◌∷◌, ◌++◌, length, filter_map, fold, Option, Some, None, if◌then◌else◌}
 use Rattle.std.specs.declared.cmp.Ordering.TheVariants.{Less, Equal, Greater}
 use Rattle.wk_text_rules.specs.Marked.{MarkedByte}
 use Rattle.wk_text_rules.specs.Occurrences.{Occurrence, page, member, nothing, occurrences}
-use Rattle.wk_text_rules.specs.Titles.{PageTitle, title_cmp, title_eq, with_spaces}
+use Rattle.wk_text_rules.specs.Titles.{PageTitle, title_cmp, with_spaces}
+use Rattle.wk_row_rules.specs.PageRows.{Member, PageRows, no_rows}
 use Rattle.wk_view_rules.specs.Plans.{Outcome, done, need}
 use Rattle.wk_view_rules.specs.Views.{Expanded, view, turned}
 use Rattle.wk_view_rules.specs.Worlds.{World, Read, of_world, kind_eq}
 use Rattle.wk_view_rules.specs.declared.Kind.{Kind}
 use Rattle.wk_view_rules.specs.declared.Kind.TheVariants.{Include, Exists}
-
--- a category that a page is a member of
-pub record Member : Type 0 where
-  pub category : PageTitle
-  -- what the page is sorted by in the category
-  pub sortkey : List ℕ
-  -- what the page itself asks to be sorted by, empty where it doesn't
-  pub prefix : List ℕ
-
--- a page's rows, in five lists; each is in title order, and has each title once
-pub record PageRows : Type 0 where
-  -- the titles that the page includes
-  pub templates : List PageTitle
-  -- the titles that the page tests for existence
-  pub exists : List PageTitle
-  -- the titles that the page links to, with those that it tests for existence
-  pub links : List PageTitle
-  -- the categories that the page is a member of
-  pub members : List Member
-  -- the title that the page redirects to
-  pub redirect : Option PageTitle
-
-abbrev pub no_rows : PageRows
-no_rows = record { templates = []; exists = []; links = []; members = []; redirect = None }
 
 -- ---- lists in title order
 
@@ -91,13 +67,3 @@ rows_at of_page (need title kind reads) = no_rows
 -- The rows of a page in a world. A world needs nothing, so they are those of an expansion that is done.
 unfoldable pub rows : World → PageTitle → PageRows
 rows pages of_page = rows_at of_page (view (of_world pages) of_page)
-
--- ---- which titles rows name
-
--- the title is among the titles that the page includes
-abbrev pub names_text : PageRows → PageTitle → Bool
-names_text rows title = list_any (title_eq title) rows.templates
-
--- the title is among those, or among the titles that the page tests for existence
-abbrev pub names_both : PageRows → PageTitle → Bool
-names_both rows title = names_text rows title || list_any (title_eq title) rows.exists

@@ -1,9 +1,8 @@
 use Rattle.std.proofs.Common.{◌≡◌, ◌-◌, ℕ, zero, suc, false, eqb, refl, arith, ◌∷◌, []}
 use Rattle.std.specs.Prelude.{slice_get, unwrap_or}
 use Rattle.std.proofs.lemmas.Bool.{ne_eqb}
-use Rattle.wk_table_rules.specs.declared.Reach.TheVariants.{Both}
-use Rattle.wk_table_rules.specs.Changes.{no_links}
-use Rattle.wk_job_rules.specs.Users.{names}
+use Rattle.wk_row_rules.specs.declared.Reach.TheVariants.{Both}
+use Rattle.wk_row_rules.specs.PageRows.{no_rows, names}
 use Rattle.wk_state_rules.specs.Computing.{computing}
 use Rattle.wk_state_laws.specs.FanRuns.{ends, goes_on}
 use Rattle.wk_examples.specs.Queues.{fan}
@@ -26,7 +25,7 @@ pub returns-clause-one_above : goal.returns-clause-one_above
 unfolding computing
 returns-clause-one_above c = refl
 
-behind : (k : ℕ) → names (unwrap_or (slice_get users_13.stored (suc (suc (suc k)))) no_links) title_t Both ≡ false
+behind : (k : ℕ) → names (unwrap_or (slice_get users_13.stored (suc (suc (suc k)))) no_rows) title_t Both ≡ false
 unfolding computing
 behind zero = refl
 behind (suc k) = refl

@@ -16,8 +16,8 @@ returns-clause-verdict_only_so c = conflict-verdict
 
 pub returns-clause-state_conflict : goal.returns-clause-state_conflict
 returns-clause-state_conflict c = λ most state journal edit current.
-    verdict-conflict state.history most journal (left state.jobs).claimed state.jobs.next edit current
+    verdict-conflict state.history most (journal_use state journal) edit current
 
 pub returns-clause-state_only_so : goal.returns-clause-state_only_so
 returns-clause-state_only_so c = λ most state journal edit current.
-    conflict-verdict state.history most journal (left state.jobs).claimed state.jobs.next edit current
+    conflict-verdict state.history most (journal_use state journal) edit current
