@@ -1,0 +1,5 @@
+pub mod Revisions
+pub mod Links
+pub mod Members
+pub mod Names
+pub mod Computing

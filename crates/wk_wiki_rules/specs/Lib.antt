@@ -1,0 +1,11 @@
+pub mod TableChanges
+pub mod Room
+pub mod Calls
+pub mod SaveOutcomes
+pub mod Claims
+pub mod Fans
+pub mod Staleness
+pub mod Entries
+pub mod Starts
+pub mod Passes
+pub mod Computing
