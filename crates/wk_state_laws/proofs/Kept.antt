@@ -3,9 +3,9 @@ use Rattle.std.proofs.Common.{◌≡◌, ℕ, zero, suc, ◌+◌, ◌-◌, ◌�
 use Rattle.std.specs.Prelude.{All, IfSome, slice_get, option_map, is_some, is_none}
 use Rattle.std.specs.List.{AllByRecursion, list_any, last_or}
 use Rattle.std.specs.Ordering.{is_lt}
-use Rattle.std.proofs.lemmas.Bool.{cases_Bool, cond_both, and_parts, and_from, or_parts, eqb-true, ltb-false}
+use Rattle.std.proofs.lemmas.Bool.{cases_Bool, cond_both, and_parts, or_parts, eqb-true, ltb-false}
 use Rattle.std.proofs.lemmas.List.{length-append}
-use Rattle.std.proofs.lemmas.List.Elements.{recursion_from_All}
+use Rattle.std.proofs.lemmas.List.Elements.{All-weaker, recursion_from_All}
 use Rattle.wk_text_rules.specs.Titles.{PageTitle, title_eq, title_cmp, is_virtual, is_normal, is_page_title}
 use Rattle.wk_page_rules.specs.History.{History, Page, page_number, page_exists, text_bytes, can_save, page_to_save}
 use Rattle.wk_page_rules.specs.Kept.{kept}
@@ -29,8 +29,7 @@ use Rattle.wk_job_laws.proofs.FanOrder.{IsInOrder-saved, IsInOrder-served}
 use Rattle.wk_row_rules.specs.PageRows.{PageRows, Member, no_rows}
 use Rattle.wk_view_laws.specs.Titles.{IsPageTitle, IsCategoryTitle, IsInTitleOrder, RowsAreInOrder, RowsHavePageTitles}
 use Rattle.wk_view_laws.proofs.OrderLemmas.{order-rows, pages-rows}
-use Rattle.wk_row_laws.specs.NormalTitles.{RowsHaveNormalTitles}
-use Rattle.wk_row_laws.proofs.NormalRows.{normal-rows}
+use Rattle.wk_row_laws.proofs.NormalRows.{normal-page, page-title}
 use Rattle.wk_view_rules.specs.Rows.{rows}
 use Rattle.wk_state_rules.specs.States.{State, no_state, title_at, world_of}
 use Rattle.wk_state_rules.specs.Events.{Event, Save, Claim, Done, Back, Fan, stored_with, with_saved, with_refreshed, with_jobs, step_by}
@@ -168,17 +167,10 @@ module _ {X : Type 0} (title_of : X → PageTitle) where
     in-order xs (λ i j d lt within. pairs (suc i) (suc j) d (omega (arith, lt)) (omega (arith, within))),
   )
 
-real-of : (title : PageTitle) → is_normal title ≡ true → IsPageTitle title → is_page_title title ≡ true
-real-of title normal_one page = and_from (is_normal title) (not (is_virtual title)) normal_one (ap not page.real)
-
-all-real : (titles : List PageTitle) → AllByRecursion (λ title. is_normal title ≡ true) titles → AllByRecursion IsPageTitle titles → AllByRecursion (λ title. is_page_title title ≡ true) titles
-all-real [] normals pages = tt
-all-real (title ∷ titles) normals pages = (real-of title normals.0 pages.0, all-real titles normals.1 pages.1)
-
-titles-good : (titles : List PageTitle) → All (λ title. is_normal title ≡ true) titles → All IsPageTitle titles → IsInTitleOrder (λ title. title) titles → EachGood is_next_title titles
-titles-good titles normals pages order =
+titles-good : (titles : List PageTitle) → All IsPageTitle titles → IsInTitleOrder (λ title. title) titles → EachGood is_next_title titles
+titles-good titles pages order =
     EachGood-from_passes (λ (a b : PageTitle). is_lt (title_cmp a b)) is_page_title is_next_title (λ earlier title. refl) titles (record {
-      alone = all-real titles (recursion_from_All (λ title. is_normal title ≡ true) titles normals) (recursion_from_All IsPageTitle titles pages);
+      alone = recursion_from_All (λ title. is_page_title title ≡ true) titles (All-weaker IsPageTitle (λ title. is_page_title title ≡ true) page-title titles pages);
       paired = in-order (λ (title : PageTitle). title) titles order;
     })
 
@@ -189,13 +181,13 @@ category-same title is = ap (λ ns. let t : PageTitle = record { ns = ns; key = 
 abbrev category_of : Member → PageTitle
 category_of member = category_title member.category.key
 
-members-passes : (members : List Member) → AllByRecursion (λ (m : Member). is_normal m.category ≡ true) members → AllByRecursion (λ (m : Member). IsCategoryTitle m.category) members → Pairs (before (λ (m : Member). m.category)) members
+members-passes : (members : List Member) → AllByRecursion (λ (m : Member). IsCategoryTitle m.category) members → Pairs (before (λ (m : Member). m.category)) members
     → AllByRecursion (λ (m : Member). is_normal (category_of m) ≡ true) members × (Pairs (before category_of) members × AllByRecursion (λ (m : Member). m.category.ns ≡ pos 14) members)
-members-passes [] normals titles order = (tt, (tt, tt))
-members-passes (m ∷ members) normals titles order =
-    let later = members-passes members normals.1 titles.1 order.1 in
+members-passes [] titles order = (tt, (tt, tt))
+members-passes (m ∷ members) titles order =
+    let later = members-passes members titles.1 order.1 in
     let is = category-same m.category titles.0.1 in (
-      (subst (λ t. is_normal t ≡ true) (sym is) normals.0, later.0),
+      (subst (λ t. is_normal t ≡ true) (sym is) (normal-page m.category titles.0.0), later.0),
       ((ahead members titles.1 order.0, later.1.0), (titles.0.1, later.1.1)),
     )
   where
@@ -208,22 +200,21 @@ members-passes (m ∷ members) normals titles order =
       ahead rest each.1 less.1,
     )
 
-redirect-real : (o : Option PageTitle) → IfSome o (λ title. is_normal title ≡ true) → IfSome o IsPageTitle → IfSome o (λ title. is_page_title title ≡ true)
-redirect-real None normal_one page = tt
-redirect-real (Some title) normal_one page = real-of title normal_one page
+redirect-real : (o : Option PageTitle) → IfSome o IsPageTitle → IfSome o (λ title. is_page_title title ≡ true)
+redirect-real None page = tt
+redirect-real (Some title) page = page-title title page
 
-rows-good : (r : PageRows) → RowsHaveNormalTitles r → RowsAreInOrder r → RowsHavePageTitles r → AreGoodLinks r
-rows-good r normals order titles =
-    let members = members-passes r.members (recursion_from_All (λ (m : Member). is_normal m.category ≡ true) r.members normals.members)
-    (recursion_from_All (λ (m : Member). IsCategoryTitle m.category) r.members titles.members) (in-order (λ (m : Member). m.category) r.members order.members) in
+rows-good : (r : PageRows) → RowsAreInOrder r → RowsHavePageTitles r → AreGoodLinks r
+rows-good r order titles =
+    let members = members-passes r.members (recursion_from_All (λ (m : Member). IsCategoryTitle m.category) r.members titles.members) (in-order (λ (m : Member). m.category) r.members order.members) in
     record {
-      templates = titles-good r.templates normals.templates titles.templates order.templates;
-      exists = titles-good r.exists normals.exists titles.exists order.exists;
-      links = titles-good r.links normals.links titles.links order.links;
+      templates = titles-good r.templates titles.templates order.templates;
+      exists = titles-good r.exists titles.exists order.exists;
+      links = titles-good r.links titles.links order.links;
       members = EachGood-from_passes (λ (a b : Member). is_lt (title_cmp (category_of a) (category_of b))) (λ m. is_normal (category_of m)) is_next_member (λ earlier m. refl) r.members
           (record { alone = members.0; paired = members.1.0 });
       categories = members.1.1;
-      redirect = redirect-real r.redirect normals.redirect titles.redirect;
+      redirect = redirect-real r.redirect titles.redirect;
     }
 
 set-each : {X : Type 0} (P : X → Type 0) (xs : List X) (place : ℕ) (x : X) → P x → AllByRecursion P xs → AllByRecursion P (set xs place x)
@@ -237,7 +228,7 @@ IsKept-refreshed state page keeps formed =
       formed = formed;
       history = keeps.history;
       links = set-each AreGoodLinks state.stored (page - 1) (rows (world_of state) title)
-          (rows-good (rows (world_of state) title) (normal-rows (world_of state) title) (order-rows (world_of state) title) (pages-rows (world_of state) title)) keeps.links;
+          (rows-good (rows (world_of state) title) (order-rows (world_of state) title) (pages-rows (world_of state) title)) keeps.links;
       numbered = IsNumbered-dropped state.jobs page keeps.numbered;
       one_page = IsOneAPage-dropped state.jobs page keeps.one_page;
       one_title = keeps.one_title;
