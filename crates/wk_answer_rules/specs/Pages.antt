@@ -1,12 +1,12 @@
 -- What is told of a page, of a given text and of the wiki (MediaWiki's API:Parsing wikitext, API:Expandtemplates,
 -- API:Tokens and API:Siteinfo; that links, categories and templates come in title order is own).
-use Rattle.std.specs.Prelude.{ℕ, ◌+◌, ℤ, negsuc, pos, List, [], ◌∷◌, ◌++◌, length, map, nat_lt, codes, Option, Some, None, option_map, if◌then◌else◌}
+use Rattle.std.specs.Prelude.{ℕ, ◌+◌, ℤ, negsuc, pos, List, [], ◌∷◌, length, map, nat_lt, codes, Option, Some, None, option_map, if◌then◌else◌}
 use Rattle.std.specs.List.{range_with_len}
 use Rattle.std.specs.Option.{option_to_list}
 use Rattle.serde_json.specs.Data.{Data, string}
-use Rattle.wk_text_rules.specs.Marked.{MarkedByte, text_of}
+use Rattle.wk_text_rules.specs.Marked.{text_of}
 use Rattle.wk_text_rules.specs.Titles.{PageTitle, namespace_name, normal, shown, with_spaces}
-use Rattle.wk_page_rules.specs.History.{History, current_revision, page_exists}
+use Rattle.wk_page_rules.specs.History.{current_revision, page_exists}
 use Rattle.wk_page_rules.specs.Verdict.{max_text, real_title}
 use Rattle.wk_row_rules.specs.PageRows.{Member, PageRows}
 use Rattle.wk_view_rules.specs.Plans.{Outcome, done, need}

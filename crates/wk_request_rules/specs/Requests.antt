@@ -1,6 +1,6 @@
 -- What a request asks, and why parameters are refused (MediaWiki's API:Main page and the page of each module; what is
 -- left out of them is own). Titles are as they were written.
-use Rattle.std.specs.Prelude.{ℕ, Bool, List, [], codes, Option}
+use Rattle.std.specs.Prelude.{ℕ, Bool, List, [], Option}
 use Rattle.wk_page_rules.specs.Verdict.{EditAsked}
 
 -- which entries of a list are asked for

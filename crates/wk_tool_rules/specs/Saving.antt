@@ -1,7 +1,7 @@
 -- What saves one after the other make, up to the first that is refused (own).
 use Rattle.std.specs.Prelude.{ℕ, ◌+◌, List, [], ◌∷◌, drop, Option, Some, None}
 use Rattle.wk_base.specs.Clock.{first_moment}
-use Rattle.wk_page_rules.specs.Verdict.{EditAsked, MostHeld, Verdict, Refusal, refuse, no_change, accept}
+use Rattle.wk_page_rules.specs.Verdict.{EditAsked, MostHeld, Refusal, refuse, no_change, accept}
 use Rattle.wk_state_rules.specs.States.{State}
 use Rattle.wk_state_rules.specs.Events.{Event, Save, with_saved}
 use Rattle.wk_state_rules.specs.Verdicts.{verdict_in}
