@@ -21,7 +21,7 @@ use Rattle.wk_table_laws.proofs.Pairs.{Pairs, Passes-from_good, EachGood-from_pa
 use Rattle.wk_table_laws.proofs.Links.{row_lt-same}
 use Rattle.wk_state_rules.specs.Tables.{page_row, revision_row}
 use Rattle.wk_state_laws.proofs.GoodOpened.{HasLast, has-last, text-last}
-use Rattle.wk_state_laws.proofs.TableLinks.{AreGoodLinks}
+use Rattle.wk_state_laws.proofs.TableLinks.{AreGoodRows}
 use Rattle.wk_state_laws.proofs.TableHistory.{bare_tables}
 
 -- ---- revisions
@@ -204,7 +204,7 @@ module _ (tables : StoreTables) (page : ℕ) where
     | inr other ↦ rw other (redirect-good rows all.1)
   ]
 
-  links-good : KeepsRules tables → AreGoodLinks (rows_of_page tables page)
+  links-good : KeepsRules tables → AreGoodRows (rows_of_page tables page)
   links-good keeps = record {
     templates = targets-good tables.templatelinks keeps.templatelinks;
     exists = targets-good tables.existlinks keeps.existlinks;
@@ -216,9 +216,9 @@ module _ (tables : StoreTables) (page : ℕ) where
         (is_good_redirect tables) (λ before row. refl) tables.redirects keeps.redirects).alone;
   }
 
-pub stored-good : (tables : StoreTables) → KeepsRules tables → AllByRecursion AreGoodLinks (stored_rows tables)
+pub stored-good : (tables : StoreTables) → KeepsRules tables → AllByRecursion AreGoodRows (stored_rows tables)
 stored-good tables keeps = by tables.pages
   where
-    by : (pages : List PageColumns) → AllByRecursion AreGoodLinks (map (λ (page : PageColumns). rows_of_page tables page.page_id) pages)
+    by : (pages : List PageColumns) → AllByRecursion AreGoodRows (map (λ (page : PageColumns). rows_of_page tables page.page_id) pages)
     by [] = tt
     by (page ∷ pages) = (links-good tables page.page_id keeps, by pages)

@@ -45,7 +45,7 @@ use Rattle.wk_state_laws.proofs.Fanned.{fans-queued, fans-all_queued}
 use Rattle.wk_state_laws.proofs.Served.{found, uses, users-is}
 use Rattle.wk_state_laws.proofs.FanRuns.{found-few}
 use Rattle.wk_state_laws.proofs.Formed.{Within, users-within, placed-in, IsWellFormed-none, IsWellFormed-step, IsWellFormed-reopened}
-use Rattle.wk_state_laws.proofs.TableLinks.{AreGoodLinks, AreGoodLinks-none, links-good, categories-good, redirects-good}
+use Rattle.wk_state_laws.proofs.TableLinks.{AreGoodRows, AreGoodRows-none, links-good, categories-good, redirects-good}
 use Rattle.wk_state_laws.proofs.TableJobs.{jobs-good}
 use Rattle.wk_state_laws.proofs.TableHistory.{length-rows, bare_tables, saved-old, saved-new}
 
@@ -56,7 +56,7 @@ pub record IsKept (state : State) : Type 0 where
   pub formed : IsWellFormed state
   -- the revisions and the pages are such as good tables have
   pub history : KeepsRules (bare_tables state.history)
-  pub links : AllByRecursion AreGoodLinks state.stored
+  pub links : AllByRecursion AreGoodRows state.stored
   pub numbered : IsNumbered state.jobs
   pub one_page : IsOneAPage state.jobs
   pub one_title : IsOneATitle state.jobs
@@ -204,7 +204,7 @@ redirect-real : (o : Option PageTitle) → IfSome o IsPageTitle → IfSome o (λ
 redirect-real None page = tt
 redirect-real (Some title) page = page-title title page
 
-rows-good : (r : PageRows) → RowsAreInOrder r → RowsHavePageTitles r → AreGoodLinks r
+rows-good : (r : PageRows) → RowsAreInOrder r → RowsHavePageTitles r → AreGoodRows r
 rows-good r order titles =
     let members = members-passes r.members (recursion_from_All (λ (m : Member). IsCategoryTitle m.category) r.members titles.members) (in-order (λ (m : Member). m.category) r.members order.members) in
     record {
@@ -227,7 +227,7 @@ IsKept-refreshed state page keeps formed =
     let title = title_at state.history page in record {
       formed = formed;
       history = keeps.history;
-      links = set-each AreGoodLinks state.stored (page - 1) (rows (world_of state) title)
+      links = set-each AreGoodRows state.stored (page - 1) (rows (world_of state) title)
           (rows-good (rows (world_of state) title) (order-rows (world_of state) title) (pages-rows (world_of state) title)) keeps.links;
       numbered = IsNumbered-dropped state.jobs page keeps.numbered;
       one_page = IsOneAPage-dropped state.jobs page keeps.one_page;
@@ -417,8 +417,8 @@ IsKept-saved state title text moment real leaves keeps formed =
         | inl there ↦ saved-old h title text moment keeps.history stand real leaves.short leaves.room there
         | inr none ↦ saved-new h title text moment keeps.history stand real leaves.short leaves.room none (leaves.pages none)
       ];
-      links = cond_both (is_some (page_number h title)) state.stored (state.stored ++ no_rows ∷ []) (AllByRecursion AreGoodLinks) (λ old. keeps.links)
-          (λ new. each-append AreGoodLinks state.stored (no_rows ∷ []) keeps.links (AreGoodLinks-none, tt));
+      links = cond_both (is_some (page_number h title)) state.stored (state.stored ++ no_rows ∷ []) (AllByRecursion AreGoodRows) (λ old. keeps.links)
+          (λ new. each-append AreGoodRows state.stored (no_rows ∷ []) keeps.links (AreGoodRows-none, tt));
       numbered = IsNumbered-saved stored state.jobs page title reach keeps.numbered;
       one_page = IsOneAPage-saved stored state.jobs page title reach keeps.one_page;
       one_title = IsOneATitle-saved stored state.jobs page title reach keeps.one_title;
