@@ -7,3 +7,4 @@ pub mod Wikis
 pub mod Saves
 pub mod Answers
 pub mod Edits
+pub mod Scripts
