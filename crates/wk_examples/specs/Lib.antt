@@ -8,3 +8,4 @@ pub mod Saves
 pub mod Answers
 pub mod Edits
 pub mod Listings
+pub mod Scripts
