@@ -1,2 +1,4 @@
 pub mod BlankEnds
+pub mod ChainLaws
+pub mod NewestLaws
 pub mod PageLaws
