@@ -2,3 +2,4 @@ pub mod BlankEnds
 pub mod ChainLaws
 pub mod NewestLaws
 pub mod PageLaws
+pub mod TitleLaws

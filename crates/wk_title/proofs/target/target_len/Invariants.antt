@@ -1,7 +1,7 @@
 use Rattle.std.proofs.Common.{length, ◌≡◌, ◌+◌, ◌-◌, ◌≤◌, drop}
 use Rattle.std.specs.List.{prefix_len}
-use Rattle.wk_tree_rules.specs.Redirects.{is_target_byte}
-use Rattle.wk_redirect.proofs.redirect.target_len.Given as goal
+use Rattle.wk_text_rules.specs.Targets.{is_target_byte}
+use Rattle.wk_title.proofs.target.target_len.Given as goal
 
 abbrev pub invariant-loop-len : goal.invariant-loop-len
 invariant-loop-len l =

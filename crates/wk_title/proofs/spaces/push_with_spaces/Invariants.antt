@@ -1,7 +1,7 @@
 use Rattle.std.proofs.Common.{◌≡◌, ◌+◌, ◌≤◌, ◌++◌, length, string_bytes, string_len, string_capacity}
 use Rattle.std.specs.Str.Iter.{chars_rest}
 use Rattle.wk_text_rules.specs.Titles.{with_spaces}
-use Rattle.wk_title.proofs.rules.push_with_spaces.Given as goal
+use Rattle.wk_title.proofs.spaces.push_with_spaces.Given as goal
 
 abbrev pub invariant-loop-c : goal.invariant-loop-c
 invariant-loop-c l =

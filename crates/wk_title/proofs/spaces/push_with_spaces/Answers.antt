@@ -2,7 +2,7 @@ use Rattle.std.proofs.Common.{◌++◌, ℕ, length, encode_utf8, string_bytes, 
 use Rattle.std.specs.Str.Iter.{chars_rest}
 use Rattle.wk_text_rules.specs.Titles.{with_spaces}
 use Rattle.wk_title.proofs.SpacesLemmas.{length-with_space, with_spaces_step}
-use Rattle.wk_title.proofs.rules.push_with_spaces.Goals as goal
+use Rattle.wk_title.proofs.spaces.push_with_spaces.Goals as goal
 
 pub unwrap-requires : goal.unwrap-requires
 unwrap-requires c =
