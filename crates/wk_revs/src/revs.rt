@@ -30,8 +30,8 @@ use wk_title::Title;
 const MAX_TEXT: usize = 2_097_152;
 
 /// The revisions and pages of a wiki. Contracts see the history of its saves, and for how many revisions more there
-/// is room. Every call but `judge` takes a time that grows neither with the pages nor with the revisions, or at most with
-/// the logarithm of the revisions of one page; `judge` goes over the edit and the page's text besides.
+/// is room. But for `make_room`, no call takes a time that grows with the pages or the revisions, other than with the
+/// logarithm of the number of one page's revisions. `judge` goes over the edit and the page's text besides.
 #[derive(Debug, Drop)]
 pub struct Revs {
     revisions: Vec<Revision>,
