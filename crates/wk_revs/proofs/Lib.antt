@@ -1,2 +1,5 @@
 pub mod BlankEnds
+pub mod ChainLaws
+pub mod NewestLaws
 pub mod PageLaws
+pub mod TitleLaws

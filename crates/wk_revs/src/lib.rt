@@ -1,6 +1,7 @@
 //! The revisions and pages of a wiki, and the verdict on an edit of them.
 #![tactic(auto)]
 
+mod chains;
 mod edit;
 mod kept_text;
 mod pages;
@@ -12,6 +13,7 @@ mod verdict;
 
 pub use edit::{Edit, Limits, full_is_the_full_limits};
 pub use kept_text::kept;
+pub use revisions::Revision;
 pub use revs::Revs;
 pub use verdict::{SaveRefusal, Verdict};
 pub use wk_page_rules::Limit;

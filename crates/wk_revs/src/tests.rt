@@ -233,3 +233,72 @@ fn a_refusal_is_told(rt: HostRuntime) -> Result<(), Fail> {
     }
     Ok(())
 }
+
+/// The page's newest revision below a number, by a walk over all.
+fn newest_by_walk(revs: &Revs, page: u32, below: u64) -> Option<u64> {
+    let mut found = None;
+    for number in 1..below {
+        match revs.revision(number) {
+            Some(revision) if revision.page() == page => found = Some(number),
+            _ => {}
+        }
+    }
+    found
+}
+
+/// Sixty saves of three pages, of which each fifth is a deletion.
+fn many_saves(alloc: Global) -> Result<Revs, Memory> {
+    let mut revs = Revs::new(alloc);
+    for at in 0u64..60 {
+        let title = match at * at % 7 % 3 {
+            0 => "A",
+            1 => "B",
+            _ => "C",
+        };
+        let text = format!(in alloc; "{at}")?;
+        let body = if at % 5 == 4 {
+            None
+        } else {
+            Some(text.as_str())
+        };
+        let edit = edit(alloc, title, body, None)?;
+        save(alloc, &mut revs, &edit, &Limits::FULL, at)?;
+    }
+    Ok(revs)
+}
+
+#[test]
+fn the_newest_revision_below_a_number_is_found(rt: HostRuntime) -> Result<(), Fail> {
+    let revs = many_saves(rt.alloc())?;
+    for page in 0..5 {
+        for below in 0..64 {
+            let want = newest_by_walk(&revs, page, below);
+            assert_eq!(rt;
+                revs.newest_below(page, below),
+                want,
+                "page {page} below {below}"
+            );
+        }
+    }
+    Ok(())
+}
+
+#[test]
+fn pages_are_counted(rt: HostRuntime) -> Result<(), Fail> {
+    let revs = many_saves(rt.alloc())?;
+    let mut existing = 0u64;
+    for number in 1..4 {
+        match revs.page_at(number) {
+            Some((title, current)) => {
+                assert_eq!(rt; revs.page(title), Some(number));
+                existing = existing.saturating_add(u64::from(current != 0));
+            }
+            None => assert!(rt; false, "page {number}"),
+        }
+    }
+    assert!(rt; revs.page_at(0).is_none());
+    assert!(rt; revs.page_at(4).is_none());
+    assert_eq!(rt; revs.page_count(), 3);
+    assert_eq!(rt; revs.existing_count() as u64, existing);
+    Ok(())
+}
