@@ -3,10 +3,12 @@
 #![tactic(auto)]
 
 pub mod atoms;
+pub mod calls;
 pub mod faults;
 pub mod jobs;
 pub mod laws;
 pub mod links;
+pub mod listings;
 pub mod numerals;
 pub mod pages;
 pub mod redirects;
