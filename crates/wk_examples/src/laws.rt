@@ -1,9 +1,11 @@
 //! Worlds and reads that meet the premises of the laws of views.
 ghost use Rattle.std.specs.Prelude.{◌≡◌, ◌≢◌, codes, ◌∷◌, [], pos, true, false, is_some, Some};
 ghost use Rattle.wk_text_rules.specs.Titles.{PageTitle};
+ghost use Rattle.wk_row_rules.specs.PageRows.{names};
+ghost use Rattle.wk_row_rules.specs.declared.Reach.TheVariants.{Text, Both};
 ghost use Rattle.wk_view_rules.specs.Expansions.{no_progress};
 ghost use Rattle.wk_view_rules.specs.Plans.{need};
-ghost use Rattle.wk_view_rules.specs.Rows.{names_both, names_text, rows};
+ghost use Rattle.wk_view_rules.specs.Rows.{rows};
 ghost use Rattle.wk_view_rules.specs.Views.{reads, view};
 ghost use Rattle.wk_view_rules.specs.Worlds.{Agrees, IsSeen, of_seen, of_world, page};
 ghost use Rattle.wk_view_rules.specs.declared.Kind.TheVariants.{View, Include};
@@ -17,13 +19,13 @@ pub fn a_page_that_is_not_read()
         (reads (of_world world_before) page_p) }
     ensures differs { DifferOnlyAt (titled (pos 0) (codes "B")) world_before
         (changed (titled (pos 0) (codes "B")) (codes "c") world_before) }
-    ensures unnamed { names_both (rows world_before page_p) (titled (pos 0) (codes "B")) ≡ false }
+    ensures unnamed { names (rows world_before page_p) (titled (pos 0) (codes "B")) Both ≡ false }
 {}
 
 /// A page whose existence is tested is named with existence, and not as text.
 pub fn a_page_that_is_tested()
-    ensures unnamed { names_text (rows world_before page_p) (titled (pos 0) (codes "Q")) ≡ false }
-    ensures named { names_both (rows world_before page_p) (titled (pos 0) (codes "Q")) ≡ true }
+    ensures unnamed { names (rows world_before page_p) (titled (pos 0) (codes "Q")) Text ≡ false }
+    ensures named { names (rows world_before page_p) (titled (pos 0) (codes "Q")) Both ≡ true }
 {}
 
 /// A need, with a world that agrees with the reads before it.

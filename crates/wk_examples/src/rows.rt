@@ -1,7 +1,8 @@
 //! Which rows a page has. Worlds are written as `specs/Pages.antt` says, and rows with shown titles.
 ghost use Rattle.std.specs.Prelude.{◌≡◌, codes, ◌∷◌, [], pos, true, false};
-ghost use Rattle.wk_row_rules.specs.PageRows.{no_rows};
-ghost use Rattle.wk_view_rules.specs.Rows.{rows, names_text, names_both};
+ghost use Rattle.wk_row_rules.specs.PageRows.{no_rows, names};
+ghost use Rattle.wk_row_rules.specs.declared.Reach.TheVariants.{Text, Both};
+ghost use Rattle.wk_view_rules.specs.Rows.{rows};
 ghost use Rattle.wk_examples.specs.Pages.{pages, only, page_rows, titled};
 
 /// Links and members: each title once, in title order, and of a category's prefixes the last.
@@ -103,16 +104,16 @@ pub fn redirects()
 
 /// Which titles rows name, where included titles count, and where tested ones count too.
 pub fn names()
-    ensures text { names_text
+    ensures text { names
         (rows (only (codes "P") (codes "{{A}}{{#ifexist:Q}}")) (titled (pos 0) (codes "P")))
-        (titled (pos 10) (codes "A")) ≡ true }
-    ensures not_by_text { names_text
+        (titled (pos 10) (codes "A")) Text ≡ true }
+    ensures not_by_text { names
         (rows (only (codes "P") (codes "{{A}}{{#ifexist:Q}}")) (titled (pos 0) (codes "P")))
-        (titled (pos 0) (codes "Q")) ≡ false }
-    ensures both { names_both
+        (titled (pos 0) (codes "Q")) Text ≡ false }
+    ensures both { names
         (rows (only (codes "P") (codes "{{A}}{{#ifexist:Q}}")) (titled (pos 0) (codes "P")))
-        (titled (pos 0) (codes "Q")) ≡ true }
-    ensures other { names_both
+        (titled (pos 0) (codes "Q")) Both ≡ true }
+    ensures other { names
         (rows (only (codes "P") (codes "{{A}}{{#ifexist:Q}}[[b]]")) (titled (pos 0) (codes "P")))
-        (titled (pos 0) (codes "B")) ≡ false }
+        (titled (pos 0) (codes "B")) Both ≡ false }
 {}

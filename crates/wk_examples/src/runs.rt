@@ -1,6 +1,5 @@
 //! Runs of a wiki that meet the premises of the laws of states.
-ghost use Rattle.std.specs.Prelude.{◌≡◌, ◌<◌, ◌≤◌, ℕ, true, false, codes, List, ◌∷◌, [], Some, None, unwrap_or};
-ghost use Rattle.std.specs.List.{last_or};
+ghost use Rattle.std.specs.Prelude.{◌≡◌, ◌<◌, ◌≤◌, ℕ, true, false, codes, List, ◌∷◌, [], Some};
 ghost use Rattle.wk_page_rules.specs.History.{text_of_revision};
 ghost use Rattle.wk_view_rules.specs.Views.{reads};
 ghost use Rattle.wk_view_rules.specs.Worlds.{IsHonest, of_world};
@@ -8,7 +7,7 @@ ghost use Rattle.wk_row_rules.specs.declared.Reach.TheVariants.{Both};
 ghost use Rattle.wk_table_rules.specs.GoodStore.{IsGood};
 ghost use Rattle.wk_job_rules.specs.Jobs.{first_fan, page_held_by};
 ghost use Rattle.wk_row_rules.specs.PageRows.{names};
-ghost use Rattle.wk_job_rules.specs.Users.{users};
+ghost use Rattle.wk_job_rules.specs.Steps.{cursor_behind, next_served};
 ghost use Rattle.wk_state_rules.specs.States.{no_state, page_at, stored_at, world_of};
 ghost use Rattle.wk_state_rules.specs.Events.{Claim, Done};
 ghost use Rattle.wk_state_rules.specs.Tables.{state_of, tables_of};
@@ -55,7 +54,7 @@ pub fn a_refresh_that_is_held()
 /// A fan job that is served in two fans: the first leaves a page that names the title, and the second leaves none.
 pub fn fans_that_serve()
     ensures first { first_fan users_12.jobs ≡ Some (fan 5 title_t Both 0) }
-    ensures cursor { unwrap_or (last_or None (users users_12.stored title_t Both 0 2)) 0 ≡ 2 }
+    ensures cursor { cursor_behind (next_served users_12.stored 2 (fan 5 title_t Both 0)) 0 ≡ 2 }
     ensures one_below { names (stored_at users_12 2) title_t Both ≡ true }
     ensures one_above { names (stored_at users_12 3) title_t Both ≡ true }
     ensures none_above { (page : ℕ) → 3 < page → names (stored_at users_13 page) title_t Both ≡ false }

@@ -14,10 +14,10 @@ use Rattle.wk_state_laws.proofs.Fanned.{IsSound-fanned}
 use Rattle.wk_state_laws.proofs.Saved.{IsSound-saved}
 use Rattle.wk_state_laws.proofs.Formed.{IsWellFormed-none, IsWellFormed-step, IsWellFormed-reopened}
 
-abbrev IsBoth : State → Type 0
+abbrev pub IsBoth : State → Type 0
 IsBoth state = IsWellFormed state × IsSound state
 
-IsSound-step : (most : ℕ) (state next : State) (journal : ℕ) (event : Event) → step_by most state journal event ≡ Some next → IsBoth state → IsSound next
+pub IsSound-step : (most : ℕ) (state next : State) (journal : ℕ) (event : Event) → step_by most state journal event ≡ Some next → IsBoth state → IsSound next
 IsSound-step most state next journal (Save title text moment) done both = IsSound-saved most state next journal title text moment both.0 done both.1
 IsSound-step most state next journal Claim done both = IsSound-claimed most state next journal done both.1
 IsSound-step most state next journal (Done ticket) done both = IsSound-done most state next journal ticket both.0 done both.1

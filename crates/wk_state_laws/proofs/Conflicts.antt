@@ -155,7 +155,7 @@ with_room-conflict false (accept title body) current e = absurd cc
 
 pub verdict-conflict : (h : History) (most : MostHeld) (used : JournalUse) (edit : EditAsked) (current : ℕ)
     → IsInConflict h edit current → verdict h most used edit ≡ refuse (edit_conflict current)
-verdict-conflict h most journal tickets next_job edit current conflict =
+verdict-conflict h most used edit current conflict =
     ap (λ v. with_room (is_journal_full most used) v) (judged-conflict h most edit current conflict)
 
 pub conflict-verdict : (h : History) (most : MostHeld) (used : JournalUse) (edit : EditAsked) (current : ℕ)

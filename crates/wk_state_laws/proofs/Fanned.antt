@@ -1,7 +1,7 @@
 -- A fan keeps a wiki sound.
 use Rattle.std.proofs.Common.{◌≡◌, ℕ, ◌-◌, ◌≤◌, Bool, true, false, cond, eqb, ltb, ◌||◌, List, [], ◌∷◌, length, drop, unwrap_or, Option, Some, None, refl, sym, ap, ◌∙◌, inl, inr, subst, arith}
 use Rattle.std.specs.Prelude.{slice_get, option_map}
-use Rattle.std.specs.List.{list_any, last_or}
+use Rattle.std.specs.List.{list_any}
 use Rattle.std.proofs.lemmas.Bool.{cases_Bool, and_parts, and_from, or_left, or_right, ltb-true, ltb-false, both_ways, ne_eqb}
 use Rattle.wk_text_rules.specs.Titles.{PageTitle}
 use Rattle.wk_row_rules.specs.declared.Reach.{Reach}

@@ -188,7 +188,7 @@ module _ (title : PageTitle) (number : ℕ) where
       rest [] every = tt
       rest (p ∷ ps) every = (kept p.current every.0, rest ps every.1)
 
-  own-within : (pages : List Page) → Within (length (with_current pages title number)) (unwrap_or (option_map (λ place. place + 1) (position is_it pages)) (length pages + 1))
+  pub own-within : (pages : List Page) → Within (length (with_current pages title number)) (unwrap_or (option_map (λ place. place + 1) (position is_it pages)) (length pages + 1))
   own-within pages = elim (cases_Bool (ltb (position_or_len is_it pages) (length pages))) [
     | inl within ↦
         let same = length-old pages (sym (placed-in pages) ∙ within) in

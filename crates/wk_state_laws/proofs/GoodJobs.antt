@@ -9,10 +9,10 @@ use Rattle.std.proofs.lemmas.Slice.Eq.{bytes_eq-Decides}
 use Rattle.wk_text_rules.specs.Titles.{PageTitle, title_eq, is_normal}
 use Rattle.wk_page_rules.specs.History.{Page, page_number}
 use Rattle.wk_page_rules.specs.Verdict.{max_pages}
-use Rattle.wk_table_rules.specs.Rows.{StoreTables, PageColumns, JobColumns}
+use Rattle.wk_table_rules.specs.Rows.{StoreTables, JobColumns}
 use Rattle.wk_table_rules.specs.JobTable.{FanParams, refresh_cmd, fan_cmd, fan_params}
 use Rattle.wk_table_rules.specs.Stored.{history_of, page_of_row}
-use Rattle.wk_table_rules.specs.GoodStore.{IsGood, is_good_job, job_bound, has_good_params}
+use Rattle.wk_table_rules.specs.GoodStore.{IsGood, is_good_job, job_bound, has_good_params, is_fan_params}
 use Rattle.wk_table_laws.specs.EachGood.{EachGood}
 use Rattle.wk_table_laws.proofs.FirstBad.{KeepsRules-from_good}
 use Rattle.wk_table_laws.proofs.JobRows.{is_good_kind, is_alone_good, may_follow, job-splits}
@@ -28,8 +28,9 @@ use Rattle.wk_state_rules.specs.Lives.{all_refreshed, opened}
 use Rattle.wk_state_laws.proofs.Fanned.{fans-all_queued}
 use Rattle.wk_state_laws.proofs.GoodOpened.{IsWellFormed-state_of, IsWellFormed-all_refreshed}
 use Rattle.wk_state_laws.proofs.GoodStores.{history-good, stored-good}
-use Rattle.wk_state_laws.proofs.TableJobs.{got}
-use Rattle.wk_state_laws.proofs.Kept.{IsKept, FanFits, few-pages, greatest-within, kept-jobs, next-all_queued, IsKept-reopened}
+use Rattle.wk_state_laws.proofs.TableJobs.{got, low_cursor}
+use Rattle.wk_state_laws.specs.Kept.{FanFits, IsKept}
+use Rattle.wk_state_laws.proofs.Kept.{few-pages, greatest-within, kept-jobs, next-all_queued, IsKept-reopened}
 
 -- ---- what a row stands for
 
@@ -241,7 +242,8 @@ module _ (tables : StoreTables) where
             let two = and_parts (is_good_kind tables row) (has_good_params row) parts.1 in
             let kind_good : (bytes_eq row.job_cmd fan_cmd && is_normal row.job_title) ≡ true = rw cmd at two.0 in
             let normal_one = (and_parts (bytes_eq row.job_cmd fan_cmd) (is_normal row.job_title) kind_good).1 in
-            let small : leb params.0.cursor max_pages ≡ true = rw (cmd, params.1.0) at two.1 in
+            let good_params : is_fan_params row.job_params ≡ true = rw cmd at two.1 in
+            let small : leb params.0.cursor max_pages ≡ true = sym (ap low_cursor params.1.0) ∙ good_params in
             let low = leb-true params.0.cursor max_pages small in
             rw is ((subst (λ t. is_normal t ≡ true) (sym title) normal_one, subst (λ n. n ≤ max_pages) (sym params.1.1) low), later)
         | neither none nothing ↦ rw nothing later
@@ -313,7 +315,7 @@ length-range : (a n : ℕ) → length (range_with_len a n) ≡ n
 length-range a zero = refl
 length-range a (suc n) = ap suc (length-range (a + 1) n)
 
-IsKept-state_of : (tables : StoreTables) (bound : ℕ) → job_bound tables.version ≡ bound → 1 ≤ bound → bound ≤ 2 ^ 63 → IsGood tables → IsKept (state_of tables)
+pub IsKept-state_of : (tables : StoreTables) (bound : ℕ) → job_bound tables.version ≡ bound → 1 ≤ bound → bound ≤ 2 ^ 63 → IsGood tables → IsKept (state_of tables)
 IsKept-state_of tables bound is positive small good =
     let keeps = KeepsRules-from_good tables good in
     let jobs = jobs-of-good tables bound is positive keeps.jobs in

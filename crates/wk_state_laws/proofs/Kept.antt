@@ -3,9 +3,9 @@ use Rattle.std.proofs.Common.{◌≡◌, ℕ, zero, suc, ◌+◌, ◌-◌, ◌�
 use Rattle.std.specs.Prelude.{All, IfSome, slice_get, option_map, is_some, is_none}
 use Rattle.std.specs.List.{AllByRecursion, list_any, last_or}
 use Rattle.std.specs.Ordering.{is_lt}
-use Rattle.std.proofs.lemmas.Bool.{cases_Bool, cond_both, and_parts, and_from, or_parts, eqb-true, ltb-false}
+use Rattle.std.proofs.lemmas.Bool.{cases_Bool, cond_both, and_parts, or_parts, eqb-true, ltb-false}
 use Rattle.std.proofs.lemmas.List.{length-append}
-use Rattle.std.proofs.lemmas.List.Elements.{recursion_from_All}
+use Rattle.std.proofs.lemmas.List.Elements.{All-weaker, recursion_from_All}
 use Rattle.wk_text_rules.specs.Titles.{PageTitle, title_eq, title_cmp, is_virtual, is_normal, is_page_title}
 use Rattle.wk_page_rules.specs.History.{History, Page, page_number, page_exists, text_bytes, can_save, page_to_save}
 use Rattle.wk_page_rules.specs.Kept.{kept}
@@ -29,8 +29,7 @@ use Rattle.wk_job_laws.proofs.FanOrder.{IsInOrder-saved, IsInOrder-served}
 use Rattle.wk_row_rules.specs.PageRows.{PageRows, Member, no_rows}
 use Rattle.wk_view_laws.specs.Titles.{IsPageTitle, IsCategoryTitle, IsInTitleOrder, RowsAreInOrder, RowsHavePageTitles}
 use Rattle.wk_view_laws.proofs.OrderLemmas.{order-rows, pages-rows}
-use Rattle.wk_row_laws.specs.NormalTitles.{RowsHaveNormalTitles}
-use Rattle.wk_row_laws.proofs.NormalRows.{normal-rows}
+use Rattle.wk_row_laws.proofs.NormalRows.{normal-page, page-title}
 use Rattle.wk_view_rules.specs.Rows.{rows}
 use Rattle.wk_state_rules.specs.States.{State, no_state, title_at, world_of}
 use Rattle.wk_state_rules.specs.Events.{Event, Save, Claim, Done, Back, Fan, stored_with, with_saved, with_refreshed, with_jobs, step_by}
@@ -38,7 +37,8 @@ use Rattle.wk_state_rules.specs.Lives.{reopened}
 use Rattle.wk_state_rules.specs.Tables.{tables_of, page_row}
 use Rattle.wk_state_rules.specs.Verdicts.{journal_use, verdict_in}
 use Rattle.wk_state_laws.specs.WellFormed.{IsWellFormed}
-use Rattle.wk_state_laws.specs.Reached.{IsWithinFull, IsMade, by_save, by_claim, by_finish, by_give_back, by_fan}
+use Rattle.wk_wiki_rules.specs.Calls.{IsMade, by_save, by_claim, by_finish, by_give_back, by_fan}
+use Rattle.wk_state_laws.specs.Reached.{IsWithinFull}
 use Rattle.wk_state_laws.proofs.SavedHistory.{Stands}
 use Rattle.wk_state_laws.proofs.Sound.{given}
 use Rattle.wk_state_laws.proofs.Refreshed.{done-by}
@@ -46,24 +46,10 @@ use Rattle.wk_state_laws.proofs.Fanned.{fans-queued, fans-all_queued}
 use Rattle.wk_state_laws.proofs.Served.{found, uses, users-is}
 use Rattle.wk_state_laws.proofs.FanRuns.{found-few}
 use Rattle.wk_state_laws.proofs.Formed.{Within, users-within, placed-in, IsWellFormed-none, IsWellFormed-step, IsWellFormed-reopened}
-use Rattle.wk_state_laws.proofs.TableLinks.{AreGoodLinks, AreGoodLinks-none, links-good, categories-good, redirects-good}
+use Rattle.wk_state_laws.specs.Kept.{AreGoodRows, FanFits, IsKept, history_tables}
+use Rattle.wk_state_laws.proofs.TableLinks.{AreGoodRows-none, links-good, categories-good, redirects-good}
 use Rattle.wk_state_laws.proofs.TableJobs.{jobs-good}
-use Rattle.wk_state_laws.proofs.TableHistory.{length-rows, bare_tables, saved-old, saved-new}
-
-abbrev pub FanFits : ℕ → FanEntry → Type 0
-FanFits pages fan = (is_normal fan.title ≡ true) × (fan.cursor ≤ pages)
-
-pub record IsKept (state : State) : Type 0 where
-  pub formed : IsWellFormed state
-  -- the revisions and the pages are such as good tables have
-  pub history : KeepsRules (bare_tables state.history)
-  pub links : AllByRecursion AreGoodLinks state.stored
-  pub numbered : IsNumbered state.jobs
-  pub one_page : IsOneAPage state.jobs
-  pub one_title : IsOneATitle state.jobs
-  pub in_order : IsInOrder state.jobs
-  pub next : state.jobs.next ≤ 2 ^ 63
-  pub fans : AllByRecursion (FanFits max_pages) state.jobs.fans
+use Rattle.wk_state_laws.proofs.TableHistory.{length-rows, saved-old, saved-new}
 
 -- ---- the tables
 
@@ -80,9 +66,9 @@ few-after before (row ∷ rows) few good =
     leb-true : (a b : ℕ) → leb a b ≡ true → a ≤ b
     leb-true a b at = grind arith
 
-pub few-pages : (h : History) → KeepsRules (bare_tables h) → length h.pages ≤ max_pages
+pub few-pages : (h : History) → KeepsRules (history_tables h) → length h.pages ≤ max_pages
 few-pages h keeps =
-    let few = few-after [] (bare_tables h).pages (omega arith) keeps.ids in
+    let few = few-after [] (history_tables h).pages (omega arith) keeps.ids in
     let same = length-rows (page_row h) 1 h.pages in
     omega (arith, few, same)
 
@@ -168,17 +154,10 @@ module _ {X : Type 0} (title_of : X → PageTitle) where
     in-order xs (λ i j d lt within. pairs (suc i) (suc j) d (omega (arith, lt)) (omega (arith, within))),
   )
 
-real-of : (title : PageTitle) → is_normal title ≡ true → IsPageTitle title → is_page_title title ≡ true
-real-of title normal_one page = and_from (is_normal title) (not (is_virtual title)) normal_one (ap not page.real)
-
-all-real : (titles : List PageTitle) → AllByRecursion (λ title. is_normal title ≡ true) titles → AllByRecursion IsPageTitle titles → AllByRecursion (λ title. is_page_title title ≡ true) titles
-all-real [] normals pages = tt
-all-real (title ∷ titles) normals pages = (real-of title normals.0 pages.0, all-real titles normals.1 pages.1)
-
-titles-good : (titles : List PageTitle) → All (λ title. is_normal title ≡ true) titles → All IsPageTitle titles → IsInTitleOrder (λ title. title) titles → EachGood is_next_title titles
-titles-good titles normals pages order =
+titles-good : (titles : List PageTitle) → All IsPageTitle titles → IsInTitleOrder (λ title. title) titles → EachGood is_next_title titles
+titles-good titles pages order =
     EachGood-from_passes (λ (a b : PageTitle). is_lt (title_cmp a b)) is_page_title is_next_title (λ earlier title. refl) titles (record {
-      alone = all-real titles (recursion_from_All (λ title. is_normal title ≡ true) titles normals) (recursion_from_All IsPageTitle titles pages);
+      alone = recursion_from_All (λ title. is_page_title title ≡ true) titles (All-weaker IsPageTitle (λ title. is_page_title title ≡ true) page-title titles pages);
       paired = in-order (λ (title : PageTitle). title) titles order;
     })
 
@@ -189,13 +168,13 @@ category-same title is = ap (λ ns. let t : PageTitle = record { ns = ns; key = 
 abbrev category_of : Member → PageTitle
 category_of member = category_title member.category.key
 
-members-passes : (members : List Member) → AllByRecursion (λ (m : Member). is_normal m.category ≡ true) members → AllByRecursion (λ (m : Member). IsCategoryTitle m.category) members → Pairs (before (λ (m : Member). m.category)) members
+members-passes : (members : List Member) → AllByRecursion (λ (m : Member). IsCategoryTitle m.category) members → Pairs (before (λ (m : Member). m.category)) members
     → AllByRecursion (λ (m : Member). is_normal (category_of m) ≡ true) members × (Pairs (before category_of) members × AllByRecursion (λ (m : Member). m.category.ns ≡ pos 14) members)
-members-passes [] normals titles order = (tt, (tt, tt))
-members-passes (m ∷ members) normals titles order =
-    let later = members-passes members normals.1 titles.1 order.1 in
+members-passes [] titles order = (tt, (tt, tt))
+members-passes (m ∷ members) titles order =
+    let later = members-passes members titles.1 order.1 in
     let is = category-same m.category titles.0.1 in (
-      (subst (λ t. is_normal t ≡ true) (sym is) normals.0, later.0),
+      (subst (λ t. is_normal t ≡ true) (sym is) (normal-page m.category titles.0.0), later.0),
       ((ahead members titles.1 order.0, later.1.0), (titles.0.1, later.1.1)),
     )
   where
@@ -208,22 +187,21 @@ members-passes (m ∷ members) normals titles order =
       ahead rest each.1 less.1,
     )
 
-redirect-real : (o : Option PageTitle) → IfSome o (λ title. is_normal title ≡ true) → IfSome o IsPageTitle → IfSome o (λ title. is_page_title title ≡ true)
-redirect-real None normal_one page = tt
-redirect-real (Some title) normal_one page = real-of title normal_one page
+redirect-real : (o : Option PageTitle) → IfSome o IsPageTitle → IfSome o (λ title. is_page_title title ≡ true)
+redirect-real None page = tt
+redirect-real (Some title) page = page-title title page
 
-rows-good : (r : PageRows) → RowsHaveNormalTitles r → RowsAreInOrder r → RowsHavePageTitles r → AreGoodLinks r
-rows-good r normals order titles =
-    let members = members-passes r.members (recursion_from_All (λ (m : Member). is_normal m.category ≡ true) r.members normals.members)
-    (recursion_from_All (λ (m : Member). IsCategoryTitle m.category) r.members titles.members) (in-order (λ (m : Member). m.category) r.members order.members) in
+rows-good : (r : PageRows) → RowsAreInOrder r → RowsHavePageTitles r → AreGoodRows r
+rows-good r order titles =
+    let members = members-passes r.members (recursion_from_All (λ (m : Member). IsCategoryTitle m.category) r.members titles.members) (in-order (λ (m : Member). m.category) r.members order.members) in
     record {
-      templates = titles-good r.templates normals.templates titles.templates order.templates;
-      exists = titles-good r.exists normals.exists titles.exists order.exists;
-      links = titles-good r.links normals.links titles.links order.links;
+      templates = titles-good r.templates titles.templates order.templates;
+      exists = titles-good r.exists titles.exists order.exists;
+      links = titles-good r.links titles.links order.links;
       members = EachGood-from_passes (λ (a b : Member). is_lt (title_cmp (category_of a) (category_of b))) (λ m. is_normal (category_of m)) is_next_member (λ earlier m. refl) r.members
           (record { alone = members.0; paired = members.1.0 });
       categories = members.1.1;
-      redirect = redirect-real r.redirect normals.redirect titles.redirect;
+      redirect = redirect-real r.redirect titles.redirect;
     }
 
 set-each : {X : Type 0} (P : X → Type 0) (xs : List X) (place : ℕ) (x : X) → P x → AllByRecursion P xs → AllByRecursion P (set xs place x)
@@ -236,8 +214,8 @@ IsKept-refreshed state page keeps formed =
     let title = title_at state.history page in record {
       formed = formed;
       history = keeps.history;
-      links = set-each AreGoodLinks state.stored (page - 1) (rows (world_of state) title)
-          (rows-good (rows (world_of state) title) (normal-rows (world_of state) title) (order-rows (world_of state) title) (pages-rows (world_of state) title)) keeps.links;
+      links = set-each AreGoodRows state.stored (page - 1) (rows (world_of state) title)
+          (rows-good (rows (world_of state) title) (order-rows (world_of state) title) (pages-rows (world_of state) title)) keeps.links;
       numbered = IsNumbered-dropped state.jobs page keeps.numbered;
       one_page = IsOneAPage-dropped state.jobs page keeps.one_page;
       one_title = keeps.one_title;
@@ -315,21 +293,21 @@ pub record LeavesRoom (state : State) (title : PageTitle) (text : Option (List �
   pub pages : list_any (λ (page : Page). title_eq page.title title) state.history.pages ≡ false → length state.history.pages + 1 ≤ max_pages
   pub room : text_bytes state.history + body_bytes text ≤ max_texts
 
-with_room-accept : (full : Bool) (v : Verdict) (title : PageTitle) (text : Option (List ℕ)) → with_room full v ≡ accept title text → (full ≡ false) × (v ≡ accept title text)
+pub with_room-accept : (full : Bool) (v : Verdict) (title : PageTitle) (text : Option (List ℕ)) → with_room full v ≡ accept title text → (full ≡ false) × (v ≡ accept title text)
 with_room-accept full (refuse r) title text is = absurd (let e : refuse r ≡ accept title text = is in cc)
 with_room-accept full (no_change t) title text is = absurd (let e : no_change t ≡ accept title text = is in cc)
 with_room-accept true (accept t x) title text is = absurd (let e : refuse journal_full ≡ accept title text = is in cc)
 with_room-accept false (accept t x) title text is = (refl, is)
 
-not-refused : (b : Bool) (r : Refusal) (rest : Verdict) (title : PageTitle) (text : Option (List ℕ)) → cond b (refuse r) rest ≡ accept title text → (b ≡ false) × (rest ≡ accept title text)
+pub not-refused : (b : Bool) (r : Refusal) (rest : Verdict) (title : PageTitle) (text : Option (List ℕ)) → cond b (refuse r) rest ≡ accept title text → (b ≡ false) × (rest ≡ accept title text)
 not-refused true r rest title text is = absurd (let e : refuse r ≡ accept title text = is in cc)
 not-refused false r rest title text is = (refl, is)
 
-changed : (b : Bool) (t : PageTitle) (rest : Verdict) (title : PageTitle) (text : Option (List ℕ)) → cond b (no_change t) rest ≡ accept title text → rest ≡ accept title text
+pub changed : (b : Bool) (t : PageTitle) (rest : Verdict) (title : PageTitle) (text : Option (List ℕ)) → cond b (no_change t) rest ≡ accept title text → rest ≡ accept title text
 changed true t rest title text is = absurd (let e : no_change t ≡ accept title text = is in cc)
 changed false t rest title text is = is
 
-within-limits : (o : Option Limit) (t title : PageTitle) (x text : Option (List ℕ)) → (elim o as (λ p. Verdict) [ None ↦ accept t x | Some limit ↦ refuse (wiki_full limit) ]) ≡ accept title text → (o ≡ None) × ((t ≡ title) × (x ≡ text))
+pub within-limits : (o : Option Limit) (t title : PageTitle) (x text : Option (List ℕ)) → (elim o as (λ p. Verdict) [ None ↦ accept t x | Some limit ↦ refuse (wiki_full limit) ]) ≡ accept title text → (o ≡ None) × ((t ≡ title) × (x ≡ text))
 within-limits None t title x text is = let e : accept t x ≡ accept title text = is in (refl, (cc, cc))
 within-limits (Some limit) t title x text is = absurd (let e : refuse (wiki_full limit) ≡ accept title text = is in cc)
 
@@ -423,11 +401,11 @@ IsKept-saved state title text moment real leaves keeps formed =
     record {
       formed = formed;
       history = elim (cases_Bool (list_any (λ (p : Page). title_eq p.title title) h.pages)) [
-        | inl there ↦ saved-old h title text moment keeps.history stand real leaves.short leaves.room there
-        | inr none ↦ saved-new h title text moment keeps.history stand real leaves.short leaves.room none (leaves.pages none)
+        | inl there ↦ saved-old h title text moment stand keeps.history real leaves.short leaves.room there
+        | inr none ↦ saved-new h title text moment stand keeps.history real leaves.short leaves.room none (leaves.pages none)
       ];
-      links = cond_both (is_some (page_number h title)) state.stored (state.stored ++ no_rows ∷ []) (AllByRecursion AreGoodLinks) (λ old. keeps.links)
-          (λ new. each-append AreGoodLinks state.stored (no_rows ∷ []) keeps.links (AreGoodLinks-none, tt));
+      links = cond_both (is_some (page_number h title)) state.stored (state.stored ++ no_rows ∷ []) (AllByRecursion AreGoodRows) (λ old. keeps.links)
+          (λ new. each-append AreGoodRows state.stored (no_rows ∷ []) keeps.links (AreGoodRows-none, tt));
       numbered = IsNumbered-saved stored state.jobs page title reach keeps.numbered;
       one_page = IsOneAPage-saved stored state.jobs page title reach keeps.one_page;
       one_title = IsOneATitle-saved stored state.jobs page title reach keeps.one_title;
@@ -448,7 +426,7 @@ IsKept-step most served state next journal (Save title text moment) full (by_sav
       subst IsKept same (IsKept-saved state title text moment real (accepted most full state journal edit title text is) keeps formed)
   | inr cannot ↦ absurd (let e : None ≡ Some next = rw cannot at done in cc)
 ]
-IsKept-step most served state next journal Claim full by_claim done keeps =
+IsKept-step most served state next journal Claim full (by_claim free) done keeps =
     given (λ (s : State). IsWellFormed s → IsKept s) (λ page. with_jobs state (claimed_by state.jobs (journal + 1))) (first_queued state.jobs) next done
     (λ page formed. IsKept-claimed state (journal + 1) keeps formed) (IsWellFormed-step served state next journal Claim done keeps.formed)
 IsKept-step most served state next journal (Done ticket) full (by_finish page holds) done keeps =

@@ -21,10 +21,9 @@ use Rattle.wk_view_laws.proofs.PlanLemmas.{title_eq-same}
 use Rattle.wk_state_rules.specs.States.{State, title_at}
 use Rattle.wk_state_rules.specs.Tables.{tables_of, state_of, page_row, revision_row, link_rows, rows_of_pages}
 use Rattle.wk_state_rules.specs.Lives.{reopened, opened}
+use Rattle.wk_state_laws.specs.Kept.{AreGoodRows, FanFits, IsKept}
 use Rattle.wk_state_laws.proofs.Formed.{Within}
-use Rattle.wk_state_laws.proofs.TableLinks.{AreGoodLinks}
 use Rattle.wk_state_laws.proofs.TableJobs.{at-map, page-at}
-use Rattle.wk_state_laws.proofs.Kept.{IsKept, FanFits}
 
 -- ---- revisions and pages
 
@@ -111,7 +110,7 @@ module _ (state : State) where
   member-back number (m ∷ members) all =
       ap₂ (λ x xs. x ∷ xs) (ap (λ ns. let one : Member = record { category = record { ns = ns; key = m.category.key }; sortkey = m.sortkey; prefix = m.prefix } in one) (sym all.0)) (member-back number members all.1)
 
-  members-back : (number : ℕ) (links : PageRows) → 1 ≤ number → slice_get state.stored (number - 1) ≡ Some links → AreGoodLinks links → map member_of (filter (λ (row : CategoryColumns). eqb row.cl_from number) (tables_of state).categorylinks) ≡ links.members
+  members-back : (number : ℕ) (links : PageRows) → 1 ≤ number → slice_get state.stored (number - 1) ≡ Some links → AreGoodRows links → map member_of (filter (λ (row : CategoryColumns). eqb row.cl_from number) (tables_of state).categorylinks) ≡ links.members
   members-back number links low there good =
       ap (map member_of)
       (of-page (λ (row : CategoryColumns). row.cl_from) (λ page l. map (category_row page) l.members) (λ n l. own-row (λ (row : CategoryColumns). row.cl_from) (category_row n) n (λ m. refl) l.members) 1 number state.stored links low there)
@@ -128,7 +127,7 @@ module _ (state : State) where
       one None = refl
       one (Some t) = refl
 
-  links-back : (number : ℕ) (links : PageRows) → 1 ≤ number → slice_get state.stored (number - 1) ≡ Some links → AreGoodLinks links → rows_of_page (tables_of state) number ≡ links
+  links-back : (number : ℕ) (links : PageRows) → 1 ≤ number → slice_get state.stored (number - 1) ≡ Some links → AreGoodRows links → rows_of_page (tables_of state) number ≡ links
   links-back number links low there good = λ i. record {
     templates = titles-back (λ l. l.templates) number links low there i;
     exists = titles-back (λ l. l.exists) number links low there i;
@@ -138,7 +137,7 @@ module _ (state : State) where
   }
 
   stored-from : (a : ℕ) (pages : List Page) (stored : List PageRows) → 1 ≤ a → length stored ≡ length pages → ((place : ℕ) (links : PageRows) → slice_get stored place ≡ Some links → slice_get state.stored (a + place - 1) ≡ Some links)
-      → AllByRecursion AreGoodLinks stored → map (λ (row : PageColumns). rows_of_page (tables_of state) row.page_id) (map (page_row state.history) (enumerate_from a pages)) ≡ stored
+      → AllByRecursion AreGoodRows stored → map (λ (row : PageColumns). rows_of_page (tables_of state) row.page_id) (map (page_row state.history) (enumerate_from a pages)) ≡ stored
   stored-from a [] [] low same at good = refl
   stored-from a [] (links ∷ stored) low same at good = absurd (omega (arith, same))
   stored-from a (page ∷ pages) [] low same at good = absurd (omega (arith, same))

@@ -1,5 +1,5 @@
 -- The job table of a state is good where its jobs are such as calls with full limits make.
-use Rattle.std.proofs.Common.{◌≡◌, ◌≢◌, ℕ, zero, suc, ◌+◌, ◌-◌, ◌≤◌, ◌<◌, ◌^◌, Bool, true, false, cond, eqb, ltb, leb, not, ◌&&◌, List, [], ◌∷◌, ◌++◌, length, map, fold, Some, None, refl, sym, ap, ◌∙◌, inl, inr, subst, arith}
+use Rattle.std.proofs.Common.{◌≡◌, ◌≢◌, ℕ, zero, suc, ◌+◌, ◌-◌, ◌≤◌, ◌<◌, ◌^◌, Bool, true, false, cond, eqb, ltb, leb, not, ◌&&◌, List, [], ◌∷◌, ◌++◌, length, map, fold, Option, Some, None, refl, sym, ap, ◌∙◌, inl, inr, subst, arith}
 use Rattle.std.specs.Prelude.{slice_get, bytes_eq, nat_eq}
 use Rattle.std.specs.List.{AllByRecursion, IsDistinct, list_any, enumerate_from}
 use Rattle.std.proofs.lemmas.Bool.{cases_Bool, and_parts, and_from, or_left, or_right, eqb-false, ne_eqb, ltb-true, ltb-false, lt-ltb, le-leb}
@@ -8,7 +8,7 @@ use Rattle.std.proofs.lemmas.List.Sorted.{All-permutation}
 use Rattle.wk_text_rules.specs.Titles.{title_eq, is_normal}
 use Rattle.wk_page_rules.specs.History.{History, Page}
 use Rattle.wk_table_rules.specs.Rows.{StoreTables, PageColumns, JobColumns}
-use Rattle.wk_table_rules.specs.JobTable.{refresh_cmd, fan_cmd, refresh_row, fan_row}
+use Rattle.wk_table_rules.specs.JobTable.{FanParams, refresh_cmd, fan_cmd, refresh_row, fan_row}
 use Rattle.wk_page_rules.specs.Verdict.{max_pages}
 use Rattle.wk_table_rules.specs.GoodStore.{is_good_job, has_good_params}
 use Rattle.wk_table_laws.specs.EachGood.{EachGood}
@@ -23,7 +23,12 @@ use Rattle.wk_view_laws.proofs.PlanLemmas.{title_eq-same}
 use Rattle.wk_state_rules.specs.States.{State, title_at}
 use Rattle.wk_state_rules.specs.Tables.{tables_of, page_row}
 use Rattle.wk_state_laws.proofs.SavedHistory.{apart-eq, eq-apart}
+use Rattle.wk_state_laws.specs.Kept.{FanFits}
 use Rattle.wk_state_laws.proofs.Formed.{Within}
+
+-- the params were read, and their cursor is low
+abbrev pub low_cursor : Option FanParams → Bool
+low_cursor read = elim read [ None ↦ false | Some params ↦ leb params.cursor max_pages ]
 
 -- ---- rows that stand in order
 
@@ -122,9 +127,6 @@ titles-apart h m n distinct first second other same =
     other (omega (arith, first.0, second.0, place))
 
 -- ---- the rows of the jobs
-
-abbrev FanFits : ℕ → FanEntry → Type 0
-FanFits pages fan = (is_normal fan.title ≡ true) × (fan.cursor ≤ pages)
 
 abbrev row_of_fan : FanEntry → JobColumns
 row_of_fan job = fan_row job.number job.title (record { reach = job.reach; cursor = job.cursor })
@@ -233,7 +235,7 @@ module _ (state : State) (bound : state.jobs.next ≤ 2 ^ 63) where
       let low = fits.1 in
       let read = fan_params-params_text (record { reach = fan.reach; cursor = fan.cursor }) (omega (arith, low)) in
       let small : leb fan.cursor max_pages ≡ true = le-leb fan.cursor max_pages low in
-      let params : has_good_params (row_of_fan fan) ≡ true = rw read small in
+      let params : has_good_params (row_of_fan fan) ≡ true = ap low_cursor read ∙ small in
       and_from (leb 1 fan.number && ltb fan.number (2 ^ 63)) (is_normal fan.title && has_good_params (row_of_fan fan)) (number-good fan.number bounded)
       (and_from (is_normal fan.title) (has_good_params (row_of_fan fan)) fits.0 params)
 

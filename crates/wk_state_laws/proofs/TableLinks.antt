@@ -17,18 +17,10 @@ use Rattle.wk_table_laws.proofs.Pairs.{each-append, each-weaker, Cross, Pairs-ap
 use Rattle.wk_table_laws.proofs.Links.{row_lt-lower, GoodAfter-map, link-good, category-good, redirect-good, own-page}
 use Rattle.wk_state_rules.specs.States.{State, title_at}
 use Rattle.wk_state_rules.specs.Tables.{tables_of, page_row, link_rows, rows_of_pages}
+use Rattle.wk_state_laws.specs.Kept.{AreGoodRows}
 
--- the link rows of a page are such as good tables have
-pub record AreGoodLinks (stored : PageRows) : Type 0 where
-  pub templates : EachGood is_next_title stored.templates
-  pub exists : EachGood is_next_title stored.exists
-  pub links : EachGood is_next_title stored.links
-  pub members : EachGood is_next_member stored.members
-  pub categories : AllByRecursion (λ (m : Member). m.category.ns ≡ pos 14) stored.members
-  pub redirect : IfSome stored.redirect (λ title. is_page_title title ≡ true)
-
-pub AreGoodLinks-none : AreGoodLinks no_rows
-AreGoodLinks-none = record { templates = tt; exists = tt; links = tt; members = tt; categories = tt; redirect = tt }
+pub AreGoodRows-none : AreGoodRows no_rows
+AreGoodRows-none = record { templates = tt; exists = tt; links = tt; members = tt; categories = tt; redirect = tt }
 
 -- ---- the page table
 
@@ -118,7 +110,7 @@ module _ (state : State) where
       subst (λ ns. EachGood (is_good_link tables) (map (link_row number ns) titles)) (namespace-is state number low)
       (GoodAfter-map (link_row number (namespace_of tables number)) is_next_title (is_good_link tables) (link-good tables number there) [] titles good)
 
-  links-from : (titles : PageRows → List PageTitle) → ((links : PageRows) → AreGoodLinks links → EachGood is_next_title (titles links)) → (a : ℕ) (stored : List PageRows) → 1 ≤ a → a + length stored ≤ pages + 1 → AllByRecursion AreGoodLinks stored
+  links-from : (titles : PageRows → List PageTitle) → ((links : PageRows) → AreGoodRows links → EachGood is_next_title (titles links)) → (a : ℕ) (stored : List PageRows) → 1 ≤ a → a + length stored ≤ pages + 1 → AllByRecursion AreGoodRows stored
       → Good (is_good_link tables) (λ (row : LinkColumns). row.from) (link_rows state.history titles) a stored
   unfolding Good
   links-from titles each a [] low high good = tt
@@ -130,7 +122,7 @@ module _ (state : State) where
     links-from titles each (a + 1) stored (omega (arith, low)) (omega (arith, high)) good.1,
   )
 
-  pub links-good : (titles : PageRows → List PageTitle) → ((links : PageRows) → AreGoodLinks links → EachGood is_next_title (titles links)) → length state.stored ≡ pages → AllByRecursion AreGoodLinks state.stored
+  pub links-good : (titles : PageRows → List PageTitle) → ((links : PageRows) → AreGoodRows links → EachGood is_next_title (titles links)) → length state.stored ≡ pages → AllByRecursion AreGoodRows state.stored
       → EachGood (is_good_link tables) (rows_of_pages (link_rows state.history titles) state.stored)
   links-good titles each same good =
       each-page (λ (earlier row : LinkColumns). row_lt earlier.from earlier.target row.from row.target)
@@ -139,7 +131,7 @@ module _ (state : State) where
       (λ row. row.from) (λ earlier row. row_lt-lower earlier.from earlier.target row.from row.target)
       (link_rows state.history titles) state.stored (links-from titles each 1 state.stored (omega arith) (omega (arith, same)) good)
 
-  categories-from : (a : ℕ) (stored : List PageRows) → 1 ≤ a → a + length stored ≤ pages + 1 → AllByRecursion AreGoodLinks stored
+  categories-from : (a : ℕ) (stored : List PageRows) → 1 ≤ a → a + length stored ≤ pages + 1 → AllByRecursion AreGoodRows stored
       → Good (is_good_category tables) (λ (row : CategoryColumns). row.cl_from) (λ page links. map (category_row page) links.members) a stored
   unfolding Good
   categories-from a [] low high good = tt
@@ -152,7 +144,7 @@ module _ (state : State) where
         categories-from (a + 1) stored (omega (arith, low)) (omega (arith, high)) good.1,
       )
 
-  pub categories-good : length state.stored ≡ pages → AllByRecursion AreGoodLinks state.stored → EachGood (is_good_category tables) (tables_of state).categorylinks
+  pub categories-good : length state.stored ≡ pages → AllByRecursion AreGoodRows state.stored → EachGood (is_good_category tables) (tables_of state).categorylinks
   categories-good same good =
       each-page (λ (earlier row : CategoryColumns). row_lt earlier.cl_from (category_title earlier.cl_to) row.cl_from (category_title row.cl_to))
       (λ row. has_page tables row.cl_from && is_normal (category_title row.cl_to))
@@ -160,7 +152,7 @@ module _ (state : State) where
       (λ row. row.cl_from) (λ earlier row. row_lt-lower earlier.cl_from (category_title earlier.cl_to) row.cl_from (category_title row.cl_to))
       (λ page links. map (category_row page) links.members) state.stored (categories-from 1 state.stored (omega arith) (omega (arith, same)) good)
 
-  redirects-from : (a : ℕ) (stored : List PageRows) → 1 ≤ a → a + length stored ≤ pages + 1 → AllByRecursion AreGoodLinks stored
+  redirects-from : (a : ℕ) (stored : List PageRows) → 1 ≤ a → a + length stored ≤ pages + 1 → AllByRecursion AreGoodRows stored
       → Good (is_good_redirect tables) (λ (row : RedirectColumns). row.rd_from) (λ page links. map (redirect_row page) (option_to_list links.redirect)) a stored
   unfolding Good
   redirects-from a [] low high good = tt
@@ -173,7 +165,7 @@ module _ (state : State) where
         redirects-from (a + 1) stored (omega (arith, low)) (omega (arith, high)) good.1,
       )
 
-  pub redirects-good : length state.stored ≡ pages → AllByRecursion AreGoodLinks state.stored → EachGood (is_good_redirect tables) (tables_of state).redirects
+  pub redirects-good : length state.stored ≡ pages → AllByRecursion AreGoodRows state.stored → EachGood (is_good_redirect tables) (tables_of state).redirects
   redirects-good same good =
       each-page (λ (earlier row : RedirectColumns). ltb earlier.rd_from row.rd_from)
       (λ row. has_page tables row.rd_from && is_page_title row.rd_title)

@@ -86,7 +86,7 @@ fits-applied {tables} keeps (saves_page {revision} {old} {page} {change} fit sta
 fits-applied {tables} keeps (adds_page {revision} {page} {change} fit next later) =
     and_from _ _ (revision-fits tables revision page fit keeps)
     (and_from _ _ (next-fits tables page next keeps) (fits-applied (KeepsRules-next tables revision page fit next keeps) later))
-fits-applied {tables} keeps (sets_rows {page} {links} fit later) = and_from _ _ fit.there (fits-applied (KeepsRules-set_rows tables page links fit keeps) later)
+fits-applied {tables} keeps (sets_rows {page} {rows} fit later) = and_from _ _ fit.there (fits-applied (KeepsRules-set_rows tables page rows fit keeps) later)
 fits-applied {tables} keeps (adds_job {job} good later) = and_from _ _ (job-fits tables job good) (fits-applied (KeepsRules-add_job tables keeps job good) later)
 fits-applied {tables} keeps (sets_job {old} {job} fit later) =
     and_from _ _ (find-passes (λ row. eqb row.job_id job.job_id) tables.jobs old fit.there).1 (fits-applied (KeepsRules-set_job tables keeps old job fit) later)

@@ -13,7 +13,7 @@ use Rattle.wk_row_rules.specs.PageRows.{Member, PageRows}
 use Rattle.wk_table_rules.specs.Changes.{has_page, namespace_of, link_row, category_row, redirect_row, with_page_rows, with_rows_of}
 use Rattle.wk_table_rules.specs.GoodStore.{row_lt, is_good_link, is_good_category, is_good_redirect}
 use Rattle.wk_table_laws.specs.EachGood.{GoodAfter, EachGood, KeepsRules}
-use Rattle.wk_table_laws.specs.Premises.{is_next_title, is_next_member, FitLinks}
+use Rattle.wk_table_laws.specs.Premises.{is_next_title, is_next_member, FitRows}
 use Rattle.wk_table_laws.proofs.Pairs.{EachGood-with_rows_of}
 
 -- ---- the order of rows
@@ -122,7 +122,7 @@ module _ (tables : StoreTables) (page : ℕ) (there : has_page tables page ≡ t
       (own-page (λ row. row.rd_from) (redirect_row page) (λ title. refl) (option_to_list redirect))
 
 -- the link rows of a page that is there are replaced
-pub KeepsRules-set_rows : (tables : StoreTables) (page : ℕ) (links : PageRows) → FitLinks tables page links → KeepsRules tables → KeepsRules (with_page_rows tables page links)
+pub KeepsRules-set_rows : (tables : StoreTables) (page : ℕ) (links : PageRows) → FitRows tables page links → KeepsRules tables → KeepsRules (with_page_rows tables page links)
 KeepsRules-set_rows tables page links fit keeps = record {
   ids = keeps.ids;
   titles = keeps.titles;

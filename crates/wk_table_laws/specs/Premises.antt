@@ -1,5 +1,5 @@
 -- What an edit must bring so that good tables stay good.
-use Rattle.std.specs.Prelude.{◌≡◌, ℕ, Bool, true, false, ◌&&◌, ◌||◌, ◌==◌, not, ◌+◌, ◌≤◌, List, [], ◌∷◌, ◌++◌, length, find, Some, IfSome, if◌then◌else◌}
+use Rattle.std.specs.Prelude.{◌≡◌, ℕ, Bool, true, ◌&&◌, ◌||◌, ◌==◌, not, ◌+◌, ◌≤◌, List, [], ◌∷◌, ◌++◌, length, find, Some, IfSome, if◌then◌else◌}
 use Rattle.std.specs.List.{list_all}
 use Rattle.std.specs.Ordering.{is_lt}
 use Rattle.wk_text_rules.specs.Titles.{PageTitle, title_cmp, is_normal, is_page_title}
@@ -21,7 +21,7 @@ is_next_member before member =
     && list_all (λ earlier. is_lt (title_cmp (category_title earlier.category.key) (category_title member.category.key))) before
 
 -- the link rows of a page that is there: each list is in order and names no title twice
-pub record FitLinks (tables : StoreTables) (page : ℕ) (new : PageRows) : Type 0 where
+pub record FitRows (tables : StoreTables) (page : ℕ) (new : PageRows) : Type 0 where
   pub there : has_page tables page ≡ true
   -- a store of version 1 has no redirect row
   pub version : tables.version ≡ 2
@@ -71,9 +71,9 @@ pub data FitChange : StoreTables → List TableEdit → Type 0 where
       → FitRevision tables revision page → IsNext tables page
       → FitChange (applied tables (add_revision revision ∷ set_page page ∷ [])) change
       → FitChange tables (add_revision revision ∷ set_page page ∷ change)
-  sets_rows : {tables : StoreTables} {page : ℕ} {links : PageRows} {change : List TableEdit}
-      → FitLinks tables page links → FitChange (edited tables (set_rows page links)) change
-      → FitChange tables (set_rows page links ∷ change)
+  sets_rows : {tables : StoreTables} {page : ℕ} {rows : PageRows} {change : List TableEdit}
+      → FitRows tables page rows → FitChange (edited tables (set_rows page rows)) change
+      → FitChange tables (set_rows page rows ∷ change)
   adds_job : {tables : StoreTables} {job : JobColumns} {change : List TableEdit}
       → is_good_job tables tables.jobs job ≡ true → FitChange (edited tables (add_job job)) change
       → FitChange tables (add_job job ∷ change)

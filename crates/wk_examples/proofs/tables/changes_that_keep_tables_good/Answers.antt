@@ -28,7 +28,7 @@ returns-clause-deletion c =
 pub returns-clause-refresh : goal.returns-clause-refresh
 unfolding computing
 returns-clause-refresh c =
-    sets_rows {page = 1} {links = record no_rows { templates = title_a ∷ title_t ∷ []; members = member (codes "Z") ∷ []; redirect = Some title_b }}
+    sets_rows {page = 1} {rows = record no_rows { templates = title_a ∷ title_t ∷ []; members = member (codes "Z") ∷ []; redirect = Some title_b }}
     (record { there = refl; version = refl; templates = (refl, (refl, tt)); exists = tt; links = tt; members = (refl, tt); redirect = refl })
     (drops_job refl nothing)
 

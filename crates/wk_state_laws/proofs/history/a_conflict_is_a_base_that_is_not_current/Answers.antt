@@ -1,4 +1,4 @@
-use Rattle.wk_job_rules.specs.Jobs.{left}
+use Rattle.wk_state_rules.specs.Verdicts.{journal_use}
 use Rattle.wk_state_laws.proofs.Conflicts.{judged-conflict, conflict-judged, verdict-conflict, conflict-verdict}
 use Rattle.wk_state_laws.proofs.history.a_conflict_is_a_base_that_is_not_current.Goals as goal
 
