@@ -1,7 +1,8 @@
 -- The newest revision of a page up to a number.
-use Rattle.std.proofs.Common.{◌≡◌, ℕ, zero, suc, ◌+◌, ◌-◌, ◌<◌, ◌≤◌, Bool, true, false, List, [], ◌∷◌, ◌++◌, length, get_or, min, refl, sym, ap, ◌∙◌, subst, inl, inr, eq-eqb, arith, length-append, if◌then◌else◌}
+use Rattle.std.proofs.Common.{◌≡◌, ℕ, zero, suc, ◌+◌, ◌-◌, ◌<◌, ◌≤◌, Bool, true, false, List, [], ◌∷◌, ◌++◌, length, get_or, min, refl, sym, ap, ◌∙◌, subst, inl, inr, replicate, eq-eqb, arith, length-append, if◌then◌else◌}
 use Rattle.std.proofs.Math.ListN.{get_or-append}
 use Rattle.std.proofs.Math.Seq.{get_or-append_seam}
+use Rattle.std.proofs.lemmas.List.{get_or-replicate, get_or_past, length-replicate}
 use Rattle.std.proofs.lemmas.Bool.{cases_Bool, cases_eq, cases_lt, true≢false}
 use Rattle.std.specs.Prelude.{◌==◌}
 use borrow.Author.Tests.{eqb-true}
@@ -272,3 +273,17 @@ module _ (pages : List ℕ) (links : List Link) (newest new : List ℕ) (page : 
         (λ same. let e : q ≡ page - 1 = omega (arith, same) in ap (λ n. get_or new n 0) e ∙ own)
         (others q);
   }
+
+-- ---- no revision yet
+
+-- pages without revisions
+pub chains_none : (count : ℕ) → AreChains [] [] (replicate count 0)
+chains_none count = record {
+  lengths = refl;
+  real = λ k l. absurd (omega (arith, l));
+  linked = λ k l. absurd (omega (arith, l));
+  ends = λ q. elim (cases_lt q count) [
+    | inl l ↦ get_or-replicate count q 0 0 l
+    | inr l ↦ get_or_past (replicate count 0) q 0 (omega (arith, l, length-replicate {A = ℕ} count 0))
+  ];
+}

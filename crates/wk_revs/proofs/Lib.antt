@@ -2,4 +2,5 @@ pub mod BlankEnds
 pub mod ChainLaws
 pub mod NewestLaws
 pub mod PageLaws
+pub mod RowLaws
 pub mod TitleLaws

@@ -1,5 +1,5 @@
 //! The revisions of each page, chained from the newest to the oldest.
-ghost use Rattle.std.specs.Prelude.{◌≡◌, ℕ, ◌+◌, ◌-◌, ◌<◌, ◌≤◌, ◌∷◌, [], ◌++◌, length, max, get_or, vec_len, vec_capacity, OnOk, OnErr};
+ghost use Rattle.std.specs.Prelude.{◌≡◌, ℕ, ◌+◌, ◌-◌, ◌<◌, ◌≤◌, ◌∷◌, [], ◌++◌, length, max, get_or, vec_len, vec_capacity, IfOk, OnOk, OnErr};
 ghost use Rattle.wk_revs.specs.Chains.{AreChains, IsAbove, IsOwn, no_link, newest_up_to};
 
 use std::alloc::Global;
@@ -152,6 +152,19 @@ impl Chains {
             newest: Vec::new(alloc),
             spare: 0,
         }
+    }
+
+    /// No revisions of so many pages, and no room.
+    #[tactic(auto, using(crate::proofs::ChainLaws::chains_none))]
+    pub fn of_pages(alloc: Global, count: usize) -> Result<Chains, Memory>
+        ensures { IfOk result (λ chains. chains ≡ record { pages = []; count = count; spare = 0 }) }
+    {
+        Ok(Chains {
+            pages: Vec::new(alloc),
+            links: Vec::new(alloc),
+            newest: vec![in alloc; 0; count]?,
+            spare: 0,
+        })
     }
 
     /// Makes room for this many revisions more than there are. Room that was there before stays.

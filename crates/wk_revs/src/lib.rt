@@ -4,6 +4,7 @@
 mod chains;
 mod edit;
 mod kept_text;
+mod load;
 mod pages;
 mod revisions;
 mod revs;

@@ -1,5 +1,5 @@
 //! The revisions and pages of a wiki.
-ghost use Rattle.std.specs.Prelude.{◌≡◌, ℕ, ◌+◌, ◌<◌, ◌≤◌, None, Some, true, length, IfOk, OnOk, OnErr};
+ghost use Rattle.std.specs.Prelude.{◌≡◌, ℕ, ◌+◌, ◌<◌, ◌≤◌, [], ◌∷◌, ◌++◌, None, Some, true, length, IfOk, OnOk, OnErr};
 ghost use Rattle.std.specs.Option.{option_map};
 ghost use Rattle.std.specs.Option.{option_copied};
 ghost use Rattle.wk_text_rules.specs.Titles.{is_page_title};
@@ -9,6 +9,7 @@ ghost use Rattle.wk_listing_rules.specs.Revisions.{count_existing, newest_below}
 ghost use Rattle.wk_state_rules.specs.States.{page_at};
 ghost use Rattle.wk_wiki_rules.specs.Entries.{revision_at};
 ghost use Rattle.wk_revs.specs.Edit.{edit_asked, most_held};
+ghost use Rattle.wk_revs.specs.Revs.{existing_in, of_pages, pages_of};
 ghost use Rattle.wk_revs.specs.Verdict.{CanAdd, IfAccept, verdict_of};
 
 use crate::chains::Chains;
@@ -76,6 +77,42 @@ impl Revs {
             existing: 0,
             spare: 0,
         }
+    }
+
+    /// These pages, of which so many exist, before any of their revisions, and no room.
+    pub(crate) fn of_pages(alloc: Global, pages: Pages, existing: usize) -> Result<Revs, Memory>
+        requires few { length pages.entries ≤ max_pages }
+        requires existing { existing ≡ existing_in pages.entries }
+        ensures { IfOk result (λ revs. revs ≡ record { history = of_pages (pages_of pages.entries); spare = 0 }) }
+    {
+        let chains = Chains::of_pages(alloc, pages.len())?;
+        Ok(Revs {
+            revisions: Vec::new(alloc),
+            pages,
+            chains,
+            texts: Some(0),
+            existing,
+            spare: 0,
+        })
+    }
+
+    /// Appends a revision that is among those of the pages already. Takes no memory.
+    pub(crate) fn append(&mut self, page: u32, parent: u64, moment: u64, text: Option<Text>)
+        requires room { 0 < self.old.spare }
+        requires some { 0 < page }
+        requires within { page ≤ length self.old.history.pages }
+        ensures revisions { self.new.history.revisions ≡ self.old.history.revisions
+            ++ record { page = page; parent = parent; moment = moment; text = text } ∷ [] }
+        ensures pages { self.new.history.pages ≡ self.old.history.pages }
+        ensures spare { self.new.spare + 1 ≡ self.old.spare }
+    {
+        let bytes = body_len(&text);
+        let spare = self.spare - 1;
+        self.texts = revisions::sum_of(self.texts, bytes);
+        self.chains.push(page);
+        self.revisions
+            .push_reserved(Revision::new(page, parent, moment, text));
+        self.spare = spare;
     }
 
     /// Makes room for this many revisions more than there are. Room that was there before stays.
