@@ -6,11 +6,11 @@ use Rattle.wk_base.specs.Faults.{one_more}
 pub record CallsMade : Type 0 where
   pub to_fail : List ℕ
   pub made : ℕ
-  pub failed : ℕ
+  pub faults : ℕ
 
 -- no call was made, and those with these numbers are to fail
 abbrev pub none_made : List ℕ → CallsMade
-none_made numbers = record { to_fail = numbers; made = 0; failed = 0 }
+none_made numbers = record { to_fail = numbers; made = 0; faults = 0 }
 
 -- the next call is to fail
 abbrev pub IsNextToFail : CallsMade → Type 0
@@ -22,4 +22,4 @@ after_success calls = record calls { made = one_more calls.made }
 
 -- after a call that failed
 abbrev pub after_failure : CallsMade → CallsMade
-after_failure calls = record calls { made = one_more calls.made; failed = one_more calls.failed }
+after_failure calls = record calls { made = one_more calls.made; faults = one_more calls.faults }

@@ -45,10 +45,10 @@ impl<R: Read + Drop> Source for ReadSource<R> {
         ensures bytes { ReadConsumes (R.remaining (source_reader self.old)) (R.remaining (source_reader self.new)) result room.new }
         ensures count { IfOk result (λ n. n ≤ length room.old) }
         ensures never_falls { source_faults self.old ≤ source_faults self.new }
+        ensures no_fault { OnOk result (source_faults self.new ≡ source_faults self.old) }
         ensures cause { OnErr result (Rose (source_faults self.old) (source_faults self.new)) }
 
         ensures counted { OnErr result (source_faults self.new ≡ one_more (source_faults self.old)) }
-        ensures not_counted { OnOk result (source_faults self.new ≡ source_faults self.old) }
     {
         match self.reader.read(room) {
             Ok(n) => Ok(n),
@@ -93,10 +93,10 @@ impl<W: Write + Drop> Sink for WriteSink<W> {
         ensures bytes { WriteAppends (W.contents (sink_writer self.old)) (W.contents (sink_writer self.new)) result piece.now }
         ensures count { IfOk result (λ n. (0 < n) × (n ≤ length piece.now)) }
         ensures never_falls { sink_faults self.old ≤ sink_faults self.new }
+        ensures no_fault { OnOk result (sink_faults self.new ≡ sink_faults self.old) }
         ensures cause { OnErr result (Rose (sink_faults self.old) (sink_faults self.new)) }
 
         ensures counted { OnErr result (sink_faults self.new ≡ one_more (sink_faults self.old)) }
-        ensures not_counted { OnOk result (sink_faults self.new ≡ sink_faults self.old) }
     {
         match self.writer.write(piece) {
             Ok(0) | Err(_) => Err(count_fault(&mut self.faults)),

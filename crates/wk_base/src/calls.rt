@@ -9,7 +9,7 @@ use std::marker::Model;
 pub struct Calls {
     to_fail: Vec<u64>,
     made: u64,
-    failed: u64,
+    faults: u64,
 }
 
 impl Model for Calls {
@@ -17,7 +17,7 @@ impl Model for Calls {
 
     ghost Value = { CallsMade };
 
-    ghost view = { λ c. record { to_fail = c.to_fail.items; made = c.made; failed = c.failed } };
+    ghost view = { λ c. record { to_fail = c.to_fail.items; made = c.made; faults = c.faults } };
 }
 
 impl Calls {
@@ -28,7 +28,7 @@ impl Calls {
         Calls {
             to_fail,
             made: 0,
-            failed: 0,
+            faults: 0,
         }
     }
 
@@ -40,10 +40,10 @@ impl Calls {
     }
 
     /// How many calls have failed.
-    pub fn failed(&self) -> u64
-        ensures { result ≡ self.now.failed }
+    pub fn faults(&self) -> u64
+        ensures { result ≡ self.now.faults }
     {
-        self.failed
+        self.faults
     }
 
     /// Counts a call that succeeds.
@@ -56,9 +56,9 @@ impl Calls {
     /// Counts a call that fails.
     pub fn fail(&mut self)
         ensures counted { self.new ≡ after_failure self.old }
-        ensures never_falls { self.old.failed ≤ self.new.failed }
+        ensures never_falls { self.old.faults ≤ self.new.faults }
     {
         self.made = self.made.saturating_add(1);
-        self.failed = self.failed.saturating_add(1);
+        self.faults = self.faults.saturating_add(1);
     }
 }

@@ -1,5 +1,5 @@
 // A sink that keeps what it takes.
-ghost use Rattle.std.specs.Prelude.{◌≡◌, ◌↔◌, ◌⊎◌, ◌≤◌, ◌<◌, ◌-◌, ◌++◌, [], length, min, take, IfOk, IsErr, OnErr, Some};
+ghost use Rattle.std.specs.Prelude.{◌≡◌, ◌↔◌, ◌⊎◌, ◌≤◌, ◌<◌, ◌-◌, ◌++◌, [], length, min, take, IfOk, IsErr, OnErr, OnOk, Some};
 ghost use Rattle.std.specs.Io.KnownBytes.{WriteAppends};
 ghost use Rattle.wk_base.specs.Calls.{IsNextToFail, after_failure, after_success, none_made};
 ghost use Rattle.wk_base.specs.Faults.{Rose};
@@ -51,9 +51,9 @@ impl MemSink {
 
     /// How many writes have failed.
     pub fn faults(&self) -> u64
-        ensures { result ≡ self.now.calls.failed }
+        ensures { result ≡ self.now.calls.faults }
     {
-        self.calls.failed()
+        self.calls.faults()
     }
 
     /// How many more bytes fit.
@@ -68,7 +68,7 @@ impl MemSink {
 impl Sink for MemSink {
     ghost taken = { λ s. Some s.taken };
 
-    ghost faults = { λ s. s.calls.failed };
+    ghost faults = { λ s. s.calls.faults };
 
     /// Takes as many bytes as fit, unless this write is one that is to fail, or the sink is full: then it fails. A
     /// write that fails changes nothing but the counts.
@@ -77,8 +77,9 @@ impl Sink for MemSink {
 
         ensures bytes { WriteAppends (Some self.old.taken) (Some self.new.taken) result piece.now }
         ensures count { IfOk result (λ n. (0 < n) × (n ≤ length piece.now)) }
-        ensures never_falls { self.old.calls.failed ≤ self.new.calls.failed }
-        ensures cause { OnErr result (Rose self.old.calls.failed self.new.calls.failed) }
+        ensures never_falls { self.old.calls.faults ≤ self.new.calls.faults }
+        ensures no_fault { OnOk result (self.new.calls.faults ≡ self.old.calls.faults) }
+        ensures cause { OnErr result (Rose self.old.calls.faults self.new.calls.faults) }
 
         ensures fails { IsErr result ↔ (IsNextToFail self.old.calls ⊎ (self.old.most ≤ length self.old.taken)) }
         ensures failed { OnErr result (self.new ≡ record self.old { calls = after_failure self.old.calls }) }

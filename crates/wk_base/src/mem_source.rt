@@ -1,5 +1,5 @@
 // A source over bytes in memory.
-ghost use Rattle.std.specs.Prelude.{◌≡◌, ◌↔◌, ◌≤◌, ◌<◌, ◌++◌, drop, length, min, take, IfOk, IsErr, OnErr, Some};
+ghost use Rattle.std.specs.Prelude.{◌≡◌, ◌↔◌, ◌≤◌, ◌<◌, ◌++◌, drop, length, min, take, IfOk, IsErr, OnErr, OnOk, Some};
 ghost use Rattle.std.specs.Io.KnownBytes.{ReadConsumes};
 ghost use Rattle.wk_base.specs.Calls.{IsNextToFail, after_failure, after_success, none_made};
 ghost use Rattle.wk_base.specs.Faults.{Rose};
@@ -47,16 +47,16 @@ impl MemSource {
 
     /// How many reads have failed.
     pub fn faults(&self) -> u64
-        ensures { result ≡ self.now.calls.failed }
+        ensures { result ≡ self.now.calls.faults }
     {
-        self.calls.failed()
+        self.calls.faults()
     }
 }
 
 impl Source for MemSource {
     ghost rest = { λ s. Some s.rest };
 
-    ghost faults = { λ s. s.calls.failed };
+    ghost faults = { λ s. s.calls.faults };
 
     /// Fills the room as far as the rest goes, unless this read is one that is to fail. A read that fails changes
     /// nothing but the counts.
@@ -65,8 +65,9 @@ impl Source for MemSource {
 
         ensures bytes { ReadConsumes (Some self.old.rest) (Some self.new.rest) result room.new }
         ensures count { IfOk result (λ n. n ≤ length room.old) }
-        ensures never_falls { self.old.calls.failed ≤ self.new.calls.failed }
-        ensures cause { OnErr result (Rose self.old.calls.failed self.new.calls.failed) }
+        ensures never_falls { self.old.calls.faults ≤ self.new.calls.faults }
+        ensures no_fault { OnOk result (self.new.calls.faults ≡ self.old.calls.faults) }
+        ensures cause { OnErr result (Rose self.old.calls.faults self.new.calls.faults) }
 
         ensures fails { IsErr result ↔ IsNextToFail self.old.calls }
         ensures failed { OnErr result (self.new ≡ record self.old { calls = after_failure self.old.calls }) }

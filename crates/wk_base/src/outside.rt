@@ -1,5 +1,5 @@
 // The traits of the outside.
-ghost use Rattle.std.specs.Prelude.{ℕ, ◌<◌, ◌≤◌, List, length, IfOk, OnErr, Option};
+ghost use Rattle.std.specs.Prelude.{◌≡◌, ℕ, ◌<◌, ◌≤◌, List, length, IfOk, OnErr, OnOk, Option};
 ghost use Rattle.std.specs.Io.KnownBytes.{ReadConsumes, WriteAppends};
 ghost use Rattle.wk_base.specs.Clock.{Ticks};
 ghost use Rattle.wk_base.specs.Faults.{Rose};
@@ -23,12 +23,14 @@ pub trait Source: Drop {
     /// no byte was left. What stands in `room` behind them isn't told.
     ///
     /// `Failed` comes only where the count of faults rose in this call, or stands at its end. The rest is then as it
-    /// was, and what stands in `room` isn't told.
+    /// was, and what stands in `room` isn't told. Where the answer is `Ok` the count is as it was: no read that failed
+    /// is made up for by another.
     fn read(&mut self, room: &mut [u8]) -> Result<usize, Failed>
         requires { 0 < length room.old }
         ensures bytes { ReadConsumes (rest self.old) (rest self.new) result room.new }
         ensures count { IfOk result (λ n. n ≤ length room.old) }
         ensures never_falls { faults self.old ≤ faults self.new }
+        ensures no_fault { OnOk result (faults self.new ≡ faults self.old) }
         ensures cause { OnErr result (Rose (faults self.old) (faults self.new)) };
 }
 
@@ -43,12 +45,14 @@ pub trait Sink: Drop {
     /// Takes bytes from the front of `piece`, at least one, and answers how many.
     ///
     /// `Failed` comes only where the count of faults rose in this call, or stands at its end. Nothing was then taken.
-    /// A sink that would take nothing answers it.
+    /// A sink that would take nothing answers it. Where the answer is `Ok` the count is as it was: no write that failed
+    /// is made up for by another.
     fn write(&mut self, piece: &[u8]) -> Result<usize, Failed>
         requires { 0 < length piece.now }
         ensures bytes { WriteAppends (taken self.old) (taken self.new) result piece.now }
         ensures count { IfOk result (λ n. (0 < n) × (n ≤ length piece.now)) }
         ensures never_falls { faults self.old ≤ faults self.new }
+        ensures no_fault { OnOk result (faults self.new ≡ faults self.old) }
         ensures cause { OnErr result (Rose (faults self.old) (faults self.new)) };
 }
 

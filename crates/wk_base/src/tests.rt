@@ -1,5 +1,5 @@
-// What no clause says: that calls succeed, that sinks take pieces until all is written, and what the adapters do over
-// readers, writers and clocks whose bytes no clause tells.
+// What no clause says: that calls succeed, the texts of errors, that sinks take pieces until all is written, and what
+// the adapters do over readers, writers and clocks whose bytes no clause tells.
 use crate::*;
 use std::io::{Cursor, ErrorKind, Read, Write};
 use std::test::Fail;
@@ -152,6 +152,14 @@ fn writers_of_std(rt: HostRuntime) -> Result<(), Fail> {
     assert_eq!(rt; flaky.write(b"he"), Err(Failed));
     assert_eq!(rt; write_all(&mut flaky, b"hello"), Ok(()));
     assert_eq!(rt; flaky.faults(), 2);
+    Ok(())
+}
+
+#[test]
+fn the_texts_of_errors(rt: HostRuntime) -> Result<(), Fail> {
+    let alloc = rt.alloc();
+    assert_eq!(rt; Failed.to_string(alloc)?.as_str(), "the outside failed");
+    assert_eq!(rt; Memory.to_string(alloc)?.as_str(), "out of memory");
     Ok(())
 }
 

@@ -1,6 +1,6 @@
 //! Blank bytes: space, tab, newline and carriage return (own).
 ghost use Rattle.std.specs.Prelude.{◌≡◌};
-ghost use Rattle.wk_text_rules.specs.Blank.{is_blank_byte, trimmed_start, trimmed_end, trimmed};
+ghost use Rattle.wk_text_rules.specs.Blank.{is_blank, is_blank_byte, trimmed_start, trimmed_end, trimmed};
 
 fn is_blank_byte(byte: u8) -> bool
     ensures { result ≡ is_blank_byte byte }
@@ -8,7 +8,15 @@ fn is_blank_byte(byte: u8) -> bool
     byte == b' ' || byte == b'\t' || byte == b'\n' || byte == b'\r'
 }
 
-fn trim_start(bytes: &[u8]) -> &[u8]
+/// Whether every byte is blank; so is no byte at all. Takes no memory.
+pub fn is_blank(bytes: &[u8]) -> bool
+    ensures { result ≡ is_blank bytes.now }
+{
+    bytes.iter().all(|byte| is_blank_byte(*byte))
+}
+
+/// The bytes without the blank bytes at the start. Takes no memory.
+pub fn trim_start(bytes: &[u8]) -> &[u8]
     ensures { result.now ≡ trimmed_start bytes.now }
 {
     let mut start = 0;
@@ -50,6 +58,11 @@ mod tests {
             ("", ""),
         ] {
             assert_eq!(rt; trim(bytes.as_bytes()), trimmed.as_bytes(), "at {bytes:?}");
+            assert_eq!(rt;
+                is_blank(bytes.as_bytes()),
+                trimmed.is_empty(),
+                "at {bytes:?}"
+            );
         }
     }
 }

@@ -6,7 +6,7 @@ mod lines;
 mod number;
 mod text;
 
-pub use blank::{trim, trim_end};
+pub use blank::{is_blank, trim, trim_end, trim_start};
 pub use lines::{Line, LineCutter};
-pub use number::decimal;
+pub use number::{are_digits, decimal, digits_value};
 pub use text::Text;

@@ -5,7 +5,8 @@ ghost use Rattle.std.specs.List.{list_all};
 ghost use Rattle.std.specs.Option.{SomeIff};
 ghost use Rattle.wk_text_rules.specs.Decimal.{is_decimal, digits_value, decimal_number};
 
-fn are_digits(bytes: &[u8]) -> bool
+/// Whether every byte is a decimal digit; so is no byte at all. Takes no memory.
+pub fn are_digits(bytes: &[u8]) -> bool
     ensures { result ≡ list_all is_ascii_digit bytes.now }
 {
     bytes.iter().all(|byte| byte.is_ascii_digit())
@@ -31,7 +32,9 @@ fn with_digit(value: u64, digit: u8) -> Option<u64>
     tens.checked_add(u64::from(digit - b'0'))
 }
 
-fn digits_value(digits: &[u8]) -> Option<u64>
+/// The number that the digits stand for, with zeros in front or without, and 0 where there are none. `None` exactly
+/// where it isn't below 2^64. Takes no memory.
+pub fn digits_value(digits: &[u8]) -> Option<u64>
     requires { IsTrue (list_all is_ascii_digit digits.now) }
     ensures { SomeIff result (digits_value digits.now < 2 ^ 64) (digits_value digits.now) }
 {

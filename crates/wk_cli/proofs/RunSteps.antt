@@ -13,7 +13,6 @@ use Rattle.wk_page_rules.specs.Verdict.{Refusal, invalid_title, content_too_big,
 use Rattle.wk_reply_rules.specs.EditLine.{EditLine}
 use Rattle.wk_reply_rules.specs.Replies.{Reply, edit_reply, not_built, refusal_reply}
 use Rattle.wk_reply_rules.specs.Script.{Script, ScriptRun, ended, skipped, unknown, edited, starved, after_edit, answer_to_edit, edit_asked, is_empty_line, line_verdict, script_after, GivesMoments, reply_line, reply_lines}
-use Rattle.wk_bytes.specs.LineCutter.{Cutting}
 use Rattle.wk_cli.specs.Runs.{AnswersEdit, with_memory, without_memory, Answers, AnswersFirst, AnswersInPart, TellsReply, TellsEdit, TellsLines, points_of}
 use Rattle.wk_reply_laws.proofs.Runs.{join}
 
@@ -199,34 +198,5 @@ part_join s t ls done a b x y z old mid new first q =
       points = points_join old mid new p.replies q.replies p.points q.points;
     }
 
-pub first_join : (s t : Script) (ls ms : List (Option (List ℕ))) (a b x y z : Option (List ℕ)) (old mid new : List ℕ) →
-    Answers s ls t a b x y old mid → AnswersFirst t ms y z mid new → AnswersFirst s (ls ++ ms) x z old new
-first_join s t ls ms a b x y z old mid new first second = record {
-  done = ls ++ second.done;
-  begins = (second.begins.0, ap (λ l. ls ++ l) second.begins.1 ∙ sym (append_assoc ls second.done second.begins.0));
-  part = part_join s t ls second.done a b x y z old mid new first second.part;
-}
-
 pub answers_nothing : (s : Script) (left taken : Option (List ℕ)) (points : List ℕ) → Answers s [] s left left taken taken points points
 answers_nothing s left taken points = record { text = []; tells = tells_nothing s left points; written = Appends-nil taken }
-
--- more lines that weren't answered
-pub first_of_more : (s : Script) (ls more : List (Option (List ℕ))) (x y : Option (List ℕ)) (old new : List ℕ) →
-    AnswersFirst s ls x y old new → AnswersFirst s (ls ++ more) x y old new
-first_of_more s ls more x y old new first = record {
-  done = first.done;
-  begins = (first.begins.0 ++ more, ap (λ l. l ++ more) first.begins.1 ∙ append_assoc first.done first.begins.0 more);
-  part = first.part;
-}
-
--- the cutter held the lines that were answered, and then those that it holds now
-pub split_again : (cutter now next : Cutting) (done line : List (Option (List ℕ))) → cutter ≡ record now { whole = done ++ now.whole } →
-    now ≡ record next { whole = line ++ next.whole } → cutter ≡ record next { whole = (done ++ line) ++ next.whole }
-split_again cutter now next done line before after =
-    let whole : Cutting → Cutting = λ k. record k { whole = done ++ k.whole } in
-    let put : List (Option (List ℕ)) → Cutting = λ w. record next { whole = w } in
-    before ∙ ap whole after ∙ ap put (sym (append_assoc done line next.whole))
-
-pub on_err : {T E : Type 0} (r : Result T E) (P : Type 0) → P → OnErr r P
-on_err (Ok x) P p = tt
-on_err (Err e) P p = p

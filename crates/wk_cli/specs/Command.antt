@@ -1,6 +1,7 @@
 -- The words of the program, and its statuses (own).
-use Rattle.std.specs.Prelude.{◌≡◌, ℕ, Bool, false, List, [], ◌∷◌, bytes_eq, codes, String, string_bytes, Option}
+use Rattle.std.specs.Prelude.{◌≡◌, ℕ, Bool, false, List, [], ◌∷◌, bytes_eq, codes, String, string_bytes}
 use Rattle.std.specs.declared.alloc.Global.{Global}
+use Rattle.wk_cli.specs.Runs.{Outside}
 
 -- the program's name, and `script`
 abbrev pub is_script_command : List (String Global) → Bool
@@ -15,8 +16,8 @@ abbrev pub cut_statuses : List ℕ
 cut_statuses = 1 ∷ 3 ∷ 4 ∷ 9 ∷ []
 
 -- nothing was read, no moment taken and nothing written
-pub record IsUntouched (rest later_rest left later taken more_taken : Option (List ℕ)) (points : List ℕ) : Type 0 where
-  pub input : later_rest ≡ rest
-  pub clock : later ≡ left
-  pub output : more_taken ≡ taken
+pub record IsUntouched (before after : Outside) (points : List ℕ) : Type 0 where
+  pub input : after.rest ≡ before.rest
+  pub clock : after.moments ≡ before.moments
+  pub output : after.taken ≡ before.taken
   pub nothing : points ≡ []

@@ -3,4 +3,3 @@ pub mod Lines
 pub mod Refusals
 pub mod Runs
 pub mod Shown
-pub mod Stop

@@ -70,23 +70,30 @@ pub record AnswersFirst (s : Script) (all : List (Option (List ℕ))) (taken mor
 
 -- ---- the whole run
 
+-- What stands outside, each part where it is told: the bytes that are left to read, the clock's moments that are left,
+-- and the bytes that were taken.
+pub record Outside : Type 0 where
+  pub rest : Option (List ℕ)
+  pub moments : Option (List ℕ)
+  pub taken : Option (List ℕ)
+
 -- All bytes of the input were read, to its end, and each of their lines was answered.
-pub record IsWholeRun (rest later_rest left later taken more_taken : Option (List ℕ)) (points : List ℕ) : Type 0 where
+pub record IsWholeRun (before after : Outside) (points : List ℕ) : Type 0 where
   pub read : List ℕ
-  pub consumed : Consumes rest later_rest read
-  pub ended : IsAtEnd later_rest
-  pub after : Script
-  pub answers : Answers new_script (lines most_line read) after left later taken more_taken [] points
+  pub consumed : Consumes before.rest after.rest read
+  pub ended : IsAtEnd after.rest
+  pub script : Script
+  pub answers : Answers new_script (lines most_line read) script before.moments after.moments before.taken after.taken [] points
   -- where memory was never wanting, the replies are the stated function of the bytes, whichever the moments
   pub function : AllByRecursion HasMemory answers.tells.replies → (moments : List ℕ) →
       answers.tells.replies ≡ script_replies new_script (lines most_line read) moments
 
 -- Some bytes of the input were read. What was written is a prefix of the replies to lines with which every input
 -- begins that begins with these bytes; or the input was at its end, and the last line is among them.
-pub record IsCutRun (rest later_rest taken more_taken : Option (List ℕ)) (points : List ℕ) (read : List ℕ) : Type 0 where
-  pub consumed : Consumes rest later_rest read
+pub record IsCutRun (before after : Outside) (points : List ℕ) (read : List ℕ) : Type 0 where
+  pub consumed : Consumes before.rest after.rest read
   pub ended : Bool
-  pub at_end : IsTrue ended → IsAtEnd later_rest
+  pub at_end : IsTrue ended → IsAtEnd after.rest
   pub done : List (Option (List ℕ))
   pub whole : MatchBool ended (Begins done (lines most_line read)) ((more : List ℕ) → Begins done (lines most_line (read ++ more)))
-  pub part : AnswersInPart new_script done taken more_taken [] points
+  pub part : AnswersInPart new_script done before.taken after.taken [] points

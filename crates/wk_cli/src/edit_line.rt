@@ -129,7 +129,7 @@ fn cut_line(line: &[u8]) -> Option<Cut<'_>>
 }
 
 /// The parts, where they have only the bytes that they may have.
-fn checked(cut: Cut<'_>) -> Option<EditParts<'_>>
+fn parts_if_legal(cut: Cut<'_>) -> Option<EditParts<'_>>
     ensures { option_map parts_of result ≡ (if is_edit (cut_parts cut.entry) then Some (cut_parts cut.entry) else None) }
 {
     if !is_title(cut.title) || !is_text(cut.text) || cut.text.len() > MOST_TEXT {
@@ -146,5 +146,5 @@ fn checked(cut: Cut<'_>) -> Option<EditParts<'_>>
 pub fn edit_line(line: &[u8]) -> Option<EditParts<'_>>
     ensures { option_map parts_of result ≡ edit_line line.now }
 {
-    checked(cut_line(line)?)
+    parts_if_legal(cut_line(line)?)
 }

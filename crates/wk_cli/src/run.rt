@@ -8,42 +8,15 @@ ghost use Rattle.wk_reply_rules.specs.Replies.{not_built};
 ghost use Rattle.wk_reply_rules.specs.Script.{new_script};
 ghost use Rattle.wk_cli.specs.Lines.{parts_of};
 ghost use Rattle.wk_cli.specs.Runs.{Answers, AnswersFirst, IsCutRun, IsWholeRun, TellsEdit, TellsLines, TellsReply, text_in};
-ghost use Rattle.wk_cli.specs.Stop.{IsWriting};
+ghost use Rattle.wk_lines.specs.Stop.{IsWriting};
 
 use crate::edit_line::{EditParts, edit_line};
 use crate::replies;
 use crate::script::Script;
 use std::alloc::{AllocError, AllocFailed, Global};
-use thiserror::Error;
 use wk_base::{Clock, Failed, Memory, Sink, Source, write_all};
-use wk_bytes::{Line, LineCutter};
-
-/// Why a run stopped before the end of its input.
-#[derive(Clone, Copy, Debug, PartialEq, Eq, Error)]
-pub enum Stop {
-    /// Memory ran out.
-    #[error("out of memory")]
-    Memory,
-    /// A read of the input failed.
-    #[error("the input failed")]
-    ReadFault,
-    /// A write of the output failed.
-    #[error("the output failed")]
-    WriteFault,
-    /// 2^40 bytes were read.
-    #[error("the input is too long")]
-    Bound,
-}
-
-impl From<Memory> for Stop {
-    ghost use Rattle.wk_cli.specs.declared.run.Stop.TheVariants.{Memory as WantOfMemory};
-
-    ghost from_gives = { λ _ stop. stop ≡ WantOfMemory };
-
-    fn from(_: Memory) -> Stop {
-        Stop::Memory
-    }
-}
+use wk_bytes::Line;
+use wk_lines::{LineReader, NextLine, Stop};
 
 /// A script's wiki, and the points of its replies so far.
 #[derive(Drop)]
@@ -195,32 +168,6 @@ impl Run {
         }
     }
 
-    /// Answers the whole lines that the cutter holds, and writes the answers.
-    fn serve_whole<O: Sink, C: Clock>(
-        &mut self,
-        alloc: Global,
-        cutter: &mut LineCutter,
-        output: &mut O,
-        clock: &mut C,
-    ) -> Result<(), Stop>
-        ensures ok { OnOk result (Answers self.old.script cutter.old.whole self.new.script (C.left clock.old) (C.left clock.new)
-            (O.taken output.old) (O.taken output.new) self.old.points.items self.new.points.items) }
-        ensures emptied { OnOk result (cutter.new ≡ record cutter.old { whole = [] }) }
-        ensures err { OnErr result (AnswersFirst self.old.script cutter.old.whole (O.taken output.old) (O.taken output.new)
-            self.old.points.items self.new.points.items) }
-        ensures stops { IfErr result IsWriting }
-        ensures never_falls { O.faults output.old ≤ O.faults output.new }
-        ensures cause { result ≡ Err Stop.WriteFault → Rose (O.faults output.old) (O.faults output.new) }
-    {
-        'lines: loop {
-            let line = cutter.next();
-            if matches!(&line, Line::More) {
-                return Ok(());
-            }
-            self.serve_line(alloc, &line, output, clock)?;
-        }
-    }
-
     /// Answers the lines of the input to its end, and writes the answers. It begins with an empty wiki.
     ///
     /// `Stop::Bound` comes where 2^40 bytes were read, whatever else is left.
@@ -233,47 +180,33 @@ impl Run {
     ) -> Result<(), Stop>
         requires empty { self.old.script ≡ new_script }
         requires none { self.old.points.items ≡ [] }
-        ensures ok { OnOk result (IsWholeRun (I.rest input.old) (I.rest input.new) (C.left clock.old) (C.left clock.new)
-            (O.taken output.old) (O.taken output.new) self.new.points.items) }
-        ensures err { OnErr result ((read : List ℕ) × IsCutRun (I.rest input.old) (I.rest input.new) (O.taken output.old) (O.taken output.new)
-            self.new.points.items read × (result ≡ Err Stop.Bound → 2 ^ 40 ≤ length read)) }
+        ensures ok { OnOk result (IsWholeRun (record { rest = I.rest input.old; moments = C.left clock.old; taken = O.taken output.old })
+            (record { rest = I.rest input.new; moments = C.left clock.new; taken = O.taken output.new }) self.new.points.items) }
+        ensures err { OnErr result ((read : List ℕ) × IsCutRun (record { rest = I.rest input.old; moments = C.left clock.old; taken = O.taken output.old })
+            (record { rest = I.rest input.new; moments = C.left clock.new; taken = O.taken output.new }) self.new.points.items read
+            × (result ≡ Err Stop.Bound → 2 ^ 40 ≤ length read)) }
         ensures reads_never_fall { I.faults input.old ≤ I.faults input.new }
         ensures read_cause { result ≡ Err Stop.ReadFault → Rose (I.faults input.old) (I.faults input.new) }
         ensures writes_never_fall { O.faults output.old ≤ O.faults output.new }
         ensures write_cause { result ≡ Err Stop.WriteFault → Rose (O.faults output.old) (O.faults output.new) }
     {
-        let mut cutter = LineCutter::new(alloc, MOST_LINE);
-        let mut room = [0u8; ROOM];
-        let mut total = 0u64;
-        'reads: while total < BOUND {
-            let n = match input.read(&mut room) {
-                Ok(n) => n,
-                Err(Failed) => return Err(Stop::ReadFault),
+        let mut reader = LineReader::new(alloc, MOST_LINE);
+        'lines: loop {
+            let next = match reader.next(input) {
+                Ok(next) => next,
+                Err(stop) => return Err(stop),
             };
-            if n == 0 {
-                let line = cutter.end();
-                if let Err(stop) = self.serve_line(alloc, &line, output, clock) {
-                    return Err(stop);
+            match next {
+                NextLine::Inner(line) => {
+                    if let Err(stop) = self.serve_line(alloc, &line, output, clock) {
+                        return Err(stop);
+                    }
                 }
-                return Ok(());
-            }
-            total += n as u64;
-            if let Err(Memory) = cutter.push(&room[..n]) {
-                return Err(Stop::Memory);
-            }
-            if let Err(stop) = self.serve_whole(alloc, &mut cutter, output, clock) {
-                return Err(stop);
+                NextLine::Last(line) => return self.serve_line(alloc, &line, output, clock),
             }
         }
-        Err(Stop::Bound)
     }
 }
 
 /// The bytes that a line has at most.
 const MOST_LINE: usize = 8_388_608;
-
-/// The bytes that are asked of one read.
-const ROOM: usize = 8_192;
-
-/// A run ends once so many bytes were read.
-const BOUND: u64 = 1 << 40;

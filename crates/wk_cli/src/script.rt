@@ -21,10 +21,8 @@ use wk_title::{Title, shown};
 
 /// How much the script's wiki holds. No other limit than the journal's can be met by so many events.
 const LIMITS: Limits = Limits {
-    pages: 1_000_000,
-    revisions: 16_777_216,
-    text: 1_073_741_824,
     journal: 1_000,
+    ..Limits::FULL
 };
 
 /// The wiki that a script works on, and the number of its events so far, which is the journal's length.
@@ -127,7 +125,7 @@ impl Script {
         let save = SaveShown {
             old: self.revs.current(title),
             new: self.revs.next_revision(),
-            page: self.revs.page_of_save(title),
+            page: self.revs.page_to_save(title),
             title: &text,
         };
         if save.old == 0 {

@@ -4,9 +4,8 @@ ghost use Rattle.std.specs.List.{list_any};
 ghost use Rattle.wk_base.specs.Faults.{Rose};
 ghost use Rattle.wk_cli.specs.Command.{IsUntouched, cut_statuses, is_script_command, statuses};
 ghost use Rattle.wk_cli.specs.Runs.{IsCutRun, IsWholeRun};
-ghost use Rattle.wk_cli.specs.Stop.{status_of};
 
-use crate::run::{Run, Stop};
+use crate::run::Run;
 use std::alloc::Global;
 use wk_base::{Clock, Sink, Source};
 
@@ -29,14 +28,14 @@ fn is_script(words: &[String]) -> bool
     }
 }
 
-fn status_of(stop: Stop) -> u8
-    ensures { result ≡ status_of stop }
+/// The end of a run with this status.
+fn finish_with(status: u8, run: Run) -> Finish
+    ensures status { result.status ≡ status }
+    ensures points { result.points.items ≡ run.points.items }
 {
-    match stop {
-        Stop::Memory => 1,
-        Stop::ReadFault => 3,
-        Stop::WriteFault => 4,
-        Stop::Bound => 9,
+    Finish {
+        status,
+        points: run.into_points(),
     }
 }
 
@@ -61,17 +60,20 @@ pub fn wiki_main<I: Source, O: Sink, C: Clock>(
     ensures known { list_any (λ status. result.status == status) statuses ≡ true }
 
     ensures words { (result.status ≡ 2) ↔ (is_script_command words.now ≡ false) }
-    ensures untouched { result.status ≡ 2 → IsUntouched (I.rest input.old) (I.rest input.new) (C.left clock.old) (C.left clock.new)
-        (O.taken output.old) (O.taken output.new) result.points.items }
+    ensures untouched { result.status ≡ 2 → IsUntouched
+        (record { rest = I.rest input.old; moments = C.left clock.old; taken = O.taken output.old })
+        (record { rest = I.rest input.new; moments = C.left clock.new; taken = O.taken output.new }) result.points.items }
 
     // What is written is a stated function of what is read, and of nothing else, unless a reply tells of want of memory.
-    ensures whole { result.status ≡ 0 → IsWholeRun (I.rest input.old) (I.rest input.new) (C.left clock.old) (C.left clock.new)
-        (O.taken output.old) (O.taken output.new) result.points.items }
+    ensures whole { result.status ≡ 0 → IsWholeRun
+        (record { rest = I.rest input.old; moments = C.left clock.old; taken = O.taken output.old })
+        (record { rest = I.rest input.new; moments = C.left clock.new; taken = O.taken output.new }) result.points.items }
 
     // At every other end it is a prefix of the replies to whole lines.
-    ensures cut { list_any (λ status. result.status == status) cut_statuses ≡ true →
-        (read : List ℕ) × IsCutRun (I.rest input.old) (I.rest input.new) (O.taken output.old) (O.taken output.new)
-        result.points.items read × (result.status ≡ 9 → 2 ^ 40 ≤ length read) }
+    ensures cut { list_any (λ status. result.status == status) cut_statuses ≡ true → (read : List ℕ) × IsCutRun
+        (record { rest = I.rest input.old; moments = C.left clock.old; taken = O.taken output.old })
+        (record { rest = I.rest input.new; moments = C.left clock.new; taken = O.taken output.new }) result.points.items read
+        × (result.status ≡ 9 → 2 ^ 40 ≤ length read) }
 
     ensures reads_never_fall { I.faults input.old ≤ I.faults input.new }
     ensures read_fault { result.status ≡ 3 → Rose (I.faults input.old) (I.faults input.new) }
@@ -86,13 +88,7 @@ pub fn wiki_main<I: Source, O: Sink, C: Clock>(
     }
     let mut run = Run::new(alloc);
     match run.serve_all(alloc, input, output, clock) {
-        Ok(()) => Finish {
-            status: 0,
-            points: run.into_points(),
-        },
-        Err(stop) => Finish {
-            status: status_of(stop),
-            points: run.into_points(),
-        },
+        Ok(()) => finish_with(0, run),
+        Err(stop) => finish_with(stop.status(), run),
     }
 }

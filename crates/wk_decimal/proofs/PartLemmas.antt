@@ -1,11 +1,8 @@
--- A text round its first byte of a kind, and the number that digits write.
-use Rattle.std.proofs.Common.{◌≡◌, ℕ, suc, ◌+◌, ◌-◌, ◌*◌, ◌<◌, ◌≤◌, Bool, List, [], ◌∷◌, ◌++◌, length, get_or, take, drop, nat_lt, Option, refl, sym, ap, ◌∙◌, inl, inr, arith, lt-ltb, take_all, take-append-drop}
-use Rattle.std.specs.Prelude.{fold}
+-- A text round its first byte of a kind.
+use Rattle.std.proofs.Common.{◌≡◌, ℕ, suc, ◌+◌, ◌≤◌, Bool, List, [], ◌∷◌, length, nat_lt, Option, refl, sym, ◌∙◌, inl, inr, arith, lt-ltb, take_all}
 use Rattle.std.specs.List.{list_any, position, position_or_len, before_first}
 use Rattle.std.proofs.lemmas.Bool.{cases_Bool}
 use Rattle.std.proofs.lemmas.Bool.Decides.{nat_tests}
-use Rattle.std.proofs.lemmas.List.Sums.{fold_more, fold-append}
-use Rattle.wk_text_rules.specs.Decimal.{digits_value}
 use Rattle.wk_text_rules.specs.Numerals.{behind_first}
 use Rattle.wk_decimal.specs.Parts.{IsPlaceIn, SplitsAt}
 
@@ -38,20 +35,3 @@ splits_at_first p xs front back h = elim (cases_Bool (nat_lt (position_or_len p 
       let past : length xs ≤ position_or_len p xs = grind (arith, nat_tests) in
       (parts.0 ∙ sym (take_all _ _ past), rw (list_any-by_position p xs, outside) parts.1)
 ]
-
--- further digits only make the number larger
-fold_grows : (n : ℕ) (ds : List ℕ) → n ≤ fold (λ n d. 10 * n + (d - 48)) n ds
-fold_grows n [] = omega arith
-fold_grows n (d ∷ ds) = omega (arith, fold_grows (10 * n + (d - 48)) ds)
-
--- one digit more
-pub digits_value_more : (ds : List ℕ) (i : ℕ) → i < length ds → digits_value (take (i + 1) ds) ≡ 10 * digits_value (take i ds) + (get_or ds i 0 - 48)
-digits_value_more ds i h = fold_more (λ n d. 10 * n + (d - 48)) 0 ds i 0 h
-
--- the digits so far are worth no more than all of them
-pub digits_value-take : (ds : List ℕ) (i : ℕ) → digits_value (take i ds) ≤ digits_value ds
-digits_value-take ds i =
-    let e : digits_value (take i ds ++ drop i ds) ≡ fold (λ n d. 10 * n + (d - 48)) (digits_value (take i ds)) (drop i ds) =
-    fold-append (λ n d. 10 * n + (d - 48)) 0 (take i ds) (drop i ds) in
-    let same : digits_value (take i ds ++ drop i ds) ≡ digits_value ds = ap digits_value (take-append-drop i ds) in
-    omega (arith, fold_grows (digits_value (take i ds)) (drop i ds), e, same)

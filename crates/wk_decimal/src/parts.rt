@@ -7,7 +7,9 @@ ghost use Rattle.wk_text_rules.specs.Decimal.{digits_value};
 ghost use Rattle.wk_text_rules.specs.Numerals.{is_point, is_exponent_letter, is_digits, without_sign, has_minus, behind_first, is_mantissa, exponent_of, power_of};
 ghost use Rattle.wk_decimal.specs.Parts.{IsPlaceIn, SplitsAt};
 
-const MOST_EXPONENT: usize = 9999;
+use wk_bytes::{are_digits, digits_value};
+
+const MOST_EXPONENT: u64 = 9999;
 
 /// What stands before a place, and what stands behind it; or all, where there is no place.
 fn split_at(bytes: &[u8], place: Option<usize>) -> (&[u8], Option<&[u8]>)
@@ -60,12 +62,6 @@ pub fn split_sign(bytes: &[u8]) -> (bool, &[u8])
     }
 }
 
-fn are_digits(bytes: &[u8]) -> bool
-    ensures { result ≡ list_all is_ascii_digit bytes.now }
-{
-    bytes.iter().all(|byte| byte.is_ascii_digit())
-}
-
 fn is_digits(bytes: &[u8]) -> bool
     ensures { result ≡ is_digits bytes.now }
 {
@@ -87,14 +83,10 @@ fn small_number(digits: &[u8]) -> Option<usize>
     requires { IsTrue (list_all is_ascii_digit digits.now) }
     ensures { SomeIff result (digits_value digits.now ≤ 9999) (digits_value digits.now) }
 {
-    let mut value = 0;
-    for digit in digits {
-        value = 10 * value + usize::from(*digit - b'0');
-        if value > MOST_EXPONENT {
-            return None;
-        }
+    match digits_value(digits) {
+        Some(value) if value <= MOST_EXPONENT => Some(value as usize),
+        _ => None,
     }
-    Some(value)
 }
 
 fn exponent(bytes: &[u8]) -> Option<(usize, usize)>

@@ -7,3 +7,5 @@ pub mod Wikis
 pub mod Saves
 pub mod Answers
 pub mod Edits
+pub mod Listings
+pub mod Scripts

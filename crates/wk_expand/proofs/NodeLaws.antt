@@ -7,7 +7,7 @@ use Rattle.wk_text_rules.specs.Marked.{trimmed_output}
 use Rattle.wk_text_rules.specs.Numerals.{same_output}
 use Rattle.wk_text_rules.specs.Titles.{PageTitle}
 use Rattle.wk_tree_rules.specs.Tree.{Node, Part as TreePart, title_part, further_parts}
-use Rattle.wk_tree_rules.specs.Trees.{Item, NodeKind, Row, template, argument}
+use Rattle.wk_tree_rules.specs.Trees.{Item, NodeKind, Content, template, argument}
 use Rattle.wk_tree.specs.Parsed.{ParsedText, list_with, node_with, part_with, part_at}
 use Rattle.wk_tree.specs.Tokens.{is_argument}
 use Rattle.wk_tree.specs.declared.item.ListId.{ListId}
@@ -29,7 +29,7 @@ node-later s t node m same e = ap (λ parsed. node_with parsed node) (current-sa
 pub node-there : (s t : Expander) (node : NodeId) → IsSame s t → IsSome (node_with (current s) node) → IsSome (node_with (current t) node)
 node-there s t node same there = subst (λ parsed. IsSome (node_with parsed node)) (sym (current-same s t same)) there
 
-pub opened-more : (left : ℕ) (viewed : PageTitle) (frame : Frame) (kind : NodeKind) (content : Row) → 0 < left → opened left viewed frame kind content ≡ node_output (expand (left - 1) viewed) viewed frame kind content
+pub opened-more : (left : ℕ) (viewed : PageTitle) (frame : Frame) (kind : NodeKind) (content : Content) → 0 < left → opened left viewed frame kind content ≡ node_output (expand (left - 1) viewed) viewed frame kind content
 opened-more zero viewed frame kind content more = absurd (omega arith)
 opened-more (suc left) viewed frame kind content more =
     let same : left ≡ suc left - 1 = omega arith in
@@ -56,10 +56,10 @@ count-is shown tree node count m same h e =
     at_some (λ n. count ≡ length (further_parts n.content)) (node_with tree node) m e (subst (λ parsed. IfSome (node_with parsed node) (λ n. count ≡ length (further_parts n.content))) same h)
 
 module _ (inner : Frame → List Item → Expansion Output) (viewed : PageTitle) (frame : Frame) where
-  abbrev pub behind_title : NodeKind → Row → Output → Expansion Output
+  abbrev pub behind_title : NodeKind → Content → Output → Expansion Output
   behind_title kind content name = kind_output inner viewed frame kind name (further_parts content)
 
-  pub node-is : (kind : NodeKind) (content : Row) → node_output inner viewed frame kind content ≡ (inner frame (title_part content) >>= behind_title kind content)
+  pub node-is : (kind : NodeKind) (content : Content) → node_output inner viewed frame kind content ≡ (inner frame (title_part content) >>= behind_title kind content)
   unfolding node_output
   node-is kind content = refl
 

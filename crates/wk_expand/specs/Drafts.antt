@@ -27,8 +27,8 @@ pub record IsDraft (page : PageTitle) (given : Option (List ℕ)) (expanded : Ex
   pub everywhere : (source : Source) → Agrees source reads → drafted source page given ≡ done expanded reads
 
 -- a read with its mark
-abbrev pub marked : rule.Read → Read
-marked r = record { title = r.title; kind = r.kind; mark = mark r.answer }
+abbrev pub with_mark : rule.Read → Read
+with_mark r = record { title = r.title; kind = r.kind; mark = mark r.answer }
 
 -- the title that the page redirects to; none where a text was given
 abbrev pub turned_by : PageTitle → Option (List ℕ) → Seen → Option PageTitle

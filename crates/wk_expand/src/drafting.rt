@@ -75,7 +75,7 @@ fn made(
       reads = seen;
     }) }
 {
-    let reads = seen.marked(alloc)?;
+    let reads = seen.with_marks(alloc)?;
     let turned = turned_in(alloc, page, &given, &seen)?;
     let page = page.share()?;
     Ok(Draft {

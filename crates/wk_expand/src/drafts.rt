@@ -2,7 +2,7 @@
 ghost use Rattle.std.specs.Prelude.{◌≡◌, map};
 ghost use Rattle.std.specs.Option.{option_copied};
 ghost use Rattle.wk_expand.specs.Answers.{counters_of};
-ghost use Rattle.wk_expand.specs.Drafts.{IsDraft, marked, turned_by};
+ghost use Rattle.wk_expand.specs.Drafts.{IsDraft, with_mark, turned_by};
 
 use crate::answer::{Counts, Read};
 use crate::seen::Seen;
@@ -96,7 +96,7 @@ impl Draft {
 
     /// What was read, each pair of a title and a kind once, in the order of first reading. Takes no memory.
     pub fn reads(&self) -> &[Read]
-        ensures { result.now ≡ map marked self.now.reads }
+        ensures { result.now ≡ map with_mark self.now.reads }
     {
         &self.reads
     }

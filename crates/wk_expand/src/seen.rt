@@ -4,7 +4,7 @@ ghost use Rattle.std.specs.Option.{option_copied};
 ghost use Rattle.wk_view_rules.specs.Plans.{noted};
 ghost use Rattle.wk_view_rules.specs.Worlds.{ask, fits_kind, of_seen};
 ghost use Rattle.wk_expand.specs.Answers.{answer_of, read_with};
-ghost use Rattle.wk_expand.specs.Drafts.{marked};
+ghost use Rattle.wk_expand.specs.Drafts.{with_mark};
 ghost use Rattle.wk_expand.specs.Entries.{entry_reads};
 
 use crate::answer::{Answer, Read, mark};
@@ -92,8 +92,8 @@ impl Seen {
     }
 
     /// The reads with their marks, in order.
-    pub(crate) fn marked(&self, alloc: Global) -> Result<Vec<Read>, Memory>
-        ensures { IfOk result (λ reads. reads.items ≡ map marked self.now) }
+    pub(crate) fn with_marks(&self, alloc: Global) -> Result<Vec<Read>, Memory>
+        ensures { IfOk result (λ reads. reads.items ≡ map with_mark self.now) }
     {
         marks(alloc, &self.answers)
     }
@@ -101,7 +101,7 @@ impl Seen {
 
 /// The answers with their marks, in order.
 fn marks(alloc: Global, answers: &IndexMap<Asked, Answer>) -> Result<Vec<Read>, Memory>
-    ensures { IfOk result (λ reads. reads.items ≡ map marked (entry_reads answers.now.entries)) }
+    ensures { IfOk result (λ reads. reads.items ≡ map with_mark (entry_reads answers.now.entries)) }
 {
     let mut reads = Vec::new(alloc);
     'entries: for (asked, answer) in answers.iter() {

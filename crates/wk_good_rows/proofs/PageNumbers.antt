@@ -7,7 +7,8 @@ use Rattle.std.proofs.lemmas.Bool.Decides.{nat_tests}
 use Rattle.std.specs.Ordering.{int_eq}
 use Rattle.wk_table_rules.specs.Rows.{LinkColumns, PageColumns, StoreTables}
 use Rattle.wk_table_rules.specs.Changes.{has_page, namespace_of}
-use Rattle.wk_table_rules.specs.GoodStore.{first_bad, first_bad_after, has_good_id, max_pages}
+use Rattle.wk_page_rules.specs.Verdict.{max_pages}
+use Rattle.wk_table_rules.specs.GoodStore.{first_bad, first_bad_after, has_good_id}
 use Rattle.wk_good_rows.specs.FromPage.{is_from_page}
 
 -- a list with a good row in front

@@ -1,15 +1,21 @@
 -- The params of a fan job, read at their first colon.
-use Rattle.std.proofs.Common.{◌≡◌, ℕ, ◌+◌, true, false, ◌&&◌, List, [], length, Option, Some, None, option_map, refl, sym, ap, ◌∙◌, inl, inr, arith}
-use Rattle.std.specs.Prelude.{bytes_eq, codes, option_and_then}
+use Rattle.std.proofs.Common.{◌≡◌, ℕ, ◌+◌, Bool, true, false, ◌&&◌, List, [], length, Option, Some, None, option_map, refl, sym, ap, ◌∙◌, inl, inr, arith}
+use Rattle.std.specs.Prelude.{bytes_eq, codes, nat_le, option_and_then}
 use Rattle.std.specs.List.{after_first, before_first, position_or_len}
 use Rattle.std.proofs.lemmas.Bool.{cases_Bool}
 use Rattle.std.proofs.lemmas.List.{drop_all}
 use Rattle.wk_text_rules.specs.Decimal.{decimal_number}
 use Rattle.wk_text_rules.specs.Titles.{is_colon}
-use Rattle.wk_table_rules.specs.declared.Reach.{Reach}
-use Rattle.wk_table_rules.specs.declared.Reach.TheVariants.{Text, Both}
+use Rattle.wk_row_rules.specs.declared.Reach.{Reach}
+use Rattle.wk_row_rules.specs.declared.Reach.TheVariants.{Text, Both}
 use Rattle.wk_table_rules.specs.JobTable.{FanParams, reach_called}
-use Rattle.wk_good_rows.specs.Params.{has_good_params, is_cursor, is_low, is_reach, is_within}
+use Rattle.wk_page_rules.specs.Verdict.{max_pages}
+use Rattle.wk_table_rules.specs.GoodStore.{is_fan_params}
+use Rattle.wk_good_rows.specs.Params.{is_cursor, is_low, is_reach}
+
+-- the params are there, with a cursor that a page can have
+abbrev is_within : Option FanParams → Bool
+is_within fan = elim fan [ None ↦ false | Some params ↦ nat_le params.cursor max_pages ]
 
 -- the params of a word and a number
 abbrev params_of : Option Reach → Option ℕ → Option FanParams
@@ -24,7 +30,7 @@ unfolding decimal_number
 no-digits = refl
 
 -- without a colon there are none
-pub no-colon : (text : List ℕ) → position_or_len is_colon text ≡ length text → has_good_params text ≡ false
+pub no-colon : (text : List ℕ) → position_or_len is_colon text ≡ length text → is_fan_params text ≡ false
 no-colon text none =
     no-number (reach_called (before_first is_colon text)) (decimal_number (after_first is_colon text))
     (ap decimal_number (drop_all (position_or_len is_colon text + 1) text (omega arith)) ∙ no-digits)
@@ -53,6 +59,6 @@ both-parts word served = elim (cases_Bool (bytes_eq word (codes "text"))) [
 ]
 
 -- the word before the first colon, and the number behind it
-pub at-colon : (text word number : List ℕ) → word ≡ before_first is_colon text → number ≡ after_first is_colon text → (is_reach word && is_cursor number) ≡ has_good_params text
+pub at-colon : (text word number : List ℕ) → word ≡ before_first is_colon text → number ≡ after_first is_colon text → (is_reach word && is_cursor number) ≡ is_fan_params text
 at-colon text word number first second =
     rw (first, second) (sym (both-parts (before_first is_colon text) (decimal_number (after_first is_colon text))))

@@ -1,10 +1,10 @@
 -- The first rule that is broken, rule by rule.
 use Rattle.std.proofs.Common.{◌≡◌, ℕ, zero, suc, ◌+◌, ◌<◌, true, eqb, leb, not, ◌&&◌, ◌||◌, List, [], ◌∷◌, ◌++◌, length, get_or, Option, Some, None, refl, sym, ap, ◌∙◌, inl, inr, arith}
 use Rattle.std.proofs.lemmas.Bool.{cases_Bool, and_parts}
-use Rattle.wk_page_rules.specs.Verdict.{max_text}
+use Rattle.wk_page_rules.specs.Verdict.{max_text, max_texts}
 use Rattle.wk_table_rules.specs.Rows.{RevisionColumns, StoreTables}
 use Rattle.wk_table_rules.specs.Changes.{has_page}
-use Rattle.wk_table_rules.specs.GoodStore.{bad_history, bad_version, first_bad, first_bad_after, first_broken, first_in_tables, first_rule, has_good_id, has_good_title, is_good_job, is_good_revision, judged_links, judged_rules, max_texts, texts_len}
+use Rattle.wk_table_rules.specs.GoodStore.{bad_history, bad_version, first_bad, first_bad_after, first_broken, first_in_tables, first_rule, has_good_id, has_good_title, is_good_job, is_good_revision, judged_links, judged_rules, texts_len}
 use Rattle.wk_good_rows.specs.Last.{IsOfPages}
 use Rattle.wk_good_rows.proofs.PageNumbers.{within-of}
 

@@ -1,17 +1,7 @@
 -- The params of a fan job.
 use Rattle.std.specs.Prelude.{ℕ, Bool, false, ◌||◌, bytes_eq, codes, nat_le, List, Option, Some, None}
 use Rattle.wk_text_rules.specs.Decimal.{decimal_number}
-use Rattle.wk_table_rules.specs.JobTable.{FanParams, fan_params}
-use Rattle.wk_table_rules.specs.GoodStore.{max_pages}
-
--- the params are there, with a cursor that a page can have
-abbrev pub is_within : Option FanParams → Bool
-is_within None = false
-is_within (Some params) = nat_le params.cursor max_pages
-
--- they say how far the job reaches, and a cursor that a page can have
-abbrev pub has_good_params : List ℕ → Bool
-has_good_params text = is_within (fan_params text)
+use Rattle.wk_page_rules.specs.Verdict.{max_pages}
 
 -- the word says how far a fan job reaches
 abbrev pub is_reach : List ℕ → Bool

@@ -2,11 +2,11 @@
 ghost use Rattle.std.specs.Prelude.{◌≡◌, ◌<◌, ◌++◌, ◌∷◌, [], true, bytes_eq, nat_lt, IfOk, List, length, slice_index_or, take};
 ghost use Rattle.wk_table_rules.specs.Rows.{JobColumns, StoreTables};
 ghost use Rattle.wk_table_rules.specs.JobTable.{fan_cmd, refresh_cmd};
-ghost use Rattle.wk_table_rules.specs.GoodStore.{first_bad, is_good_fan, is_good_job, is_good_number, is_good_refresh, job_bound};
+ghost use Rattle.wk_table_rules.specs.GoodStore.{first_bad, is_fan_params, is_good_fan, is_good_job, is_good_number, is_good_refresh, job_bound};
 ghost use Rattle.wk_good_rows.specs.Among.{IsTitlesOf, IsTitlesOfJobs};
 ghost use Rattle.wk_good_rows.specs.JobKinds.{AreTitlesOf, is_good_kind};
 ghost use Rattle.wk_good_rows.specs.Order.{IsInOrder};
-ghost use Rattle.wk_good_rows.specs.Params.{has_good_params, is_cursor, is_reach};
+ghost use Rattle.wk_good_rows.specs.Params.{is_cursor, is_reach};
 
 use crate::normal::is_normal;
 use crate::number::row_number;
@@ -55,8 +55,8 @@ fn is_cursor(number: &str) -> bool
 }
 
 /// Whether the params are those of a fan job: how far it reaches, a colon, and its cursor.
-fn has_good_params(params: &str) -> bool
-    ensures { result ≡ has_good_params params.now }
+fn is_fan_params(params: &str) -> bool
+    ensures { result ≡ is_fan_params params.now }
 {
     match params.split_once(':') {
         Some((word, number)) => is_reach(word) && is_cursor(number),
@@ -82,7 +82,7 @@ fn is_good_fan(alloc: Global, fans: &mut TitleSet, job: &JobRow) -> Result<bool,
     ensures good { IfOk result (λ good. (before : List JobColumns) → IsTitlesOfJobs fans.old fan_cmd before → good ≡ is_good_fan before job.now) }
     ensures titles { IfOk result (λ good. (before : List JobColumns) → good ≡ true → IsTitlesOfJobs fans.old fan_cmd before → IsTitlesOfJobs fans.new fan_cmd (before ++ job.now ∷ [])) }
 {
-    if job.job_cmd.as_str() != FAN || !has_good_params(job.job_params.as_str()) {
+    if job.job_cmd.as_str() != FAN || !is_fan_params(job.job_params.as_str()) {
         return Ok(false);
     }
     if !is_normal(alloc, job.job_namespace, &job.job_title)? {

@@ -5,7 +5,7 @@ ghost use Rattle.wk_table_rules.specs.GoodStore.{first_bad, first_in_tables, has
 ghost use Rattle.wk_good_rows.specs.FromPage.{is_from_page};
 ghost use Rattle.wk_good_rows.specs.Order.{IsInOrder};
 
-use crate::normal::{is_normal, is_real};
+use crate::normal::{is_normal, is_page_title};
 use crate::number::{has_page, page_place, row_number};
 use crate::order::is_behind;
 use std::alloc::Global;
@@ -44,7 +44,7 @@ fn is_good_link(
     if !is_from_page(tables, row) || !is_behind(rows, place) {
         return Ok(false);
     }
-    is_real(alloc, row.namespace, &row.title)
+    is_page_title(alloc, row.namespace, &row.title)
 }
 
 /// Whether the row at this place is of a page, its category is a normal title, and it stands behind all before it.
@@ -83,7 +83,7 @@ fn is_good_redirect(
     if !has_page(&tables.pages, row.rd_from) || !is_behind(rows, place) {
         return Ok(false);
     }
-    is_real(alloc, row.rd_namespace, &row.rd_title)
+    is_page_title(alloc, row.rd_namespace, &row.rd_title)
 }
 
 /// The first row of a link table that isn't good.

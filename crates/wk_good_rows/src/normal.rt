@@ -1,8 +1,7 @@
 //! Whether the title of a row is normal: whether its shown form names it.
 ghost use Rattle.std.specs.Prelude.{◌≡◌, ◌++◌, string_bytes, IfOk, OnOk};
-ghost use Rattle.wk_text_rules.specs.Titles.{namespace_name, shown, with_spaces};
+ghost use Rattle.wk_text_rules.specs.Titles.{namespace_name, shown, with_spaces, is_normal, is_page_title};
 ghost use Rattle.wk_title.specs.Shown.{with_space, shown_namespace};
-ghost use Rattle.wk_table_rules.specs.GoodStore.{is_normal, is_real};
 
 use std::alloc::Global;
 use wk_bytes::Text;
@@ -71,8 +70,8 @@ pub fn is_normal(alloc: Global, namespace: i64, key: &Text) -> Result<bool, Memo
 }
 
 /// Whether the title is one that a page can have.
-pub fn is_real(alloc: Global, namespace: i64, key: &Text) -> Result<bool, Memory>
-    ensures { IfOk result (λ answer. answer ≡ is_real (record { ns = namespace; key = key.now })) }
+pub fn is_page_title(alloc: Global, namespace: i64, key: &Text) -> Result<bool, Memory>
+    ensures { IfOk result (λ answer. answer ≡ is_page_title (record { ns = namespace; key = key.now })) }
 {
     if namespace < 0 {
         return Ok(false);

@@ -1,10 +1,11 @@
 //! The rules of the table page alone: numbers and titles.
 ghost use Rattle.std.specs.Prelude.{◌≡◌, ◌==◌, ◌&&◌, ◌++◌, ◌∷◌, [], true, None, nat_le, IfOk, List};
 ghost use Rattle.wk_table_rules.specs.Rows.{PageColumns};
-ghost use Rattle.wk_table_rules.specs.GoodStore.{first_bad, has_good_id, has_good_title, max_pages};
+ghost use Rattle.wk_page_rules.specs.Verdict.{max_pages};
+ghost use Rattle.wk_table_rules.specs.GoodStore.{first_bad, has_good_id, has_good_title};
 ghost use Rattle.wk_good_rows.specs.Among.{IsTitlesOf};
 
-use crate::normal::is_real;
+use crate::normal::is_page_title;
 use crate::number::row_number;
 use crate::titles::TitleSet;
 use std::alloc::Global;
@@ -39,7 +40,7 @@ fn is_good_title(alloc: Global, titles: &mut TitleSet, page: &PageRow) -> Result
     ensures good { IfOk result (λ good. (before : List PageColumns) → IsTitlesOf titles.old before → good ≡ has_good_title before page.now) }
     ensures titles { IfOk result (λ good. (before : List PageColumns) → good ≡ true → IsTitlesOf titles.old before → IsTitlesOf titles.new (before ++ page.now ∷ [])) }
 {
-    if !is_real(alloc, page.page_namespace, &page.page_title)? {
+    if !is_page_title(alloc, page.page_namespace, &page.page_title)? {
         return Ok(false);
     }
     let is_new = titles.add(page.page_namespace, &page.page_title)?;

@@ -133,7 +133,8 @@ fn known_answer(known: Known, left: &[u8]) -> Option<Next>
 ///
 /// The checks of a head, the limits and the statuses are those of RFC 9112 in this project's profile. It is seen as the
 /// bytes that are left: those that were pushed and don't belong to a message that was given. What it
-/// answers depends on these alone, so the requests are the same however the stream is cut into pieces.
+/// answers depends on these alone, so the requests are the same however the stream is cut into pieces. Of the messages
+/// that were given it keeps at most as many bytes as are left.
 #[derive(Debug, Drop)]
 pub struct Feed {
     buffer: Vec<u8>,
@@ -142,14 +143,14 @@ pub struct Feed {
 }
 
 impl Model for Feed {
-    ghost use Rattle.std.specs.Prelude.{ℕ, ◌≤◌, List, length, drop};
+    ghost use Rattle.std.specs.Prelude.{ℕ, ◌+◌, ◌≤◌, List, length, drop};
     ghost use Rattle.wk_http.specs.Feed.{IsKnown};
 
     ghost Value = { List ℕ };
 
     ghost view = { λ f. drop f.start f.buffer.items };
 
-    ghost invariant = { λ f. (f.start ≤ length f.buffer.items) × IsKnown (drop f.start f.buffer.items) f.known };
+    ghost invariant = { λ f. (f.start + f.start ≤ length f.buffer.items) × IsKnown (drop f.start f.buffer.items) f.known };
 }
 
 impl Feed {
@@ -171,23 +172,11 @@ impl Feed {
         self.start == self.buffer.len()
     }
 
-    /// Moves the bytes that are left to the front of the buffer, where they are fewer than those before them. These are
-    /// moved only once, so all moves together are linear in the bytes that were pushed.
-    fn compact(&mut self)
-        ensures { self.new ≡ self.old }
-    {
-        if self.start > self.buffer.len() - self.start {
-            drop_front(&mut self.buffer, self.start);
-            self.start = 0;
-        }
-    }
-
     /// Takes the next piece of the stream. After an `Err` the piece isn't taken.
     pub fn push(&mut self, piece: &[u8]) -> Result<(), Memory>
         ensures ok { OnOk result (self.new ≡ self.old ++ piece.now) }
         ensures err { OnErr result (self.new ≡ self.old) }
     {
-        self.compact();
         self.buffer.extend_from_slice(piece)?;
         Ok(())
     }
@@ -204,7 +193,7 @@ impl Feed {
             return Ok(next);
         }
         let step = next_step(*self.buffer.allocator(), left)?;
-        self.start += step.count;
+        self.start = compact(&mut self.buffer, self.start + step.count);
         self.known = step.known;
         Ok(step.next)
     }
@@ -217,4 +206,19 @@ fn drop_front(bytes: &mut Vec<u8>, count: usize)
 {
     bytes.rotate_left(count);
     bytes.truncate(bytes.len() - count);
+}
+
+/// Moves the bytes from `start` on to the front of the buffer, where they are fewer than those before them, and answers
+/// where they begin then. Each move goes over fewer bytes than twice those that it takes away, so all moves together are
+/// linear in the bytes that were pushed.
+fn compact(buffer: &mut Vec<u8>, start: usize) -> usize
+    requires { start ≤ length buffer.old.items }
+    ensures left { drop result buffer.new.items ≡ drop start buffer.old.items }
+    ensures few { result + result ≤ length buffer.new.items }
+{
+    if start <= buffer.len() - start {
+        return start;
+    }
+    drop_front(buffer, start);
+    0
 }

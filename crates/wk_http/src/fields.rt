@@ -40,12 +40,6 @@ fn same_in_any_case(a: &[u8], b: &[u8]) -> bool
     a.eq_ignore_ascii_case(b)
 }
 
-fn begins_with(words: &[u8], text: &[u8]) -> bool
-    ensures { result ≡ begins_with words.now text.now }
-{
-    &text[..words.len().min(text.len())] == words
-}
-
 /// The values of all fields of a name, in order.
 fn values_of<'b>(
     alloc: Global,
@@ -137,7 +131,7 @@ pub(crate) fn asks_to_close(
 fn any_begins_with(words: &[u8], values: &[&[u8]]) -> bool
     ensures { result ≡ list_any (λ value. begins_with words.now value.now) values.now }
 {
-    values.iter().any(|value| begins_with(words, value))
+    values.iter().any(|value| value.starts_with(words))
 }
 
 /// Whether a `Content-Type` says that the body has parts.

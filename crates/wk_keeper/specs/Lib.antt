@@ -1,3 +1,4 @@
+pub mod CallCounts
 pub mod FailKeeper
 pub mod FailVault
 pub mod NamedTables

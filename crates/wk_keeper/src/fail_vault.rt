@@ -2,6 +2,7 @@
 ghost use Rattle.std.specs.Prelude.{◌≡◌, ◌+◌, ◌≤◌, ◌==◌, ◌&&◌, ◌⊎◌, true, length, IfOk, IfSome, OnOk, Some};
 ghost use Rattle.wk_base.specs.Calls.{IsNextToFail, after_failure, after_success, none_made};
 ghost use Rattle.wk_base.specs.Faults.{Rose};
+ghost use Rattle.wk_keeper.specs.CallCounts.{CountsOne};
 ghost use Rattle.wk_keeper.specs.FailKeeper.{calls_of, inner_of};
 ghost use Rattle.wk_keeper.specs.FailVault.{open_calls_of, store_fail_of, vault_of, whole_with};
 
@@ -49,18 +50,24 @@ impl<V: Vault> Vault for FailVault<V> {
 
     ghost opens_whole = { λ v. whole_with (V.opens_whole v.inner) v.store_fail.items };
 
-    ghost faults = { λ v. V.faults v.inner + v.calls.failed };
+    ghost faults = { λ v. V.faults v.inner + v.calls.faults };
+
+    ghost calls = { λ v. Some v.calls.made };
 
     /// The store of the vault within, as one whose calls fail where they are to, unless this call is one that is to fail:
     /// then the vault within isn't touched, and only the counts change.
     fn open(&mut self, name: &str) -> Result<FailKeeper<V::Store>, OpenRefusal>
         ensures given { IfOk result (λ store. IfSome (V.told (vault_of self.old) name.now) (λ kept. V.Store.told (inner_of store) ≡ Some kept)) }
         ensures whole { IfOk result (λ store. whole_with (V.opens_whole (vault_of self.old)) (store_fail_of self.old) name.now ≡ true → (V.Store.is_whole (inner_of store) && length (calls_of store).to_fail == 0) ≡ true) }
-        ensures no_faults { IfOk result (λ store. V.Store.faults (inner_of store) + (calls_of store).failed ≡ 0) }
+        ensures no_faults { IfOk result (λ store. V.Store.faults (inner_of store) + (calls_of store).faults ≡ 0) }
         ensures tells { V.told (vault_of self.new) ≡ V.told (vault_of self.old) }
         ensures tells_whole { whole_with (V.opens_whole (vault_of self.new)) (store_fail_of self.new) ≡ whole_with (V.opens_whole (vault_of self.old)) (store_fail_of self.old) }
-        ensures never_falls { V.faults (vault_of self.old) + (open_calls_of self.old).failed ≤ V.faults (vault_of self.new) + (open_calls_of self.new).failed }
-        ensures cause { result ≡ Err OpenRefusal.Failed → Rose (V.faults (vault_of self.old) + (open_calls_of self.old).failed) (V.faults (vault_of self.new) + (open_calls_of self.new).failed) }
+        ensures never_falls { V.faults (vault_of self.old) + (open_calls_of self.old).faults ≤ V.faults (vault_of self.new) + (open_calls_of self.new).faults }
+        ensures no_fault { OnOk result (V.faults (vault_of self.new) + (open_calls_of self.new).faults ≡ V.faults (vault_of self.old) + (open_calls_of self.old).faults) }
+        ensures cause { result ≡ Err OpenRefusal.Failed → Rose (V.faults (vault_of self.old) + (open_calls_of self.old).faults) (V.faults (vault_of self.new) + (open_calls_of self.new).faults) }
+        ensures one_call { OnOk result (CountsOne (Some (open_calls_of self.old).made) (Some (open_calls_of self.new).made)) }
+        ensures failed_call { result ≡ Err OpenRefusal.Failed → CountsOne (Some (open_calls_of self.old).made) (Some (open_calls_of self.new).made) }
+        ensures no_call { result ≡ Err OpenRefusal.Memory → Some (open_calls_of self.new).made ≡ Some (open_calls_of self.old).made }
 
         ensures fails { IsNextToFail (open_calls_of self.old) → result ≡ Err OpenRefusal.Failed }
         ensures failed { IsNextToFail (open_calls_of self.old) → open_calls_of self.new ≡ after_failure (open_calls_of self.old) }
@@ -69,6 +76,9 @@ impl<V: Vault> Vault for FailVault<V> {
         ensures counted { OnOk result (open_calls_of self.new ≡ after_success (open_calls_of self.old)) }
         ensures passed_on { ¬ IsNextToFail (open_calls_of self.old) → result ≡ Err OpenRefusal.Failed → open_calls_of self.new ≡ after_success (open_calls_of self.old) }
         ensures memory { result ≡ Err OpenRefusal.Memory → open_calls_of self.new ≡ open_calls_of self.old }
+        ensures one_call_within { OnOk result (CountsOne (V.calls (vault_of self.old)) (V.calls (vault_of self.new))) }
+        ensures failed_call_within { ¬ IsNextToFail (open_calls_of self.old) → result ≡ Err OpenRefusal.Failed → CountsOne (V.calls (vault_of self.old)) (V.calls (vault_of self.new)) }
+        ensures no_call_within { result ≡ Err OpenRefusal.Memory → V.calls (vault_of self.new) ≡ V.calls (vault_of self.old) }
         ensures store_calls { IfOk result (λ store. calls_of store ≡ none_made (store_fail_of self.old)) }
         ensures store_fail { store_fail_of self.new ≡ store_fail_of self.old }
     {

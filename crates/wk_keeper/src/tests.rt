@@ -1,4 +1,4 @@
-// What no clause says: that calls succeed where memory is ample, and what a generic caller sees.
+// What no clause says: that calls succeed where memory is ample, what a generic caller sees, and the texts of refusals.
 ghost use Rattle.std.specs.Prelude.{◌≡◌, ◌∷◌, [], IfOk};
 ghost use Rattle.wk_table_rules.specs.Changes.{set_version};
 
@@ -96,5 +96,23 @@ fn listed_calls_of_a_vault_fail(rt: HostRuntime) -> Result<(), Fail> {
     let mut store = vault.open("")?;
     assert_eq!(rt; loaded(&mut store), Err(KeeperRefusal::Failed));
     assert_eq!(rt; loaded(&mut store), Ok(8));
+    Ok(())
+}
+
+#[test]
+fn the_texts_of_refusals(rt: HostRuntime) -> Result<(), Fail> {
+    let alloc = rt.alloc();
+    for (refusal, text) in [
+        (KeeperRefusal::Failed, "the store failed"),
+        (KeeperRefusal::Memory, "out of memory"),
+    ] {
+        assert_eq!(rt; refusal.to_string(alloc)?.as_str(), text);
+    }
+    for (refusal, text) in [
+        (OpenRefusal::Failed, "the store can't be opened"),
+        (OpenRefusal::Memory, "out of memory"),
+    ] {
+        assert_eq!(rt; refusal.to_string(alloc)?.as_str(), text);
+    }
     Ok(())
 }

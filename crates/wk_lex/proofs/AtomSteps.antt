@@ -5,8 +5,8 @@ use Rattle.std.proofs.lemmas.List.Elements.{All-nil, All-cons}
 use Rattle.std.specs.List.{All, AllByRecursion}
 use Rattle.wk_text_rules.specs.Shapes.{Shape, Span, exactly, first_that_fits, ◌or_else◌}
 use Rattle.wk_tree_laws.proofs.AtomLemmas.{IsSourceOf, atoms-sources}
-use Rattle.wk_tree_rules.specs.Atoms.{after_newline, sealed_element, ignored_element, silent_tag, run_of_marks, atom_shapes, atom_at, atoms}
-use Rattle.wk_tree_rules.specs.Reduction.{Marks, braces, brackets, marks_of, opening_mark, closing_mark}
+use Rattle.wk_tree_rules.specs.Atoms.{after_newline, sealed_element, ignored_element, silent_tag, run_of_delimiters, atom_shapes, atom_at, atoms}
+use Rattle.wk_tree_rules.specs.Reduction.{Delimiter, braces, brackets, delimiters_of, opening_delimiter, closing_delimiter}
 use Rattle.wk_tree_rules.specs.Tags.{comment, line_of_comments}
 use Rattle.wk_tree_rules.specs.declared.AtomKind.{AtomKind}
 use Rattle.wk_tree_rules.specs.declared.AtomKind.TheVariants.{LineComment, Comment, Sealed, Ignored, Tag, Open, Close, Bar, Equals, Byte}
@@ -36,7 +36,7 @@ module _ (mode : Mode) (text : List ℕ) (at : ℕ) where
   NotAt shape = EndsAt shape text at None
 
   pub byte-atom : at < length text → NotAt (after_newline (byte_before at text) line_of_comments) → NotAt comment → NotAt sealed_element → NotAt (ignored_element mode) → NotAt (silent_tag mode)
-      → NotAt (run_of_marks 123 or_else run_of_marks 91) → NotAt (run_of_marks 125 or_else run_of_marks 93) → NotAt (exactly (codes "|")) → NotAt (exactly (codes "="))
+      → NotAt (run_of_delimiters 123 or_else run_of_delimiters 91) → NotAt (run_of_delimiters 125 or_else run_of_delimiters 93) → NotAt (exactly (codes "|")) → NotAt (exactly (codes "="))
       → IsAtomAt mode text at (Byte, at + 1)
   byte-atom within a b c d e f g h i = record {
     fits =
@@ -48,11 +48,11 @@ module _ (mode : Mode) (text : List ℕ) (at : ℕ) where
 
   -- the same where some shapes were looked for in what the text is seen as
   pub byte-seen : at < length text → (whole : List ℕ) → whole ≡ text → EndsAt (after_newline (byte_before at whole) line_of_comments) whole at None → EndsAt comment whole at None → NotAt sealed_element → NotAt (ignored_element mode) → NotAt (silent_tag mode)
-      → EndsAt (run_of_marks 123 or_else run_of_marks 91) whole at None → EndsAt (run_of_marks 125 or_else run_of_marks 93) whole at None → EndsAt (exactly (codes "|")) whole at None → EndsAt (exactly (codes "=")) whole at None
+      → EndsAt (run_of_delimiters 123 or_else run_of_delimiters 91) whole at None → EndsAt (run_of_delimiters 125 or_else run_of_delimiters 93) whole at None → EndsAt (exactly (codes "|")) whole at None → EndsAt (exactly (codes "=")) whole at None
       → IsAtomAt mode text at (Byte, at + 1)
   byte-seen within whole same a b c d e f g h i =
       byte-atom within (subst (λ t. EndsAt (after_newline (byte_before at t) line_of_comments) t at None) same a) (here comment b) c d e
-      (here (run_of_marks 123 or_else run_of_marks 91) f) (here (run_of_marks 125 or_else run_of_marks 93) g) (here (exactly (codes "|")) h) (here (exactly (codes "=")) i)
+      (here (run_of_delimiters 123 or_else run_of_delimiters 91) f) (here (run_of_delimiters 125 or_else run_of_delimiters 93) g) (here (exactly (codes "|")) h) (here (exactly (codes "=")) i)
     where
       here : (shape : Shape ℕ) → EndsAt shape whole at None → NotAt shape
       here shape none = moved shape whole text at None same none
@@ -91,7 +91,7 @@ module _ (mode : Mode) (text : List ℕ) where
 
   -- ---- runs
 
-  either-mark : (side : Marks → ℕ) (source : List ℕ) (marks : Marks) → 2 ≤ length source → replicate (length source) (side marks) ≡ source → IsRunOf (side braces) source ⊎ IsRunOf (side brackets) source
+  either-mark : (side : Delimiter → ℕ) (source : List ℕ) (marks : Delimiter) → 2 ≤ length source → replicate (length source) (side marks) ≡ source → IsRunOf (side braces) source ⊎ IsRunOf (side brackets) source
   either-mark side source braces long e = inl (record { long = long; marks = sym e })
   either-mark side source brackets long e = inr (record { long = long; marks = sym e })
 
@@ -101,8 +101,8 @@ module _ (mode : Mode) (text : List ℕ) where
   run-by_kind Sealed source h = tt
   run-by_kind Ignored source h = tt
   run-by_kind Tag source h = tt
-  run-by_kind Open source h = either-mark opening_mark source (marks_of source) h.long h.marks
-  run-by_kind Close source h = either-mark closing_mark source (marks_of source) h.long h.marks
+  run-by_kind Open source h = either-mark opening_delimiter source (delimiters_of source) h.long h.delimiters
+  run-by_kind Close source h = either-mark closing_delimiter source (delimiters_of source) h.long h.delimiters
   run-by_kind Bar source h = tt
   run-by_kind Equals source h = tt
   run-by_kind Byte source h = tt

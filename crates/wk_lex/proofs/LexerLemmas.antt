@@ -1,5 +1,5 @@
 -- Atoms that are read one after another.
-use Rattle.std.proofs.Common.{◌≡◌, ◌≢◌, ℕ, zero, suc, ◌+◌, ◌-◌, ◌<◌, ◌≤◌, ◌==◌, inl, inr, false, if◌then◌else◌, List, [], ◌∷◌, ◌++◌, length, get_or, take, drop, Option, None, refl, ap, ap₂, sym, subst, ◌∙◌, arith, append_assoc, length-drop, length-take}
+use Rattle.std.proofs.Common.{◌≡◌, ◌≢◌, ℕ, zero, suc, ◌+◌, ◌-◌, ◌<◌, ◌≤◌, ◌==◌, inl, inr, Bool, true, false, not, if◌then◌else◌, List, [], ◌∷◌, ◌++◌, length, get_or, take, drop, Option, None, refl, ap, ap₂, sym, subst, ◌∙◌, arith, append_assoc, length-drop, length-take}
 use Rattle.std.proofs.lemmas.Bool.Decides.{nat_tests}
 use Rattle.std.proofs.lemmas.List.{drop-drop, drop_more, take_more, get_or-drop}
 use Rattle.std.specs.Prelude.{slice_index_or}
@@ -11,7 +11,7 @@ use Rattle.wk_tree_rules.specs.Tags.{line_of_comments}
 use Rattle.wk_tree_rules.specs.declared.AtomKind.{AtomKind}
 use Rattle.wk_tree_rules.specs.declared.AtomKind.TheVariants.{Byte}
 use Rattle.wk_tree_rules.specs.declared.Mode.{Mode}
-use Rattle.wk_lex.specs.Ahead.{atoms_from, byte_atoms, AreSources, IsNextAt, AreBytes}
+use Rattle.wk_lex.specs.Ahead.{atoms_from, byte_atoms, AreSources, IsLongest, IsNextAt, AreBytes}
 use Rattle.wk_lex.specs.Places.{EndsAt, byte_before}
 use Rattle.wk_lex.specs.Spans.{source_in, span_of, IsAtomAt, IsPlain, IsRunByKind}
 use Rattle.wk_lex.proofs.AtomSteps.{atom_from, run-by_kind}
@@ -25,6 +25,10 @@ byte_atoms-append at [] b =
 byte_atoms-append at (x ∷ xs) b =
     let same : at + 1 + length xs ≡ at + suc (length xs) = omega arith in
     ap (λ t. record { kind = Byte; start = at; source = x ∷ [] } ∷ t) (byte_atoms-append (at + 1) xs b ∙ ap (λ n. byte_atoms (at + 1) xs ++ record { kind = Byte; start = n; source = b ∷ [] } ∷ []) same)
+
+pub marked_byte : (mark : Bool) → false ≡ not mark → mark ≡ true
+marked_byte true e = refl
+marked_byte false e = absurd (cc)
 
 module _ (mode : Mode) (text : List ℕ) where
   pub atom-first : (at : ℕ) (next : AtomKind × ℕ) → IsAtomAt mode text at next → atoms_from mode text at ≡ span_of text (atom_from next.0 at next.1) ∷ atoms_from mode text next.1
@@ -132,20 +136,22 @@ module _ (mode : Mode) (text : List ℕ) where
                 within = record { some = omega (arith, here.within.0); bounded = omega (arith, here.within.0, here.within.1) };
                 marks = run-by_kind mode text kind (source_in text (atom_from kind at end)) sources.0;
                 bytes = λ is. absurd (other is);
+                longest = λ is. absurd (other is);
                 other = λ _. first;
               },
               sources.1,
             );
       }
 
-  pub next-bytes : (at : ℕ) (kind : AtomKind) (end : ℕ) → kind ≡ Byte → AreBytes mode text at end → IsNextAt mode text at (kind, end)
-  next-bytes at kind end is k = record {
+  pub next-bytes : (at : ℕ) (kind : AtomKind) (end : ℕ) → kind ≡ Byte → AreBytes mode text at end → IsLongest text at end → IsNextAt mode text at (kind, end)
+  next-bytes at kind end is k longest = record {
     within = k.within;
     next = λ all. (
       record {
         within = record { some = omega (arith, k.within.0); bounded = omega (arith, k.within.0, k.within.1) };
         marks = subst (λ x. IsRunByKind x (source_in text (atom_from kind at end))) (sym is) tt;
         bytes = λ _. (k.atoms, k.joined);
+        longest = λ _. subst (IsLongest text at) (let same : end ≡ at + (end - at) = omega (arith, k.within.0) in same) longest;
         other = λ ne. absurd (ne is);
       },
       all-back (λ (s : Span AtomKind ℕ). IsSourceOf s.kind s.source) (byte_atoms at (take (end - at) (drop at text))) (atoms_from mode text end) (subst AreSources k.atoms all),

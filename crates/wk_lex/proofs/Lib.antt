@@ -3,6 +3,7 @@ pub mod ElementLemmas
 pub mod LexerLemmas
 pub mod NameLemmas
 pub mod PartSteps
+pub mod NearestLemmas
 pub mod PlaceLemmas
 pub mod PlainLemmas
 pub mod SpanSteps

@@ -1,7 +1,7 @@
 -- Places at which a plain byte stands.
 use Rattle.std.proofs.Common.{◌≡◌, ◌≢◌, ℕ, suc, ◌+◌, ◌<◌, ◌==◌, Bool, true, false, ◌&&◌, if◌then◌else◌, List, [], ◌∷◌, length, get_or, take, drop, codes, Option, Some, None, refl, ap, subst, ◌∙◌, eqb-true, drop-cons}
 use Rattle.wk_text_rules.specs.Shapes.{exactly, in_any_case, run_of, ◌and_then◌, to_the_end, up_to}
-use Rattle.wk_tree_rules.specs.Atoms.{after_newline, sealed_element, ignored_element, any_tag, silent_tag, run_of_marks}
+use Rattle.wk_tree_rules.specs.Atoms.{after_newline, sealed_element, ignored_element, any_tag, silent_tag, run_of_delimiters}
 use Rattle.wk_tree_rules.specs.Tags.{closed_comment, comment, line_of_comments, tag_rest, opening_tag, end_tag, element}
 use Rattle.wk_tree_rules.specs.declared.AtomKind.TheVariants.{Byte}
 use Rattle.wk_tree_rules.specs.declared.Mode.{Mode}
@@ -31,7 +31,7 @@ module _ (text : List ℕ) (at : ℕ) (within : at < length text) where
   not-word : (w : ℕ) (ws : List ℕ) → get_or text at 0 ≢ w → NotAt (exactly (w ∷ ws))
   not-word w ws ne = record { fits = ap (exactly (w ∷ ws)) (drop-cons text at 0 within) ∙ other-word w (get_or text at 0) ws (drop (suc at) text) ne; within = tt }
 
-  not-run : (mark : ℕ) → get_or text at 0 ≢ mark → NotAt (run_of_marks mark)
+  not-run : (mark : ℕ) → get_or text at 0 ≢ mark → NotAt (run_of_delimiters mark)
   not-run mark ne = and_then-none text (exactly (mark ∷ mark ∷ [])) (run_of (λ b. b == mark)) at (not-word mark (mark ∷ []) ne)
 
   module _ (ne : get_or text at 0 ≢ 60) where
@@ -67,8 +67,8 @@ module _ (text : List ℕ) (at : ℕ) (within : at < length text) where
   plain-atom : (mode : Mode) → NotAt (after_newline (byte_before at text) line_of_comments) → IsPlain (get_or text at 0) → IsAtomAt mode text at (Byte, at + 1)
   plain-atom mode line plain =
       byte-atom mode text at within line (no-comment plain.angle) (no-sealed plain.angle) (no-ignored plain.angle mode) (no-silent plain.angle mode)
-      (or_else-second text (run_of_marks 123) (run_of_marks 91) at None (not-run 123 plain.open_brace) (not-run 91 plain.open_bracket))
-      (or_else-second text (run_of_marks 125) (run_of_marks 93) at None (not-run 125 plain.close_brace) (not-run 93 plain.close_bracket))
+      (or_else-second text (run_of_delimiters 123) (run_of_delimiters 91) at None (not-run 123 plain.open_brace) (not-run 91 plain.open_bracket))
+      (or_else-second text (run_of_delimiters 125) (run_of_delimiters 93) at None (not-run 125 plain.close_brace) (not-run 93 plain.close_bracket))
       (not-word 124 [] plain.bar) (not-word 61 [] plain.equals)
 
 -- the same in what a text is seen as

@@ -1,5 +1,5 @@
 -- Atoms that are read one after another, plain bytes that stand together as one.
-use Rattle.std.specs.Prelude.{◌≡◌, ◌≢◌, ℕ, ◌+◌, ◌-◌, ◌<◌, ◌≤◌, ◌⊎◌, List, [], ◌∷◌, ◌++◌, length, take, drop, slice_index_or}
+use Rattle.std.specs.Prelude.{◌≡◌, ◌≢◌, ℕ, ◌+◌, ◌-◌, ◌<◌, ◌≤◌, ◌⊎◌, true, List, [], ◌∷◌, ◌++◌, length, take, drop, slice_index, slice_index_or}
 use Rattle.std.specs.List.{AllByRecursion}
 use Rattle.wk_text_rules.specs.Shapes.{Span, spans_from}
 use Rattle.wk_tree_laws.proofs.AtomLemmas.{IsSourceOf}
@@ -8,7 +8,7 @@ use Rattle.wk_tree_rules.specs.declared.AtomKind.{AtomKind}
 use Rattle.wk_tree_rules.specs.declared.AtomKind.TheVariants.{Byte}
 use Rattle.wk_tree_rules.specs.declared.Mode.{Mode}
 use Rattle.wk_lex.specs.Places.{byte_before}
-use Rattle.wk_lex.specs.Spans.{source_in, span_of, IsWithin, IsRunWhereMarks}
+use Rattle.wk_lex.specs.Spans.{source_in, span_of, is_mark, IsWithin, IsRunWhereMarks}
 use Rattle.wk_lex.specs.declared.atom.Atom.{Atom}
 
 -- a text that is read, and the atoms of it that are still to come
@@ -29,11 +29,20 @@ byte_atoms at (b ∷ source) = record { kind = Byte; start = at; source = b ∷ 
 abbrev pub IsOneText : List ℕ → Type 0
 IsOneText source = (length source ≡ 1) ⊎ ((slice_index_or source 0 0 ≢ 123) × (slice_index_or source 0 0 ≢ 91))
 
+-- Why bytes that come as one end where they do, so that they are as many as can be: behind a newline a line of comments
+-- may begin, and with a mark an atom.
+pub data IsLongest (text : List ℕ) (at end : ℕ) : Type 0 where
+  one_mark : is_mark (slice_index text at) ≡ true → end ≡ at + 1 → IsLongest text at end
+  behind_newline : slice_index text (end - 1) ≡ 10 → IsLongest text at end
+  before_mark : is_mark (slice_index text end) ≡ true → IsLongest text at end
+  at_the_end : length text ≤ end → IsLongest text at end
+
 -- an atom, and the atoms that are still to come before and after it is read: bytes come as one
 pub record IsNextAtom (text : List ℕ) (before after : List (Span AtomKind ℕ)) (atom : Atom) : Type 0 where
   pub within : IsWithin (length text) atom
   pub marks : IsRunWhereMarks text atom
   pub bytes : atom.kind ≡ Byte → (before ≡ byte_atoms atom.start (source_in text atom) ++ after) × IsOneText (source_in text atom)
+  pub longest : atom.kind ≡ Byte → IsLongest text atom.start (atom.start + atom.len)
   pub other : atom.kind ≢ Byte → before ≡ span_of text atom ∷ after
 
 -- the bytes between two places, each an atom of its own, stand before the atoms behind them

@@ -1,5 +1,6 @@
 -- Atoms as places in a text.
-use Rattle.std.specs.Prelude.{◌≡◌, ◌≢◌, ℕ, ◌+◌, ◌<◌, ◌≤◌, ◌⊎◌, List, [], ◌∷◌, length, take, drop, replicate}
+use Rattle.std.specs.Prelude.{◌≡◌, ◌≢◌, ℕ, ◌+◌, ◌<◌, ◌≤◌, ◌⊎◌, ◌==◌, Bool, List, [], ◌∷◌, length, take, drop, replicate, codes}
+use Rattle.std.specs.List.{list_any}
 use Rattle.wk_text_rules.specs.Shapes.{Span}
 use Rattle.wk_tree_rules.specs.declared.AtomKind.{AtomKind}
 use Rattle.wk_tree_rules.specs.declared.AtomKind.TheVariants.{LineComment, Comment, Sealed, Ignored, Tag, Open, Close, Bar, Equals, Byte}
@@ -55,6 +56,10 @@ IsRunWhereMarks text atom = IsRunByKind atom.kind (source_in text atom)
 pub record IsAtomAt (mode : Mode) (text : List ℕ) (at : ℕ) (found : AtomKind × ℕ) : Type 0 where
   pub fits : atom_at mode (byte_before at text) (drop at text) ≡ (found.0, drop found.1 text)
   pub within : (at < found.1) × (found.1 ≤ length text)
+
+-- a byte with which an atom may begin that isn't a line of comments or a byte
+abbrev pub is_mark : ℕ → Bool
+is_mark byte = list_any (λ mark. byte == mark) (codes "<{[}]|=")
 
 -- a byte that no atom begins with, but a line of comments and the atom that is the byte alone
 pub record IsPlain (byte : ℕ) : Type 0 where

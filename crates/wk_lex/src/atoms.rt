@@ -1,9 +1,9 @@
 //! The atoms of a text.
-ghost use Rattle.std.specs.Prelude.{◌≡◌, ◌<◌, ◌≤◌, ◌^◌, length, map, IfOk};
+ghost use Rattle.std.specs.Prelude.{◌≡◌, ◌<◌, ◌≤◌, ◌^◌, length, map, not, IfOk};
 ghost use Rattle.std.specs.Bool.{OnTrue};
 ghost use Rattle.std.specs.List.{All};
 ghost use Rattle.wk_tree_rules.specs.Atoms.{atoms};
-ghost use Rattle.wk_lex.specs.Spans.{span_of, IsAtomAt, IsPlain, IsRow, IsWithin, IsRunWhereMarks};
+ghost use Rattle.wk_lex.specs.Spans.{span_of, is_mark, IsAtomAt, IsPlain, IsRow, IsWithin, IsRunWhereMarks};
 
 use crate::Atom;
 use crate::comment::{comment, whole_line_of_comments};
@@ -16,7 +16,8 @@ use wk_tree_rules::{AtomKind, Mode};
 
 /// Whether no atom but a line of comments or a single byte begins with the byte.
 pub fn is_plain(byte: u8) -> bool
-    ensures { OnTrue result (IsPlain byte) }
+    ensures value { result ≡ not (is_mark byte) }
+    ensures plain { OnTrue result (IsPlain byte) }
 {
     !matches!(byte, b'<' | b'{' | b'[' | b'}' | b']' | b'|' | b'=')
 }

@@ -1,6 +1,6 @@
 //! The atoms of a text one after another.
 ghost use Rattle.std.specs.Prelude.{◌≡◌, ◌+◌, ◌<◌, ◌≤◌, ◌^◌, [], length, MatchOption};
-ghost use Rattle.wk_lex.specs.Ahead.{AreBytes, IsNextAt, IsNextAtom};
+ghost use Rattle.wk_lex.specs.Ahead.{AreBytes, IsLongest, IsNextAt, IsNextAtom};
 ghost use Rattle.wk_lex.specs.Spans.{IsAtomAt};
 ghost use Rattle.wk_tree_rules.specs.Atoms.{atoms};
 ghost use Rattle.wk_tree_rules.specs.declared.AtomKind.TheVariants.{Byte};
@@ -16,7 +16,8 @@ use wk_tree_rules::{AtomKind, Mode};
 /// newline a line of comments may begin.
 fn behind_bytes(text: &[u8], at: usize) -> usize
     requires { at < length text.now }
-    ensures { (mode : ReadingMode) → IsAtomAt mode text.now at (Byte, at + 1) → AreBytes mode text.now at result }
+    ensures bytes { (mode : ReadingMode) → IsAtomAt mode text.now at (Byte, at + 1) → AreBytes mode text.now at result }
+    ensures longest { IsLongest text.now at result }
 {
     let mut end = at + 1;
     if !is_plain(text[at]) {
@@ -78,7 +79,7 @@ impl<'a> Lexer<'a> {
         }
     }
 
-    /// The next atom, or bytes as one, or None where none is to come. Takes no memory; all calls together take time
+    /// The next atom, or bytes as one, as many as can be, or None where none is to come. Takes no memory; all calls together take time
     /// that is linear in the text.
     pub fn next(&mut self) -> Option<Atom>
         ensures text { self.new.text ≡ self.old.text }

@@ -5,6 +5,9 @@ ghost use Rattle.wk_text_rules.specs.Shapes.{exactly, in_any_case, one_of};
 ghost use Rattle.wk_tree_rules.specs.Tags.{is_name_end, is_space_or_tab};
 ghost use Rattle.wk_lex.specs.Places.{EndsAt, RunEndsAt, IsNearest};
 
+use memchr::memmem;
+use wk_bytes::trim_start;
+
 /// The place behind the word, where it stands at the place.
 pub fn word_at(text: &[u8], at: usize, word: &[u8]) -> Option<usize>
     requires within { at ≤ length text.now }
@@ -65,11 +68,7 @@ pub fn behind_blanks(text: &[u8], at: usize) -> usize
     requires { at ≤ length text.now }
     ensures { RunEndsAt is_blank_byte text.now at result }
 {
-    let mut end = at;
-    while end < text.len() && matches!(text[end], b' ' | b'\t' | b'\n' | b'\r') {
-        end += 1;
-    }
-    end
+    text.len() - trim_start(&text[at..]).len()
 }
 
 /// The place behind the bytes at the place that are this mark.
@@ -90,10 +89,8 @@ pub fn nearest(text: &[u8], from: usize, word: &[u8]) -> Option<usize>
     requires some { 0 < length word.now }
     ensures { IsNearest word.now text.now from result }
 {
-    for at in from..text.len() {
-        if let Some(_) = word_at(text, at, word) {
-            return Some(at);
-        }
+    match memmem::find(&text[from..], word) {
+        Some(place) => Some(from + place),
+        None => None,
     }
-    None
 }

@@ -8,13 +8,14 @@ use Rattle.std.proofs.lemmas.Bool.Decides.{Decides-eqb, nat_tests}
 use Rattle.std.proofs.lemmas.List.{drop-drop, get_or-drop, length-drop, length-map, length-take-le, take-map}
 use Rattle.std.proofs.lemmas.List.Sums.{prefix_len-le-length}
 use Rattle.wk_text_rules.specs.Marked.{MarkedByte, plainly, holds_plainly}
-use Rattle.wk_text_rules.specs.Occurrences.{Content, content, bare, labelled, is_label, is_target_byte, most_label}
+use Rattle.wk_text_rules.specs.Occurrences.{Content, content, bare, labelled, is_label, is_plain_target, most_label}
 use Rattle.wk_text_rules.specs.Shapes.{split_at_nearest}
 use Rattle.wk_links.specs.Brackets.{target_end_of, IsClosed, IsBracketsAt, HasNoBrackets, content_in, end_of}
 use Rattle.wk_links.specs.Brackets.{no_opening, no_bar, no_label_end, long_label}
 use Rattle.wk_links.specs.Pairs.{pair_at, NoPair, IsNearestLabelEnd, HasNoLabelEnd}
 use Rattle.wk_links.specs.Parts.{part}
-use Rattle.wk_links.specs.Seen.{seen_byte, seen, is_seen_target}
+use Rattle.wk_links.specs.Seen.{seen_byte, seen}
+use Rattle.wk_text_rules.specs.Targets.{is_target_byte}
 use Rattle.wk_links.specs.declared.brackets.Brackets.{Brackets}
 use Rattle.wk_links.proofs.Words.{one_plainly, plainly_here, plainly_not, prefix_len-seen, pair_at-drop, pair_within, pair_at-take, nearest_at, nearest_none, HasOpening, opening_before}
 
@@ -37,17 +38,17 @@ closed_by target behind = option_or (bare target behind) (labelled target behind
 
 abbrev inside_of : List MarkedByte → Option Content
 inside_of inside =
-    let target = take_while is_target_byte inside in
+    let target = take_while is_plain_target inside in
     closed_by target (drop (length target) inside)
 
 -- the target and what follows it, by their places
 inside_by_places : (out : List MarkedByte) (s : ℕ) → inside_of (drop (s + 2) out) ≡ closed_by (part out (s + 2) (target_end_of (seen out) s)) (drop (target_end_of (seen out) s) out)
 inside_by_places out s =
     let inside = drop (s + 2) out in
-    let n = prefix_len is_target_byte inside in
-    let m = prefix_len is_seen_target (drop (s + 2) (seen out)) in
-    let same : n ≡ m = prefix_len-seen inside ∙ ap (prefix_len is_seen_target) (seen-drop (s + 2) out) in
-    let whole : length (take n inside) ≡ n = length-take-le n inside (prefix_len-le-length is_target_byte inside) in
+    let n = prefix_len is_plain_target inside in
+    let m = prefix_len is_target_byte (drop (s + 2) (seen out)) in
+    let same : n ≡ m = prefix_len-seen inside ∙ ap (prefix_len is_target_byte) (seen-drop (s + 2) out) in
+    let whole : length (take n inside) ≡ n = length-take-le n inside (prefix_len-le-length is_plain_target inside) in
     let size : m ≡ s + 2 + m - (s + 2) = omega arith in
     ap (closed_by (take n inside)) (ap (λ k. drop k inside) (whole ∙ same) ∙ drop-drop m (s + 2) out)
     ∙ ap (λ k. closed_by (take k inside) (drop (s + 2 + m) out)) (same ∙ size)

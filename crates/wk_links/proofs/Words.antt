@@ -6,10 +6,11 @@ use Rattle.std.proofs.lemmas.Bool.{cases_Bool, cases_lt, false≢true}
 use Rattle.std.proofs.lemmas.Bool.Decides.{same_from_decides, Decides-eqb}
 use Rattle.std.proofs.lemmas.List.{get_or-drop, get_or_past, get_or-take, length-take}
 use Rattle.wk_text_rules.specs.Marked.{MarkedByte, plain, sealed, marked_eq, plainly, holds_plainly}
-use Rattle.wk_text_rules.specs.Occurrences.{is_target_byte}
+use Rattle.wk_text_rules.specs.Occurrences.{is_plain_target}
 use Rattle.wk_text_rules.specs.Shapes.{split_at_nearest}
 use Rattle.wk_links.specs.Pairs.{pair_at}
-use Rattle.wk_links.specs.Seen.{seen_byte, seen, is_seen_target}
+use Rattle.wk_links.specs.Seen.{seen_byte, seen}
+use Rattle.wk_text_rules.specs.Targets.{is_target_byte}
 
 eq_comm : (a b : ℕ) → (a == b) ≡ (b == a)
 eq_comm a b = same_from_decides {P = a ≡ b} _ _ (Decides-eqb a b) (λ t. sym ((Decides-eqb b a).0 t), λ e. (Decides-eqb b a).1 (sym e))
@@ -35,12 +36,12 @@ two_plainly b (m ∷ n ∷ out) h z =
       | inr other ↦ rw other refl
     ])
 
-seen_target : (m : MarkedByte) → is_target_byte m ≡ is_seen_target (seen_byte m)
+seen_target : (m : MarkedByte) → is_plain_target m ≡ is_target_byte (seen_byte m)
 seen_target (plain b) = refl
 seen_target (sealed b) = refl
 
 -- a target is as long as it is seen
-pub prefix_len-seen : (out : List MarkedByte) → prefix_len is_target_byte out ≡ prefix_len is_seen_target (seen out)
+pub prefix_len-seen : (out : List MarkedByte) → prefix_len is_plain_target out ≡ prefix_len is_target_byte (seen out)
 prefix_len-seen [] = refl
 prefix_len-seen (m ∷ out) = rw (seen_target m, prefix_len-seen out) refl
 

@@ -6,11 +6,11 @@ use Rattle.wk_text_rules.specs.Occurrences.{Content, most_label}
 use Rattle.wk_links.specs.declared.brackets.Brackets.{Brackets}
 use Rattle.wk_links.specs.Pairs.{pair_at, IsNearestLabelEnd, HasNoLabelEnd}
 use Rattle.wk_links.specs.Parts.{part}
-use Rattle.wk_links.specs.Seen.{is_seen_target}
+use Rattle.wk_text_rules.specs.Targets.{is_target_byte}
 
 -- the place behind the target of brackets that begin at a place
 abbrev pub target_end_of : List ℕ → ℕ → ℕ
-target_end_of bytes start = start + 2 + prefix_len is_seen_target (drop (start + 2) bytes)
+target_end_of bytes start = start + 2 + prefix_len is_target_byte (drop (start + 2) bytes)
 
 -- `]]` stands behind the target, or a bar and a label that isn't too long
 abbrev pub IsClosed : List ℕ → ℕ → Option ℕ → Type 0

@@ -1,6 +1,5 @@
 -- An output as the search for links sees it (own).
-use Rattle.std.specs.Prelude.{ℕ, Bool, ◌==◌, ◌||◌, not, List, map, codes}
-use Rattle.std.specs.List.{list_any}
+use Rattle.std.specs.Prelude.{ℕ, List, map}
 use Rattle.wk_text_rules.specs.Marked.{MarkedByte, plain, sealed}
 
 -- A sealed byte is seen as a newline. Neither is a byte of a target, or one of the brackets or the bar.
@@ -10,7 +9,3 @@ seen_byte (sealed b) = 10
 
 abbrev pub seen : List MarkedByte → List ℕ
 seen out = map seen_byte out
-
--- a byte that is seen in a target
-abbrev pub is_seen_target : ℕ → Bool
-is_seen_target b = not (b == 10 || list_any (λ c. b == c) (codes "[]|{}<>"))

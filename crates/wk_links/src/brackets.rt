@@ -1,9 +1,11 @@
 //! The brackets of a link in the bytes of an output.
 ghost use Rattle.std.specs.Prelude.{◌≡◌, ◌+◌, ◌≤◌, ◌<◌, ℕ, drop, length, slice_index, IfSome, IfNone};
 ghost use Rattle.std.specs.List.{prefix_len};
+ghost use Rattle.wk_text_rules.specs.Targets.{is_target_byte};
 ghost use Rattle.wk_links.specs.Pairs.{pair_at, IsNearestLabelEnd, HasNoLabelEnd};
-ghost use Rattle.wk_links.specs.Seen.{is_seen_target};
 ghost use Rattle.wk_links.specs.Brackets.{IsBracketsAt, HasNoBrackets};
+
+use wk_title::target_len;
 
 /// The most bytes of a label (own).
 const MOST_LABEL: usize = 2_097_152;
@@ -38,24 +40,13 @@ fn is_pair(seen: &[u8], at: usize, byte: u8) -> bool
     seen.len() - at >= 2 && seen[at] == byte && seen[at + 1] == byte
 }
 
-/// Whether a byte can stand in a target: each but the brackets, braces, the bar, the angle brackets and the newline.
-fn is_target(byte: u8) -> bool
-    ensures { result ≡ is_seen_target byte }
-{
-    !matches!(byte, b'\n' | b'[' | b']' | b'|' | b'{' | b'}' | b'<' | b'>')
-}
-
 /// The place behind the target that begins at a place. No link can begin within a target, so no byte is read for two.
 fn target_end(seen: &[u8], from: usize) -> usize
     requires { from ≤ length seen.now }
-    ensures value { result ≡ from + prefix_len is_seen_target (drop from seen.now) }
+    ensures value { result ≡ from + prefix_len is_target_byte (drop from seen.now) }
     ensures within { result ≤ length seen.now }
 {
-    let mut end = from;
-    while end < seen.len() && is_target(seen[end]) {
-        end += 1;
-    }
-    end
+    from + target_len(&seen[from..])
 }
 
 /// The place behind the label that begins at a place, where the nearest `]]` is nearer than any `[[`. It reads up to the

@@ -1,10 +1,11 @@
 //! What a link's brackets link to.
-ghost use Rattle.std.specs.Prelude.{◌≡◌, ◌+◌, ◌==◌, ◌≤◌, ◌^◌, ◌<◌, ℕ, not, filter, IfOk, option_map, codes, length, string_bytes, pos};
+ghost use Rattle.std.specs.Prelude.{◌≡◌, ◌+◌, ◌==◌, false, ◌≤◌, ◌^◌, ◌<◌, ℕ, not, filter, IfOk, option_map, codes, length, string_bytes, pos};
 ghost use Rattle.std.specs.List.{starts_with};
 ghost use Rattle.std.specs.Option.{ForSome, option_copied};
 ghost use Rattle.wk_text_rules.specs.Blank.{trimmed};
 ghost use Rattle.wk_text_rules.specs.Marked.{all_plain};
 ghost use Rattle.wk_text_rules.specs.Occurrences.{link_by, link_of, prefix_from};
+ghost use Rattle.wk_text_rules.specs.Titles.{is_virtual};
 ghost use Rattle.wk_links.specs.Found.{link_in};
 ghost use Rattle.wk_links.specs.Newlines.{without_newlines};
 
@@ -12,7 +13,7 @@ use crate::found::What;
 use std::alloc::Global;
 use wk_bytes::{Text, trim};
 use wk_memory::Memory;
-use wk_title::{Title, TitleRefusal, normalize};
+use wk_title::{Title, page_named};
 
 const CATEGORY: i8 = 14;
 
@@ -58,15 +59,13 @@ fn prefix(alloc: Global, label: Option<&str>) -> Result<Text, Memory>
     }
 }
 
-/// What a target with a label links to, where it names a title.
+/// What a target with a label links to, where it names a page.
 fn what_by(alloc: Global, target: &str, label: Option<&str>, title: Title) -> Result<What, Memory>
-    requires { ForSome (option_copied label) (λ bytes. length bytes < 2 ^ 32) }
+    requires page { is_virtual title ≡ false }
+    requires label { ForSome (option_copied label) (λ bytes. length bytes < 2 ^ 32) }
     ensures { IfOk result
         (λ what. link_in what ≡ link_by target.now (option_map all_plain (option_copied label.entry)) title) }
 {
-    if title.is_virtual() {
-        return Ok(What::Nothing);
-    }
     if has_leading_colon(target) {
         return Ok(What::Page(title));
     }
@@ -86,9 +85,8 @@ pub fn what(alloc: Global, target: &str, label: Option<&str>) -> Result<What, Me
     ensures { IfOk result
         (λ what. link_in what ≡ link_of target.now (option_map all_plain (option_copied label.entry))) }
 {
-    match normalize(alloc, target, 0) {
-        Ok(title) => what_by(alloc, target, label, title),
-        Err(TitleRefusal::Illegal) => Ok(What::Nothing),
-        Err(TitleRefusal::Memory) => Err(Memory),
+    match page_named(alloc, target)? {
+        Some(title) => what_by(alloc, target, label, title),
+        None => Ok(What::Nothing),
     }
 }

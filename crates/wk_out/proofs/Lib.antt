@@ -1,3 +1,4 @@
+pub mod BlankLemmas
 pub mod ErrorLaws
 pub mod PlainLaws
 pub mod RunLaws

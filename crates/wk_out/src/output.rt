@@ -5,12 +5,13 @@ ghost use Rattle.wk_text_rules.specs.Marked.{all_plain, all_sealed, has_error, i
 ghost use Rattle.wk_out.specs.Kept.{without_blank_start, without_blank_end};
 ghost use Rattle.wk_out.specs.Runs.{AreMaximal, joined, marked};
 
-use crate::blank::{is_blank, trim_end, trim_start};
+use crate::blank::{trim_end, trim_start};
 use crate::error_text::shows_error;
 use crate::run::{Run, add_runs, is_any_sealed};
 use crate::runs::Runs;
 use std::alloc::Global;
 use std::marker::Model;
+use wk_bytes::is_blank;
 use wk_memory::Memory;
 
 /// An output of an expansion: a list of bytes, each plain or sealed. It is UTF-8 as a whole, and so is each run of
@@ -126,7 +127,7 @@ impl Out {
         ensures { result ≡ is_blank_output self.now }
     {
         match self.plain_text() {
-            Some(text) => is_blank(text),
+            Some(text) => is_blank(text.as_bytes()),
             None => false,
         }
     }

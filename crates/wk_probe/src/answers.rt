@@ -5,7 +5,7 @@ use crate::expansions::expand_value;
 use crate::links::links_value;
 use crate::members::{read, string_of};
 use crate::numerals::same_value;
-use crate::refusal::{Refusal, said};
+use crate::refusal::{Refusal, refusal_text};
 use crate::titles::{kept_value, norm};
 use crate::trees::tree_value;
 use crate::wire::{http_value, params_value};
@@ -41,7 +41,7 @@ fn value_of(alloc: Global, answer: Result<Value, Refusal>) -> Result<Value, Memo
     match answer {
         Ok(value) => Ok(value),
         Err(Refusal::Memory) => Err(Memory),
-        Err(refusal) => Ok(json!(in alloc; {"error": said(refusal)})?),
+        Err(refusal) => Ok(json!(in alloc; {"error": refusal_text(refusal)})?),
     }
 }
 

@@ -58,20 +58,10 @@ mod titles;
 mod trees;
 mod wire;
 
-use run::{Stop, serve_all};
+use run::serve_all;
 use std::io;
 use std::process::ExitCode;
 use wk_base::{ReadSource, WriteSink};
-
-/// The status with which the program ends.
-fn status_of(stop: Stop) -> u8 {
-    match stop {
-        Stop::Memory => 1,
-        Stop::ReadFault => 3,
-        Stop::WriteFault => 4,
-        Stop::Bound => 9,
-    }
-}
 
 fn main(rt: HostRuntime) -> io::Result<ExitCode> {
     let mut input = ReadSource::new(rt.reader());
@@ -80,5 +70,5 @@ fn main(rt: HostRuntime) -> io::Result<ExitCode> {
         return Ok(ExitCode::from(0));
     };
     eprintln!(rt; "wk_probe: {stop}")?;
-    Ok(ExitCode::from(status_of(stop)))
+    Ok(ExitCode::from(stop.status()))
 }

@@ -71,7 +71,7 @@ impl From<AllocError> for Refusal {
 }
 
 /// What is wrong, in words.
-pub fn said(refusal: Refusal) -> &'static str {
+pub fn refusal_text(refusal: Refusal) -> &'static str {
     match refusal {
         Refusal::Memory => "out of memory",
         Refusal::TooLong => "the line has more than 8388608 bytes",

@@ -1,6 +1,6 @@
 -- Where the target of a redirect stands in a text, and its title.
 use Rattle.std.proofs.Common.{◌≡◌, ℕ, ◌+◌, ◌-◌, ◌<◌, ◌≤◌, Bool, true, false, ◌&&◌, ◌==◌, List, [], ◌∷◌, length, get_or, map, take, drop, codes, Option, Some, None, option_and_then, refl, ap, ap₂, sym, subst, ◌∙◌, inl, inr, arith, if◌then◌else◌, take_all}
-use Rattle.std.specs.Prelude.{is_some, pos}
+use Rattle.std.specs.Prelude.{is_some}
 use Rattle.std.specs.Char.{eq_ignore_ascii_case, to_ascii_lowercase}
 use Rattle.std.specs.List.{prefix_len, starts_with, take_while}
 use Rattle.std.specs.Option.{IfSome, option_or}
@@ -11,9 +11,9 @@ use Rattle.std.proofs.lemmas.List.{drop-drop, get_or-drop, length-drop, length-t
 use Rattle.std.proofs.lemmas.List.Sums.{prefix_len-le-length}
 use Rattle.std.proofs.lemmas.Str.{IsCharBoundary-before_ascii, IsCharBoundary-after_ascii}
 use Rattle.wk_text_rules.specs.Blank.{is_blank_byte}
-use Rattle.wk_text_rules.specs.Titles.{PageTitle, normal, is_virtual}
+use Rattle.wk_text_rules.specs.Targets.{is_target_byte, page_named}
 use Rattle.wk_text_rules.specs.Shapes.{Shape, exactly, in_any_case, run_of, word_by, ◌and_then◌, perhaps}
-use Rattle.wk_tree_rules.specs.Redirects.{blanks, redirect_start, redirect_target, is_target_byte, target_end, target_title}
+use Rattle.wk_tree_rules.specs.Redirects.{blanks, redirect_start, redirect_target, target_end}
 use Rattle.wk_lex.proofs.NameLemmas.{name_at-ends, name_at-none}
 use Rattle.wk_redirect.proofs.LabelLaws.{and_false, both, rest_at}
 use Rattle.wk_redirect.specs.Targets.{closed_target, target_in}
@@ -170,31 +170,22 @@ module _ (text inside : List ℕ) (len : ℕ) (begins : Some inside ≡ redirect
 
 -- ---- titles
 
-titled : (inside : List ℕ) (ends : Bool) (target : List ℕ) → (if ends then target_title target else None) ≡ option_and_then target_title (if ends then Some target else None)
+titled : (inside : List ℕ) (ends : Bool) (target : List ℕ) → (if ends then page_named target else None) ≡ option_and_then page_named (if ends then Some target else None)
 titled inside true target = refl
 titled inside false target = refl
 
 -- a text redirects to the title of its target
-pub target_titled : (text : List ℕ) → redirect_target text ≡ option_and_then target_title (target_in text)
+pub page_namedd : (text : List ℕ) → redirect_target text ≡ option_and_then page_named (target_in text)
 unfolding redirect_target
-target_titled text =
-    elim (redirect_start text) as (λ o. option_and_then (λ inside. let target = take_while is_target_byte inside in if is_some (target_end (drop (length target) inside)) then target_title target else None) o ≡ option_and_then target_title (option_and_then closed_target o)) [
+page_namedd text =
+    elim (redirect_start text) as (λ o. option_and_then (λ inside. let target = take_while is_target_byte inside in if is_some (target_end (drop (length target) inside)) then page_named target else None) o ≡ option_and_then page_named (option_and_then closed_target o)) [
       | None ↦ refl
       | Some inside ↦ let target = take_while is_target_byte inside in titled inside (is_some (target_end (drop (length target) inside))) target
     ]
 
 pub no_target : (text : List ℕ) → None ≡ target_in text → None ≡ redirect_target text
-no_target text e = sym (target_titled text ∙ ap (option_and_then target_title) (sym e))
+no_target text e = sym (page_namedd text ∙ ap (option_and_then page_named) (sym e))
 
-abbrev real_title : PageTitle → Option PageTitle
-real_title title = if is_virtual title then None else Some title
-
-module _ (text target : List ℕ) (found : Some target ≡ target_in text) where
-  title_of : (title : Option PageTitle) → normal target (pos 0) ≡ title → redirect_target text ≡ option_and_then real_title title
-  title_of title e = target_titled text ∙ ap (option_and_then target_title) (sym found) ∙ ap (option_and_then real_title) e
-
-  pub no_title : normal target (pos 0) ≡ None → None ≡ redirect_target text
-  no_title e = sym (title_of None e)
-
-  pub title_found : (title : PageTitle) (is_none : Bool) → normal target (pos 0) ≡ Some title → is_none ≡ is_virtual title → (if is_none then None else Some title) ≡ redirect_target text
-  title_found title is_none e h = ap (λ (t : Bool). if t then None else Some title) h ∙ sym (title_of (Some title) e)
+-- the page that the target names
+pub target_named : (text target : List ℕ) → Some target ≡ target_in text → page_named target ≡ redirect_target text
+target_named text target e = sym (page_namedd text ∙ ap (option_and_then page_named) (sym e))

@@ -1,7 +1,8 @@
 -- The targets of redirects.
 use Rattle.std.specs.Prelude.{ℕ, List, length, drop, Option, Some, None, option_and_then, is_some, if◌then◌else◌}
 use Rattle.std.specs.List.{take_while}
-use Rattle.wk_tree_rules.specs.Redirects.{redirect_start, is_target_byte, target_end}
+use Rattle.wk_text_rules.specs.Targets.{is_target_byte}
+use Rattle.wk_tree_rules.specs.Redirects.{redirect_start, target_end}
 
 -- the target behind the opening brackets, where it is one
 abbrev pub closed_target : List ℕ → Option (List ℕ)

@@ -1,26 +1,14 @@
 //! Where a text redirects to.
-ghost use Rattle.std.specs.Prelude.{◌≡◌, ◌==◌, ◌<◌, ◌≤◌, ℕ, Some, codes, drop, is_some, length, option_and_then, if◌then◌else◌, IfOk, None};
-ghost use Rattle.std.specs.List.{prefix_len};
+ghost use Rattle.std.specs.Prelude.{◌≡◌, ◌<◌, Some, codes, is_some, length, IfOk};
 ghost use Rattle.std.specs.Option.{option_copied};
-ghost use Rattle.wk_text_rules.specs.Blank.{trimmed_start};
 ghost use Rattle.wk_text_rules.specs.Shapes.{exactly, in_any_case, perhaps, up_to, without_byte};
-ghost use Rattle.wk_tree_rules.specs.Redirects.{is_target_byte, redirect_start, redirect_target, target_end};
+ghost use Rattle.wk_tree_rules.specs.Redirects.{redirect_start, redirect_target, target_end};
 ghost use Rattle.wk_redirect.specs.Targets.{target_in};
 
 use std::alloc::Global;
+use wk_bytes::trim_start;
 use wk_memory::Memory;
-use wk_title::{Title, TitleRefusal, normalize};
-
-/// The bytes without the blank bytes at the front.
-fn trim_start(text: &[u8]) -> &[u8]
-    ensures { result.now ≡ trimmed_start text.now }
-{
-    let mut start = 0;
-    while start < text.len() && matches!(text[start], b' ' | b'\t' | b'\n' | b'\r') {
-        start += 1;
-    }
-    &text[start..]
-}
+use wk_title::{Title, page_named, target_len};
 
 /// What stands behind the word, where the text begins with it.
 fn behind_word<'a>(text: &'a [u8], word: &[u8]) -> Option<&'a [u8]>
@@ -65,25 +53,6 @@ fn behind_start(text: &[u8]) -> Option<&[u8]>
     let rest = behind_name(trim_start(text), b"#redirect")?;
     let rest = behind_colon(trim_start(rest));
     behind_word(trim_start(rest), b"[[")
-}
-
-/// The number of bytes of the target at the front.
-fn target_len(inside: &[u8]) -> usize
-    ensures value { result ≡ prefix_len is_target_byte inside.now }
-    ensures within { result ≤ length inside.now }
-{
-    let mut len = 0;
-    while len < inside.len() && is_target_byte(inside[len]) {
-        len += 1;
-    }
-    len
-}
-
-/// A byte other than the brackets, braces, the bar, the angle brackets and the newline.
-fn is_target_byte(byte: u8) -> bool
-    ensures { result ≡ is_target_byte byte }
-{
-    !matches!(byte, b'\n' | b'[' | b']' | b'|' | b'{' | b'}' | b'<' | b'>')
 }
 
 /// Whether the nearest `]]` ends a label without newline. It reads no further than a newline.
@@ -132,12 +101,7 @@ pub fn redirect_target(alloc: Global, text: &str) -> Result<Option<Title>, Memor
     let Some(target) = target_in(text) else {
         return Ok(None);
     };
-    match normalize(alloc, target, 0) {
-        Ok(title) if title.is_virtual() => Ok(None),
-        Ok(title) => Ok(Some(title)),
-        Err(TitleRefusal::Illegal) => Ok(None),
-        Err(TitleRefusal::Memory) => Err(Memory),
-    }
+    page_named(alloc, target)
 }
 
 #[cfg(test)]

@@ -6,12 +6,12 @@ use Rattle.std.specs.List.{AllByRecursion}
 use Rattle.std.specs.Prelude.{Option, option_map, option_and_then, slice_get, fold, unwrap_or, is_some, false, if◌then◌else◌}
 use Rattle.wk_base.specs.Clock.{first_moment}
 use Rattle.wk_text_rules.specs.Titles.{PageTitle}
-use Rattle.wk_page_rules.specs.History.{History, Revision, current_revision, page_number, with_current, text_of_revision, saved}
+use Rattle.wk_page_rules.specs.History.{History, Revision, current_revision, page_number, with_current, text_of_revision, saved, page_to_save}
 use Rattle.wk_page_rules.specs.Kept.{kept}
 use Rattle.wk_page_rules.specs.Verdict.{EditAsked, MostHeld, judged, judged_at, real_title, refuse, invalid_title, no_change, accept, Verdict, with_room, is_journal_full}
 use Rattle.wk_reply_rules.specs.EditLine.{EditLine, cut_line, edit_line}
 use Rattle.wk_reply_rules.specs.Replies.{Reply, edit_reply, not_built}
-use Rattle.wk_reply_rules.specs.Script.{HasMemory, Script, ScriptRun, ended, skipped, unknown, edited, starved, after_edit, answer_to_edit, edit_asked, asked, is_empty_line, line_verdict, script_after, script_limits, script_replies}
+use Rattle.wk_reply_rules.specs.Script.{HasMemory, Script, ScriptRun, ended, skipped, unknown, edited, starved, after_edit, answer_to_edit, edit_asked, asked, is_empty_line, line_verdict, script_after, script_limits, script_replies, script_use}
 
 -- a history whose revisions were all made at moment 0
 abbrev pub timeless_revision : Revision → Revision
@@ -51,7 +51,7 @@ abbrev timeless_script : Script → Script
 timeless_script s = record { history = timeless s.history; point = s.point }
 
 verdict-timeless : (s : Script) (edit : EditLine) → line_verdict (timeless_script s) edit ≡ line_verdict s edit
-verdict-timeless s edit = ap (with_room (is_journal_full script_limits s.point 0 1)) (judged-timeless s.history script_limits (asked edit))
+verdict-timeless s edit = ap (with_room (is_journal_full script_limits (script_use s.point))) (judged-timeless s.history script_limits (asked edit))
 
 reply-timeless : (h : History) (v : Verdict) (point : ℕ) → edit_reply (timeless h) v point ≡ edit_reply h v point
 reply-timeless h (refuse refusal) point = refl
@@ -76,7 +76,7 @@ saved-timeless : (h : History) (title : PageTitle) (text : Option (List ℕ)) (m
 unfolding saved
 saved-timeless h title text m n =
     let revision : ℕ → Revision = λ moment. record {
-      page = unwrap_or (page_number h title) (length h.pages + 1);
+      page = page_to_save h title;
       parent = current_revision h title;
       moment = moment;
       text = text;

@@ -1,9 +1,9 @@
 -- The values of the replies (in the style of MediaWiki's API:Edit and API:Errors and warnings; the codes' texts and
 -- the points are own). Members are in the order of their keys, by bytes.
-use Rattle.std.specs.Prelude.{ℕ, ◌+◌, true, List, length, codes, unwrap_or, if◌then◌else◌}
+use Rattle.std.specs.Prelude.{ℕ, ◌+◌, true, List, codes, unwrap_or, if◌then◌else◌}
 use Rattle.serde_json.specs.Data.{Data, boolean, number, string, object, Members, member, no_members, unsigned}
 use Rattle.wk_text_rules.specs.Titles.{PageTitle, shown}
-use Rattle.wk_page_rules.specs.History.{History, current_revision, next_revision, page_exists, page_number}
+use Rattle.wk_page_rules.specs.History.{History, current_revision, next_revision, page_exists, page_number, page_to_save}
 use Rattle.wk_page_rules.specs.Verdict.{Refusal, invalid_title, content_too_big, article_exists, missing_title, edit_conflict, wiki_full, journal_full, Verdict, refuse, no_change, accept}
 use Rattle.wk_page_rules.specs.declared.Limit.{Limit}
 use Rattle.wk_page_rules.specs.declared.Limit.TheVariants.{Pages, Revisions, Text}
@@ -95,7 +95,7 @@ abbrev pub save_shown : History → PageTitle → SaveShown
 save_shown h title = record {
   old = current_revision h title;
   new = next_revision h;
-  page = unwrap_or (page_number h title) (length h.pages + 1);
+  page = page_to_save h title;
   title = shown title;
 }
 

@@ -3,7 +3,7 @@ use Rattle.std.specs.Prelude.{◌≡◌, ◌≢◌, ℕ, ◌+◌, Bool, true, fa
 use Rattle.serde_json.specs.Written.{compact_text}
 use Rattle.wk_base.specs.Clock.{first_moment, Ticks}
 use Rattle.wk_page_rules.specs.History.{History, no_history, saved}
-use Rattle.wk_page_rules.specs.Verdict.{EditAsked, MostHeld, Verdict, refuse, no_change, accept, verdict}
+use Rattle.wk_page_rules.specs.Verdict.{EditAsked, JournalUse, MostHeld, Verdict, refuse, no_change, accept, full_limits, verdict}
 use Rattle.wk_reply_rules.specs.EditLine.{EditLine, edit_line}
 use Rattle.wk_reply_rules.specs.Replies.{Reply, edit_reply, not_built, out_of_memory}
 
@@ -22,7 +22,7 @@ most_events = 1000
 
 -- how much the script's wiki holds; no other limit than the journal's can be met by so many events
 abbrev pub script_limits : MostHeld
-script_limits = record { pages = 1000000; revisions = 16777216; text = 1073741824; journal = most_events }
+script_limits = record full_limits { journal = most_events }
 
 -- the bytes that a line has at most
 abbrev pub most_line : ℕ
@@ -34,9 +34,12 @@ most_line = 8388608
 abbrev pub asked : EditLine → EditAsked
 asked line = record { title = line.title; body = Some line.text; base = line.base; create_only = false; no_create = false }
 
--- no ticket is out, and no job was ever numbered
+-- what the script has used: no ticket is out, and no job was ever numbered
+abbrev pub script_use : ℕ → JournalUse
+script_use point = record { journal = point; tickets = 0; next_job = 1 }
+
 abbrev pub line_verdict : Script → EditLine → Verdict
-line_verdict s line = verdict s.history script_limits s.point 0 1 (asked line)
+line_verdict s line = verdict s.history script_limits (script_use s.point) (asked line)
 
 abbrev pub answer_to_edit : Script → EditLine → Reply
 answer_to_edit s line = edit_reply s.history (line_verdict s line) s.point

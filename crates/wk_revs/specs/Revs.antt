@@ -7,10 +7,6 @@ pub record Stored : Type 0 where
   pub history : History
   pub spare : ℕ
 
--- how many pages there are at most
-abbrev pub max_pages : ℕ
-max_pages = 1000000
-
 -- what the pages alone say of a history
 abbrev pub of_pages : List Page → History
 of_pages pages = record { revisions = []; pages = pages }

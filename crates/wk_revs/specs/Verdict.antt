@@ -1,7 +1,7 @@
 -- A verdict as the rules give it.
-use Rattle.std.specs.Prelude.{◌≡◌, ℕ, ◌<◌, List, length, Option, Some, None, option_map}
+use Rattle.std.specs.Prelude.{◌≡◌, ℕ, ◌<◌, true, List, length, Option, Some, None, option_map}
 use Rattle.wk_text_rules.specs.Titles.{PageTitle}
-use Rattle.wk_page_rules.specs.History.{History, CanSave, page_number}
+use Rattle.wk_page_rules.specs.History.{History, can_save, page_number}
 use Rattle.wk_page_rules.specs.Verdict.{Refusal, Verdict as Judged, MostHeld, invalid_title, content_too_big, article_exists, missing_title, edit_conflict, wiki_full, journal_full, refuse, no_change, accept}
 use Rattle.wk_revs.specs.declared.verdict.SaveRefusal.{SaveRefusal}
 use Rattle.wk_revs.specs.declared.verdict.SaveRefusal.TheVariants.{InvalidTitle, ContentTooBig, ArticleExists, MissingTitle, EditConflict, WikiFull, JournalFull, Memory, StoreFault}
@@ -28,7 +28,7 @@ verdict_of (Accept title text) = Some (accept title text)
 
 -- this save is possible, and a page that it makes is within the limit
 pub record CanAdd (h : History) (most : MostHeld) (title : PageTitle) (text : Option (List ℕ)) : Type 0 where
-  pub possible : CanSave h title text
+  pub possible : can_save h title text ≡ true
   pub fits : page_number h title ≡ None → length h.pages < most.pages
 
 -- a fact of what is accepted

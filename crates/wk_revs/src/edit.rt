@@ -1,4 +1,7 @@
 //! What is asked of a save, and how much a wiki holds at most.
+ghost use Rattle.std.specs.Prelude.{◌≡◌};
+ghost use Rattle.wk_page_rules.specs.Verdict.{full_limits};
+ghost use Rattle.wk_revs.specs.Edit.{most_held};
 
 /// An edit of a page, as it is asked for.
 #[derive(Debug, Drop)]
@@ -37,3 +40,8 @@ impl Limits {
         journal: 33_554_432,
     };
 }
+
+/// The full limits are those of the rules.
+pub fn full_is_the_full_limits()
+    ensures { most_held Limits.FULL ≡ full_limits }
+{}

@@ -10,7 +10,7 @@ mod revs;
 mod tests;
 mod verdict;
 
-pub use edit::{Edit, Limits};
+pub use edit::{Edit, Limits, full_is_the_full_limits};
 pub use kept_text::kept;
 pub use revs::Revs;
 pub use verdict::{SaveRefusal, Verdict};

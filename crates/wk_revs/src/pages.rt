@@ -2,7 +2,8 @@
 ghost use Rattle.std.specs.Prelude.{◌≡◌, ◌+◌, ◌<◌, ◌≤◌, None, IfSome, length, position, unwrap_or, vec_len, vec_capacity};
 ghost use Rattle.wk_text_rules.specs.Titles.{title_eq};
 ghost use Rattle.wk_page_rules.specs.History.{current_revision, page_number, with_current};
-ghost use Rattle.wk_revs.specs.Revs.{max_pages, of_pages};
+ghost use Rattle.wk_page_rules.specs.Verdict.{max_pages};
+ghost use Rattle.wk_revs.specs.Revs.{of_pages};
 
 use std::marker::Model;
 use wk_title::Title;

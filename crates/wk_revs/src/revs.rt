@@ -1,11 +1,10 @@
 //! The revisions and pages of a wiki.
-ghost use Rattle.std.specs.Prelude.{◌≡◌, ℕ, ◌+◌, ◌<◌, ◌≤◌, None, Some, false, length, unwrap_or, IfOk, OnOk, OnErr};
+ghost use Rattle.std.specs.Prelude.{◌≡◌, ℕ, ◌+◌, ◌<◌, ◌≤◌, None, Some, true, length, IfOk, OnOk, OnErr};
 ghost use Rattle.std.specs.Option.{option_copied};
-ghost use Rattle.wk_text_rules.specs.Titles.{is_virtual};
-ghost use Rattle.wk_page_rules.specs.History.{CanSave, no_history, current_revision, current_text, next_revision, page_number, saved};
-ghost use Rattle.wk_page_rules.specs.Verdict.{body_bytes, judged, judged_at, limit_passed, max_text};
+ghost use Rattle.wk_text_rules.specs.Titles.{is_page_title};
+ghost use Rattle.wk_page_rules.specs.History.{can_save, no_history, current_revision, current_text, next_revision, page_number, page_to_save, saved};
+ghost use Rattle.wk_page_rules.specs.Verdict.{body_bytes, judged, judged_at, limit_passed, max_pages, max_text};
 ghost use Rattle.wk_revs.specs.Edit.{edit_asked, most_held};
-ghost use Rattle.wk_revs.specs.Revs.{max_pages};
 ghost use Rattle.wk_revs.specs.Verdict.{CanAdd, IfAccept, verdict_of};
 
 use crate::edit::{Edit, Limits};
@@ -35,7 +34,8 @@ pub struct Revs {
 
 impl Model for Revs {
     ghost use Rattle.std.specs.Prelude.{◌+◌, ◌≤◌, vec_len, vec_capacity};
-    ghost use Rattle.wk_revs.specs.Revs.{Stored, max_pages};
+    ghost use Rattle.wk_page_rules.specs.Verdict.{max_pages};
+    ghost use Rattle.wk_revs.specs.Revs.{Stored};
 
     ghost Value = { Stored };
 
@@ -74,7 +74,7 @@ impl Revs {
     /// 1970, and gives the revision's number. Takes no memory.
     pub fn add(&mut self, title: Title, text: Option<Text>, now: u64) -> u64
         requires room { 0 < self.old.spare }
-        requires possible { CanSave self.old.history title text }
+        requires possible { can_save self.old.history title text ≡ true }
         requires fits { page_number self.old.history title ≡ None → length self.old.history.pages < max_pages }
         ensures history { self.new.history ≡ saved self.old.history title text now }
         ensures number { result ≡ next_revision self.old.history }
@@ -106,8 +106,8 @@ impl Revs {
     }
 
     /// The number that the title's page has, or would get by a save. Takes no memory.
-    pub fn page_of_save(&self, title: &Title) -> u32
-        ensures { result ≡ unwrap_or (page_number self.now.history title.now) (length self.now.history.pages + 1) }
+    pub fn page_to_save(&self, title: &Title) -> u32
+        ensures { result ≡ page_to_save self.now.history title.now }
     {
         match self.page(title) {
             Some(page) => page,
@@ -147,7 +147,7 @@ impl Revs {
 
     /// The verdict once the title is known and the body is as it would be kept.
     fn judge_at(&self, edit: &Edit, limits: &Limits, title: Title, body: Option<Text>) -> Verdict
-        requires real { is_virtual title ≡ false }
+        requires real { is_page_title title ≡ true }
         requires small { body_bytes body ≤ max_text }
         ensures verdict { verdict_of result
             ≡ Some (judged_at self.now.history (most_held limits.now) (edit_asked edit.now) title body) }

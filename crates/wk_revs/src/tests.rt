@@ -1,5 +1,5 @@
 ghost use Rattle.std.specs.Prelude.{◌≤◌};
-ghost use Rattle.wk_revs.specs.Revs.{max_pages};
+ghost use Rattle.wk_page_rules.specs.Verdict.{max_pages};
 
 use crate::{Edit, Limit, Limits, Revs, SaveRefusal, Verdict, kept};
 use std::alloc::Global;
@@ -208,6 +208,28 @@ fn a_kept_text_has_newlines_alone_and_no_blank_end(rt: HostRuntime) -> Result<()
     ] {
         let kept = kept(rt.alloc(), text)?;
         assert_eq!(rt; kept.as_str(), want, "{text:?}");
+    }
+    Ok(())
+}
+
+#[test]
+fn a_refusal_is_told(rt: HostRuntime) -> Result<(), Fail> {
+    for (refusal, want) in [
+        (SaveRefusal::InvalidTitle, "bad title"),
+        (SaveRefusal::ContentTooBig, "the text is too big"),
+        (SaveRefusal::ArticleExists, "the page exists"),
+        (SaveRefusal::MissingTitle, "the page is missing"),
+        (
+            SaveRefusal::EditConflict { current: 7 },
+            "edit conflict with revision 7",
+        ),
+        (SaveRefusal::WikiFull(Limit::Pages), "the wiki is full"),
+        (SaveRefusal::JournalFull, "the journal is full"),
+        (SaveRefusal::Memory, "out of memory"),
+        (SaveRefusal::StoreFault, "the store failed"),
+    ] {
+        let text = format!(in rt.alloc(); "{refusal}")?;
+        assert_eq!(rt; text.as_str(), want);
     }
     Ok(())
 }

@@ -1,7 +1,7 @@
 //! What becomes of an edit.
-ghost use Rattle.std.specs.Prelude.{◌≡◌, false, IfOk, IfSome};
+ghost use Rattle.std.specs.Prelude.{◌≡◌, true, IfOk, IfSome};
 ghost use Rattle.std.specs.Option.{option_copied};
-ghost use Rattle.wk_text_rules.specs.Titles.{is_virtual};
+ghost use Rattle.wk_text_rules.specs.Titles.{is_page_title};
 ghost use Rattle.wk_page_rules.specs.Verdict.{body_bytes, is_conflict, is_same_text, real_title};
 
 use std::alloc::Global;
@@ -10,6 +10,7 @@ use wk_bytes::Text;
 use wk_memory::Memory;
 use wk_page_rules::Limit;
 use wk_title::{Title, TitleRefusal, normalize};
+use wk_title_laws::shown_normalizes;
 
 /// Why an edit isn't saved (the refusals of MediaWiki's API:Edit; the limits are own).
 /// The variants stand in the order in which they are decided.
@@ -62,10 +63,11 @@ pub enum Verdict {
 /// namespace.
 pub fn real_title(alloc: Global, text: &str) -> Result<Option<Title>, Memory>
     ensures title { IfOk result (λ title. title ≡ real_title text.now) }
-    ensures real { IfOk result (λ title. IfSome title (λ title. is_virtual title ≡ false)) }
+    ensures real { IfOk result (λ title. IfSome title (λ title. is_page_title title ≡ true)) }
 {
     match normalize(alloc, text, 0) {
         Ok(title) => {
+            shown_normalizes(&title);
             if title.is_virtual() {
                 Ok(None)
             } else {

@@ -9,7 +9,7 @@ use Rattle.std.proofs.lemmas.List.{length-map}
 use Rattle.std.proofs.lemmas.List.Elements.{All-cons, All-head, All-nil, All-tail}
 use Rattle.wk_text_rules.specs.Blank.{trimmed}
 use Rattle.wk_text_rules.specs.Marked.{MarkedByte, byte_of, plainly, text_of}
-use Rattle.wk_text_rules.specs.Occurrences.{Content, content, bare, labelled, is_label, is_target_byte, most_label, Link, page, member, nothing, link_at, link_by, link_of, Occurrence, occurrence_of, occurrences, prefix_from}
+use Rattle.wk_text_rules.specs.Occurrences.{Content, content, bare, labelled, is_label, is_plain_target, most_label, Link, page, member, nothing, link_at, link_by, link_of, Occurrence, occurrence_of, occurrences, prefix_from}
 use Rattle.wk_text_rules.specs.Shapes.{Span, spans, spans_from}
 use Rattle.wk_text_rules.specs.Titles.{PageTitle, normal, is_virtual}
 use Rattle.wk_links.specs.Found.{link_in, occurrence_in}
@@ -61,12 +61,12 @@ short-closed target behind = either_short (bare target behind) (labelled target 
 
 abbrev inside_of : List MarkedByte → Option Content
 inside_of inside =
-    let target = take_while is_target_byte inside in
+    let target = take_while is_plain_target inside in
     closed_by target (drop (length target) inside)
 
 short-inside : (inside : Option (List MarkedByte)) → IsShortContent (option_and_then inside_of inside)
 short-inside None = tt
-short-inside (Some inside) = short-closed (take_while is_target_byte inside) (drop (length (take_while is_target_byte inside)) inside)
+short-inside (Some inside) = short-closed (take_while is_plain_target inside) (drop (length (take_while is_plain_target inside)) inside)
 
 short-content : (out : List MarkedByte) → IsShortContent (content out)
 short-content out = short-inside (plainly (codes "[[") out)

@@ -16,7 +16,7 @@ use Rattle.wk_view_rules.specs.Views.{Expanded, turned}
 use Rattle.wk_view_rules.specs.Worlds.{Agrees, Read, World, of_world}
 use Rattle.wk_view_rules.specs.declared.Kind.{Kind}
 use Rattle.wk_view_rules.specs.declared.Kind.TheVariants.{Include, Exists}
-use Rattle.wk_expand.specs.Drafts.{DraftShown, IsDraft, marked, turned_by}
+use Rattle.wk_expand.specs.Drafts.{DraftShown, IsDraft, with_mark, turned_by}
 use Rattle.wk_expand.specs.declared.answer.Read.{Read as ToldRead}
 use Rattle.wk_rows.specs.Told.{rows_told}
 use Rattle.wk_rows.specs.Members.{membership_by, members_by, with_members}
@@ -78,11 +78,11 @@ same_rows a b templates exists links members redirect =
 -- ---- the rows of a draft
 
 -- the titles that are told to be read are those that were read
-pub titles_told : (kind : Kind) (reads : List Read) → titles_asked kind (map marked reads) ≡ rule.titles_read kind reads
-titles_told kind reads = sym (filter_map-map marked (title_asked kind) reads)
+pub titles_told : (kind : Kind) (reads : List Read) → titles_asked kind (map with_mark reads) ≡ rule.titles_read kind reads
+titles_told kind reads = sym (filter_map-map with_mark (title_asked kind) reads)
 
 -- what is told of a draft's reads gives its rows
-pub rows_of_draft : (of_page : PageTitle) (out : List MarkedByte) (reads : List Read) → rows_told of_page out (map marked reads) (turned of_page reads) ≡ rule.rows_by of_page out reads
+pub rows_of_draft : (of_page : PageTitle) (out : List MarkedByte) (reads : List Read) → rows_told of_page out (map with_mark reads) (turned of_page reads) ≡ rule.rows_by of_page out reads
 unfolding rule.rows_by
 rows_of_draft of_page out reads =
     same_rows _ _ (ap rule.titles_in_order (titles_told Include reads)) (ap rule.titles_in_order (titles_told Exists reads))
@@ -95,10 +95,10 @@ rows_in_world of_page None expanded reads own draft pages agrees = ap (rule.rows
 rows_in_world of_page (Some text) expanded reads own draft pages agrees = cc
 
 -- what a draft's methods tell gives its rows
-pub rows_by_methods : (d : DraftShown) (of_page : PageTitle) (out : List MarkedByte) (reads : List ToldRead) (redirect : Option PageTitle) → d.given ≡ None → of_page ≡ d.page → out ≡ d.expanded.out → reads ≡ map marked d.reads → redirect ≡ turned_by d.page d.given d.reads → rows_told of_page out reads redirect ≡ rule.rows_by d.page d.expanded.out d.reads
+pub rows_by_methods : (d : DraftShown) (of_page : PageTitle) (out : List MarkedByte) (reads : List ToldRead) (redirect : Option PageTitle) → d.given ≡ None → of_page ≡ d.page → out ≡ d.expanded.out → reads ≡ map with_mark d.reads → redirect ≡ turned_by d.page d.given d.reads → rows_told of_page out reads redirect ≡ rule.rows_by d.page d.expanded.out d.reads
 rows_by_methods d of_page out reads redirect own of_page_is out_is reads_is redirect_is =
     ap (λ p. rows_told p out reads redirect) of_page_is
     ∙ ap (λ o. rows_told d.page o reads redirect) out_is
     ∙ ap (λ r. rows_told d.page d.expanded.out r redirect) reads_is
-    ∙ ap (λ t. rows_told d.page d.expanded.out (map marked d.reads) t) (redirect_is ∙ ap (λ given. turned_by d.page given d.reads) own)
+    ∙ ap (λ t. rows_told d.page d.expanded.out (map with_mark d.reads) t) (redirect_is ∙ ap (λ given. turned_by d.page given d.reads) own)
     ∙ rows_of_draft d.page d.expanded.out d.reads

@@ -8,11 +8,7 @@ use Rattle.wk_text_rules.specs.Titles.{PageTitle}
 use Rattle.wk_row_rules.specs.PageRows as page_rows
 use Rattle.wk_view_rules.specs.Rows as rule
 
--- a category, the sort key in it, and the prefix
-abbrev pub member_of : PageTitle × List ℕ × List ℕ → page_rows.Member
-member_of (category, sortkey, prefix) = record { category = category; sortkey = sortkey; prefix = prefix }
-
--- the same, where the sort key and the prefix are kept by the category
+-- a category, and the sort key and the prefix that are kept by it
 abbrev pub kept_member : PageTitle × (List ℕ × List ℕ) → page_rows.Member
 kept_member entry = record { category = entry.0; sortkey = entry.1.0; prefix = entry.1.1 }
 

@@ -6,13 +6,13 @@ ghost use Rattle.wk_view_rules.specs.Worlds.{Agrees, World, of_world};
 ghost use Rattle.wk_rows.specs.Told.{rows_told};
 
 use crate::members::members;
-use crate::page_rows::PageRows;
 use crate::titles::{titles_linked, titles_read};
 use std::alloc::Global;
 use wk_expand::{Draft, Kind, Read};
 use wk_links::links;
 use wk_memory::Memory;
 use wk_out::Out;
+use wk_table_rows::PageRows;
 use wk_title::Title;
 
 /// The same title for a further owner, where there is one.

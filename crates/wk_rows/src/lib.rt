@@ -5,10 +5,9 @@ mod draft_rows;
 #[cfg(test)]
 mod draft_tests;
 mod members;
-mod page_rows;
 #[cfg(test)]
 mod tests;
 mod titles;
 
 pub use draft_rows::rows;
-pub use page_rows::PageRows;
+pub use wk_table_rows::PageRows;

@@ -4,7 +4,8 @@ ghost use Rattle.std.specs.BTreeMap.{insert_entry};
 ghost use Rattle.wk_text_rules.specs.Occurrences.{most_label};
 ghost use Rattle.wk_text_rules.specs.Titles.{title_cmp, with_spaces};
 ghost use Rattle.wk_links.specs.declared.found.Found.{Found};
-ghost use Rattle.wk_rows.specs.Members.{HasShortPrefix, kept_member, member_of, members_by, sortkey_by, with_member, with_members};
+ghost use Rattle.wk_table_rows.specs.Members.{member_of};
+ghost use Rattle.wk_rows.specs.Members.{HasShortPrefix, kept_member, members_by, sortkey_by, with_member, with_members};
 
 use std::alloc::Global;
 use std::collections::BTreeMap;

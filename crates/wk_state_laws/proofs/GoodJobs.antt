@@ -29,7 +29,8 @@ use Rattle.wk_state_laws.proofs.Fanned.{fans-all_queued}
 use Rattle.wk_state_laws.proofs.GoodOpened.{IsWellFormed-state_of, IsWellFormed-all_refreshed}
 use Rattle.wk_state_laws.proofs.GoodStores.{history-good, stored-good}
 use Rattle.wk_state_laws.proofs.TableJobs.{got, low_cursor}
-use Rattle.wk_state_laws.proofs.Kept.{IsKept, FanFits, few-pages, greatest-within, kept-jobs, next-all_queued, IsKept-reopened}
+use Rattle.wk_state_laws.specs.Kept.{FanFits, IsKept}
+use Rattle.wk_state_laws.proofs.Kept.{few-pages, greatest-within, kept-jobs, next-all_queued, IsKept-reopened}
 
 -- ---- what a row stands for
 
@@ -314,7 +315,7 @@ length-range : (a n : ℕ) → length (range_with_len a n) ≡ n
 length-range a zero = refl
 length-range a (suc n) = ap suc (length-range (a + 1) n)
 
-IsKept-state_of : (tables : StoreTables) (bound : ℕ) → job_bound tables.version ≡ bound → 1 ≤ bound → bound ≤ 2 ^ 63 → IsGood tables → IsKept (state_of tables)
+pub IsKept-state_of : (tables : StoreTables) (bound : ℕ) → job_bound tables.version ≡ bound → 1 ≤ bound → bound ≤ 2 ^ 63 → IsGood tables → IsKept (state_of tables)
 IsKept-state_of tables bound is positive small good =
     let keeps = KeepsRules-from_good tables good in
     let jobs = jobs-of-good tables bound is positive keeps.jobs in

@@ -21,8 +21,7 @@ use Rattle.wk_table_laws.proofs.Pairs.{Pairs, Passes-from_good, EachGood-from_pa
 use Rattle.wk_table_laws.proofs.Links.{row_lt-same}
 use Rattle.wk_state_rules.specs.Tables.{page_row, revision_row}
 use Rattle.wk_state_laws.proofs.GoodOpened.{HasLast, has-last, text-last}
-use Rattle.wk_state_laws.proofs.TableLinks.{AreGoodRows}
-use Rattle.wk_state_laws.proofs.TableHistory.{bare_tables}
+use Rattle.wk_state_laws.specs.Kept.{AreGoodRows, history_tables}
 
 -- ---- revisions
 
@@ -102,10 +101,17 @@ pages-after tables good keeps before (row ∷ rows) number is ids latest =
     let first : page_row (history_of tables) (number, page_of_row row) ≡ row = (λ i. record { page_id = same i; page_title = row.page_title; page_latest = row.page_latest; page_len = len i }) in
     ap₂ (λ x xs. x ∷ xs) first (pages-after tables good keeps (before ++ row ∷ []) rows (number + 1) (omega (arith, is, longer)) ids.1 latest.1)
 
-pub history-good : (tables : StoreTables) → IsGood tables → KeepsRules (bare_tables (history_of tables))
+-- good tables of revisions and pages are those of what they stand for
+pub revisions-good : (tables : StoreTables) → IsGood tables → (history_tables (history_of tables)).revisions ≡ tables.revisions
+revisions-good tables good = revisions-after tables [] tables.revisions 1 (omega arith) (KeepsRules-from_good tables good).revisions
+
+pub pages-good : (tables : StoreTables) → IsGood tables → (history_tables (history_of tables)).pages ≡ tables.pages
+pages-good tables good = let keeps = KeepsRules-from_good tables good in pages-after tables good keeps [] tables.pages 1 (omega arith) keeps.ids keeps.latest
+
+pub history-good : (tables : StoreTables) → IsGood tables → KeepsRules (history_tables (history_of tables))
 history-good tables good =
-    subst (λ (rows : List PageColumns). KeepsRules (record (bare_tables (history_of tables)) { pages = rows })) (sym pages)
-    (subst (λ (rows : List RevisionColumns). KeepsRules (record (bare_tables (history_of tables)) { pages = tables.pages; revisions = rows })) (sym revisions) (record {
+    subst (λ (rows : List PageColumns). KeepsRules (record (history_tables (history_of tables)) { pages = rows })) (sym (pages-good tables good))
+    (subst (λ (rows : List RevisionColumns). KeepsRules (record (history_tables (history_of tables)) { pages = tables.pages; revisions = rows })) (sym (revisions-good tables good)) (record {
       ids = keeps.ids;
       titles = keeps.titles;
       revisions = keeps.revisions;
@@ -122,12 +128,6 @@ history-good tables good =
   where
     keeps : KeepsRules tables
     keeps = KeepsRules-from_good tables good
-
-    revisions : (bare_tables (history_of tables)).revisions ≡ tables.revisions
-    revisions = revisions-after tables [] tables.revisions 1 (omega arith) keeps.revisions
-
-    pages : (bare_tables (history_of tables)).pages ≡ tables.pages
-    pages = pages-after tables good keeps [] tables.pages 1 (omega arith) keeps.ids keeps.latest
 
 -- ---- link rows
 

@@ -37,7 +37,8 @@ use Rattle.wk_state_rules.specs.Lives.{reopened}
 use Rattle.wk_state_rules.specs.Tables.{tables_of, page_row}
 use Rattle.wk_state_rules.specs.Verdicts.{journal_use, verdict_in}
 use Rattle.wk_state_laws.specs.WellFormed.{IsWellFormed}
-use Rattle.wk_state_laws.specs.Reached.{IsWithinFull, IsMade, by_save, by_claim, by_finish, by_give_back, by_fan}
+use Rattle.wk_wiki_rules.specs.Calls.{IsMade, by_save, by_claim, by_finish, by_give_back, by_fan}
+use Rattle.wk_state_laws.specs.Reached.{IsWithinFull}
 use Rattle.wk_state_laws.proofs.SavedHistory.{Stands}
 use Rattle.wk_state_laws.proofs.Sound.{given}
 use Rattle.wk_state_laws.proofs.Refreshed.{done-by}
@@ -45,24 +46,10 @@ use Rattle.wk_state_laws.proofs.Fanned.{fans-queued, fans-all_queued}
 use Rattle.wk_state_laws.proofs.Served.{found, uses, users-is}
 use Rattle.wk_state_laws.proofs.FanRuns.{found-few}
 use Rattle.wk_state_laws.proofs.Formed.{Within, users-within, placed-in, IsWellFormed-none, IsWellFormed-step, IsWellFormed-reopened}
-use Rattle.wk_state_laws.proofs.TableLinks.{AreGoodRows, AreGoodRows-none, links-good, categories-good, redirects-good}
+use Rattle.wk_state_laws.specs.Kept.{AreGoodRows, FanFits, IsKept, history_tables}
+use Rattle.wk_state_laws.proofs.TableLinks.{AreGoodRows-none, links-good, categories-good, redirects-good}
 use Rattle.wk_state_laws.proofs.TableJobs.{jobs-good}
-use Rattle.wk_state_laws.proofs.TableHistory.{length-rows, bare_tables, saved-old, saved-new}
-
-abbrev pub FanFits : ℕ → FanEntry → Type 0
-FanFits pages fan = (is_normal fan.title ≡ true) × (fan.cursor ≤ pages)
-
-pub record IsKept (state : State) : Type 0 where
-  pub formed : IsWellFormed state
-  -- the revisions and the pages are such as good tables have
-  pub history : KeepsRules (bare_tables state.history)
-  pub links : AllByRecursion AreGoodRows state.stored
-  pub numbered : IsNumbered state.jobs
-  pub one_page : IsOneAPage state.jobs
-  pub one_title : IsOneATitle state.jobs
-  pub in_order : IsInOrder state.jobs
-  pub next : state.jobs.next ≤ 2 ^ 63
-  pub fans : AllByRecursion (FanFits max_pages) state.jobs.fans
+use Rattle.wk_state_laws.proofs.TableHistory.{length-rows, saved-old, saved-new}
 
 -- ---- the tables
 
@@ -79,9 +66,9 @@ few-after before (row ∷ rows) few good =
     leb-true : (a b : ℕ) → leb a b ≡ true → a ≤ b
     leb-true a b at = grind arith
 
-pub few-pages : (h : History) → KeepsRules (bare_tables h) → length h.pages ≤ max_pages
+pub few-pages : (h : History) → KeepsRules (history_tables h) → length h.pages ≤ max_pages
 few-pages h keeps =
-    let few = few-after [] (bare_tables h).pages (omega arith) keeps.ids in
+    let few = few-after [] (history_tables h).pages (omega arith) keeps.ids in
     let same = length-rows (page_row h) 1 h.pages in
     omega (arith, few, same)
 
@@ -414,8 +401,8 @@ IsKept-saved state title text moment real leaves keeps formed =
     record {
       formed = formed;
       history = elim (cases_Bool (list_any (λ (p : Page). title_eq p.title title) h.pages)) [
-        | inl there ↦ saved-old h title text moment keeps.history stand real leaves.short leaves.room there
-        | inr none ↦ saved-new h title text moment keeps.history stand real leaves.short leaves.room none (leaves.pages none)
+        | inl there ↦ saved-old h title text moment stand keeps.history real leaves.short leaves.room there
+        | inr none ↦ saved-new h title text moment stand keeps.history real leaves.short leaves.room none (leaves.pages none)
       ];
       links = cond_both (is_some (page_number h title)) state.stored (state.stored ++ no_rows ∷ []) (AllByRecursion AreGoodRows) (λ old. keeps.links)
           (λ new. each-append AreGoodRows state.stored (no_rows ∷ []) keeps.links (AreGoodRows-none, tt));
@@ -439,7 +426,7 @@ IsKept-step most served state next journal (Save title text moment) full (by_sav
       subst IsKept same (IsKept-saved state title text moment real (accepted most full state journal edit title text is) keeps formed)
   | inr cannot ↦ absurd (let e : None ≡ Some next = rw cannot at done in cc)
 ]
-IsKept-step most served state next journal Claim full by_claim done keeps =
+IsKept-step most served state next journal Claim full (by_claim free) done keeps =
     given (λ (s : State). IsWellFormed s → IsKept s) (λ page. with_jobs state (claimed_by state.jobs (journal + 1))) (first_queued state.jobs) next done
     (λ page formed. IsKept-claimed state (journal + 1) keeps formed) (IsWellFormed-step served state next journal Claim done keeps.formed)
 IsKept-step most served state next journal (Done ticket) full (by_finish page holds) done keeps =

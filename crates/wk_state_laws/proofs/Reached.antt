@@ -6,12 +6,13 @@ use Rattle.wk_state_rules.specs.Tables.{tables_of, state_of}
 use Rattle.wk_state_rules.specs.Lives.{reopened, opened}
 use Rattle.wk_state_rules.specs.Soundness.{IsSound}
 use Rattle.wk_state_laws.specs.Reached.{IsReached, empty, loaded, stepped, restarted}
+use Rattle.wk_state_laws.specs.Kept.{IsKept}
 use Rattle.wk_state_laws.proofs.Sound.{IsSound-reopened}
-use Rattle.wk_state_laws.proofs.Kept.{IsKept, IsKept-none, IsKept-step, IsKept-reopened, IsGood-kept}
+use Rattle.wk_state_laws.proofs.Kept.{IsKept-none, IsKept-step, IsKept-reopened, IsGood-kept}
 use Rattle.wk_state_laws.proofs.GoodJobs.{IsKept-opened}
 use Rattle.wk_state_laws.proofs.ReadBack.{state-back, opened-is}
 
-IsKept-reached : (state : State) → IsReached state → IsKept state
+pub IsKept-reached : (state : State) → IsReached state → IsKept state
 IsKept-reached state empty = IsKept-none
 IsKept-reached state (loaded tables good) = IsKept-opened tables good
 IsKept-reached state (stepped {most = most} {state = before} {journal = journal} {event = event} served reached full made done) =

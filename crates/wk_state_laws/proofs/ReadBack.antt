@@ -21,10 +21,9 @@ use Rattle.wk_view_laws.proofs.PlanLemmas.{title_eq-same}
 use Rattle.wk_state_rules.specs.States.{State, title_at}
 use Rattle.wk_state_rules.specs.Tables.{tables_of, state_of, page_row, revision_row, link_rows, rows_of_pages}
 use Rattle.wk_state_rules.specs.Lives.{reopened, opened}
+use Rattle.wk_state_laws.specs.Kept.{AreGoodRows, FanFits, IsKept}
 use Rattle.wk_state_laws.proofs.Formed.{Within}
-use Rattle.wk_state_laws.proofs.TableLinks.{AreGoodRows}
 use Rattle.wk_state_laws.proofs.TableJobs.{at-map, page-at}
-use Rattle.wk_state_laws.proofs.Kept.{IsKept, FanFits}
 
 -- ---- revisions and pages
 

@@ -17,25 +17,17 @@ use Rattle.wk_table_laws.specs.Premises.{FitRevision, IsStanding, IsNext}
 use Rattle.wk_table_laws.proofs.FirstBad.{IsGood-from_rules}
 use Rattle.wk_table_laws.proofs.GoodChanges.{EachGood-at}
 use Rattle.wk_table_laws.proofs.SavedPages.{KeepsRules-next, KeepsRules-standing, with_page-standing}
-use Rattle.wk_job_rules.specs.Jobs.{no_jobs}
-use Rattle.wk_state_rules.specs.States.{State}
-use Rattle.wk_state_rules.specs.Tables.{tables_of, page_row, revision_row}
+use Rattle.wk_state_rules.specs.Tables.{page_row, revision_row}
+use Rattle.wk_state_laws.specs.Kept.{history_tables}
 use Rattle.wk_state_laws.proofs.SavedHistory.{Stands, text-kept, text-own}
 use Rattle.wk_state_laws.proofs.Formed.{pages-new, placed-in}
 use Rattle.wk_state_laws.proofs.Saved.{pages-saved}
 use Rattle.wk_state_laws.proofs.GoodOpened.{has-last}
 use Rattle.wk_state_laws.proofs.TableJobs.{got}
 
--- a state with these revisions and pages, and nothing else
-abbrev pub bare : History → State
-bare h = record { history = h; stored = []; jobs = no_jobs }
-
-abbrev pub bare_tables : History → StoreTables
-bare_tables h = tables_of (bare h)
-
 -- ---- rows by their places
 
-map-push : {X Y : Type 0} (f : ℕ × X → Y) (a : ℕ) (xs : List X) (x : X) → map f (enumerate_from a (xs ++ x ∷ [])) ≡ map f (enumerate_from a xs) ++ f (a + length xs, x) ∷ []
+pub map-push : {X Y : Type 0} (f : ℕ × X → Y) (a : ℕ) (xs : List X) (x : X) → map f (enumerate_from a (xs ++ x ∷ [])) ≡ map f (enumerate_from a xs) ++ f (a + length xs, x) ∷ []
 map-push f a [] x = let same : a + 0 ≡ a = omega arith in rw same refl
 map-push f a (y ∷ xs) x =
     let one : a + suc (length xs) ≡ (a + 1) + length xs = omega arith in
@@ -117,8 +109,7 @@ none-of tables number missing before (row ∷ rows) good = elim (cases_Bool (eqb
 
 -- ---- a save
 
-module _ (h : History) (title : PageTitle) (text : Option (List ℕ)) (moment : ℕ) (keeps : KeepsRules (bare_tables h)) (stand : AllByRecursion (λ (page : Page). Stands h page.current) h.pages)
-    (real : is_page_title title ≡ true) (short : body_bytes text ≤ max_text) (room : text_bytes h + body_bytes text ≤ max_texts) where
+module _ (h : History) (title : PageTitle) (text : Option (List ℕ)) (moment : ℕ) (stand : AllByRecursion (λ (page : Page). Stands h page.current) h.pages) where
   abbrev after : History
   after = saved h title text moment
 
@@ -139,7 +130,7 @@ module _ (h : History) (title : PageTitle) (text : Option (List ℕ)) (moment : 
   abbrev new_row : RevisionColumns
   new_row = revision_row (1 + length h.revisions, new_revision)
 
-  revisions-after : (bare_tables after).revisions ≡ (bare_tables h).revisions ++ new_row ∷ []
+  revisions-after : (history_tables after).revisions ≡ (history_tables h).revisions ++ new_row ∷ []
   unfolding saved new_revision
   revisions-after = map-push revision_row 1 h.revisions new_revision
 
@@ -150,34 +141,6 @@ module _ (h : History) (title : PageTitle) (text : Option (List ℕ)) (moment : 
   rows-kept : (a : ℕ) (pages : List Page) → AllByRecursion (λ (page : Page). Stands h page.current) pages → map (page_row after) (enumerate_from a pages) ≡ map (page_row h) (enumerate_from a pages)
   rows-kept a [] all = refl
   rows-kept a (page ∷ pages) all = rw (text-kept h title text moment page.current all.0, rows-kept (a + 1) pages all.1) refl
-
-  fit : (number : ℕ) (named : PageTitle) → unwrap_or (page_number h title) (length h.pages + 1) ≡ number → current_revision h title ≡ current_of (bare_tables h).revisions number → FitRevision (bare_tables h) new_row (page_after number named)
-  unfolding new_revision
-  fit number named at parent = record {
-    number = let same = length-rows revision_row 1 h.revisions in omega (arith, same);
-    of_page = at;
-    parent = parent;
-    gone = gone-empty text;
-    len = refl;
-    short = short;
-    room = let sum = sum-push (bare_tables h).revisions new_row in let old = texts-sum h in omega (arith, sum, old, room);
-    latest = latest-is text;
-    page_len = ap (λ (o : Option (List ℕ)). length (unwrap_or o [])) (text-own h title text moment);
-  }
-    where
-      gone-empty : (o : Option (List ℕ)) → (not (is_none o) || eqb (length (unwrap_or o [])) 0) ≡ true
-      gone-empty None = refl
-      gone-empty (Some t) = refl
-
-      latest-is : (o : Option (List ℕ)) → cond (is_some o) (next_revision h) 0 ≡ cond (is_none o) 0 (1 + length h.revisions)
-      latest-is None = refl
-      latest-is (Some t) = omega arith
-
-  -- the tables after the change are those of the revisions and the pages after the save
-  moved : (page : PageColumns) → with_page (bare_tables h).pages page ≡ (bare_tables after).pages → KeepsRules (applied (bare_tables h) (add_revision new_row ∷ set_page page ∷ [])) → KeepsRules (bare_tables after)
-  moved page pages kept =
-      subst (λ (rows : List PageColumns). KeepsRules (record (bare_tables h) { revisions = (bare_tables after).revisions; pages = rows })) pages
-      (subst (λ (rows : List RevisionColumns). KeepsRules (record (bare_tables h) { revisions = rows; pages = with_page (bare_tables h).pages page })) (sym revisions-after) kept)
 
   -- ---- the title has a page
 
@@ -197,58 +160,104 @@ module _ (h : History) (title : PageTitle) (text : Option (List ℕ)) (moment : 
         (set-row (a + 1) pages page all.1 later))
   ]
 
-  pub saved-old : list_any is_it h.pages ≡ true → KeepsRules (bare_tables after)
-  saved-old there =
-      let place = position_or_len is_it h.pages in
-      let in_pages = placed-in title current h.pages ∙ there in
-      let within : place < length h.pages = ltb-true place (length h.pages) in_pages in
-      let found = got h.pages place within in
-      let first : find is_it h.pages ≡ Some found.0 = find_at is_it h.pages ∙ found.1 in
-      let number : unwrap_or (page_number h title) (length h.pages + 1) ≡ 1 + place = rw in_pages (omega arith) in
-      let old = page_row h (1 + place, found.0) in
-      let row : slice_get (bare_tables h).pages place ≡ Some old = row-at (page_row h) 1 h.pages place found.0 found.1 in
-      let good = EachGood-at (has_good_latest (bare_tables h)) (bare_tables h).pages place old keeps.latest row in
-      let has = has-last (bare_tables h) (take place (bare_tables h).pages) old (IsGood-from_rules (bare_tables h) keeps) good in
-      let now : current_of (bare_tables h).revisions (1 + place) ≡ cond has.last.rev_gone 0 has.last.rev_id = rw has.is refl in
-      let was : current_revision h title ≡ found.0.current = rw first refl in
-      let new = page_after (1 + place) found.0.title in
-      let by_id = id-place h 1 (1 + place) h.pages place refl within in
-      let length_same = length-rows (page_row h) 1 h.pages in
-      let below : ltb place (length (bare_tables h).pages) ≡ true = lt-ltb place (length (bare_tables h).pages) (omega (arith, within, length_same)) in
-      let at : position (λ (r : PageColumns). eqb r.page_id (1 + place)) (bare_tables h).pages ≡ Some place = rw (by_id, below) refl in
-      let standing : IsStanding (bare_tables h) old new = record {
-        there = find_at (λ (r : PageColumns). eqb r.page_id (1 + place)) (bare_tables h).pages ∙ (ap (slice_get (bare_tables h).pages) by_id ∙ row);
-        title = refl;
-      } in
-      let pages = with_page-standing (bare_tables h).pages new place at ∙ (set-row (1) h.pages found.0 stand found.1 ∙ ap (λ (ps : List Page). map (page_row after) (enumerate_from 1 ps)) (sym (pages-saved h title text moment))) in
-      moved new pages (KeepsRules-standing (bare_tables h) new_row old new (fit (1 + place) found.0.title number (was ∙ (has.latest ∙ sym now))) standing keeps)
-
   -- ---- the title has none
 
   find-none : (pages : List Page) → list_any is_it pages ≡ false → find is_it pages ≡ None
   find-none [] none = refl
   find-none (p ∷ pages) none = let parts = or_parts (title_eq p.title title) (list_any is_it pages) none in rw parts.0 (find-none pages parts.1)
 
-  pub saved-new : list_any is_it h.pages ≡ false → length h.pages + 1 ≤ max_pages → KeepsRules (bare_tables after)
-  saved-new none few =
-      let past = placed-in title current h.pages ∙ none in
-      let number : unwrap_or (page_number h title) (length h.pages + 1) ≡ 1 + length h.pages = rw past (omega arith) in
+  -- the page table after a save of a page that has a row
+  pub pages-old : (found : Page) → list_any is_it h.pages ≡ true → slice_get h.pages (position_or_len is_it h.pages) ≡ Some found
+      → with_page (history_tables h).pages (page_after (1 + position_or_len is_it h.pages) found.title) ≡ (history_tables after).pages
+  pages-old found there at_found =
+      let place = position_or_len is_it h.pages in
+      let in_pages = placed-in title current h.pages ∙ there in
+      let within : place < length h.pages = ltb-true place (length h.pages) in_pages in
+      let new = page_after (1 + place) found.title in
+      let by_id = id-place h 1 (1 + place) h.pages place refl within in
+      let length_same = length-rows (page_row h) 1 h.pages in
+      let below : ltb place (length (history_tables h).pages) ≡ true = lt-ltb place (length (history_tables h).pages) (omega (arith, within, length_same)) in
+      let at : position (λ (r : PageColumns). eqb r.page_id (1 + place)) (history_tables h).pages ≡ Some place = rw (by_id, below) refl in
+      with_page-standing (history_tables h).pages new place at ∙ (set-row (1) h.pages found stand at_found ∙ ap (λ (ps : List Page). map (page_row after) (enumerate_from 1 ps)) (sym (pages-saved h title text moment)))
+
+  -- the page table after a save of a new page
+  pub pages-added : list_any is_it h.pages ≡ false → with_page (history_tables h).pages (page_after (1 + length h.pages) title) ≡ (history_tables after).pages
+  pages-added none =
       let new = page_after (1 + length h.pages) title in
-      let missing : has_page (bare_tables h) (1 + length h.pages) ≡ false = ids-below h 1 h.pages (1 + length h.pages) (omega arith) in
-      let nothing = none-of (bare_tables h) (1 + length h.pages) missing [] (bare_tables h).revisions keeps.revisions in
-      let now : current_of (bare_tables h).revisions (1 + length h.pages) ≡ 0 = rw nothing refl in
-      let was : current_revision h title ≡ 0 = rw (find-none h.pages none) refl in
       let length_same = length-rows (page_row h) 1 h.pages in
       let by_id = id-past h 1 (1 + length h.pages) h.pages (omega arith) in
-      let above : ltb (length h.pages) (length (bare_tables h).pages) ≡ false = le-ltb (length h.pages) (length (bare_tables h).pages) (omega (arith, length_same)) in
-      let at : position (λ (r : PageColumns). eqb r.page_id (1 + length h.pages)) (bare_tables h).pages ≡ None = rw (by_id, above) refl in
-      let next : IsNext (bare_tables h) new = record {
-        number = omega (arith, length_same);
-        few = omega (arith, few);
-        title = and_from (is_page_title title) (not (list_any (λ (r : PageColumns). title_eq r.page_title title) (bare_tables h).pages)) real (ap not (titles-any h title 1 h.pages ∙ none));
-      } in
-      let added : with_page (bare_tables h).pages new ≡ (bare_tables h).pages ++ new ∷ [] = rw (at, with_page) refl in
-      let pages : with_page (bare_tables h).pages new ≡ (bare_tables after).pages =
+      let above : ltb (length h.pages) (length (history_tables h).pages) ≡ false = le-ltb (length h.pages) (length (history_tables h).pages) (omega (arith, length_same)) in
+      let at : position (λ (r : PageColumns). eqb r.page_id (1 + length h.pages)) (history_tables h).pages ≡ None = rw (by_id, above) refl in
+      let added : with_page (history_tables h).pages new ≡ (history_tables h).pages ++ new ∷ [] = rw (at, with_page) refl in
       added ∙ (ap (λ (rows : List PageColumns). rows ++ new ∷ []) (sym (rows-kept 1 h.pages stand)) ∙ (sym (map-push (page_row after) 1 h.pages (record { title = title; current = current }))
-      ∙ ap (λ (ps : List Page). map (page_row after) (enumerate_from 1 ps)) (sym (pages-saved h title text moment ∙ pages-new title current h.pages none)))) in
-      moved new pages (KeepsRules-next (bare_tables h) new_row new (fit (1 + length h.pages) title number (was ∙ sym now)) next keeps)
+      ∙ ap (λ (ps : List Page). map (page_row after) (enumerate_from 1 ps)) (sym (pages-saved h title text moment ∙ pages-new title current h.pages none))))
+
+  module _ (keeps : KeepsRules (history_tables h)) (real : is_page_title title ≡ true) (short : body_bytes text ≤ max_text) (room : text_bytes h + body_bytes text ≤ max_texts) where
+    fit : (number : ℕ) (named : PageTitle) → unwrap_or (page_number h title) (length h.pages + 1) ≡ number → current_revision h title ≡ current_of (history_tables h).revisions number → FitRevision (history_tables h) new_row (page_after number named)
+    unfolding new_revision
+    fit number named at parent = record {
+      number = let same = length-rows revision_row 1 h.revisions in omega (arith, same);
+      of_page = at;
+      parent = parent;
+      gone = gone-empty text;
+      len = refl;
+      short = short;
+      room = let sum = sum-push (history_tables h).revisions new_row in let old = texts-sum h in omega (arith, sum, old, room);
+      latest = latest-is text;
+      page_len = ap (λ (o : Option (List ℕ)). length (unwrap_or o [])) (text-own h title text moment);
+    }
+      where
+        gone-empty : (o : Option (List ℕ)) → (not (is_none o) || eqb (length (unwrap_or o [])) 0) ≡ true
+        gone-empty None = refl
+        gone-empty (Some t) = refl
+
+        latest-is : (o : Option (List ℕ)) → cond (is_some o) (next_revision h) 0 ≡ cond (is_none o) 0 (1 + length h.revisions)
+        latest-is None = refl
+        latest-is (Some t) = omega arith
+
+    -- the tables after the change are those of the revisions and the pages after the save
+    moved : (page : PageColumns) → with_page (history_tables h).pages page ≡ (history_tables after).pages → KeepsRules (applied (history_tables h) (add_revision new_row ∷ set_page page ∷ [])) → KeepsRules (history_tables after)
+    moved page pages kept =
+        subst (λ (rows : List PageColumns). KeepsRules (record (history_tables h) { revisions = (history_tables after).revisions; pages = rows })) pages
+        (subst (λ (rows : List RevisionColumns). KeepsRules (record (history_tables h) { revisions = rows; pages = with_page (history_tables h).pages page })) (sym revisions-after) kept)
+
+    pub saved-old : list_any is_it h.pages ≡ true → KeepsRules (history_tables after)
+    saved-old there =
+        let place = position_or_len is_it h.pages in
+        let in_pages = placed-in title current h.pages ∙ there in
+        let within : place < length h.pages = ltb-true place (length h.pages) in_pages in
+        let found = got h.pages place within in
+        let first : find is_it h.pages ≡ Some found.0 = find_at is_it h.pages ∙ found.1 in
+        let number : unwrap_or (page_number h title) (length h.pages + 1) ≡ 1 + place = rw in_pages (omega arith) in
+        let old = page_row h (1 + place, found.0) in
+        let row : slice_get (history_tables h).pages place ≡ Some old = row-at (page_row h) 1 h.pages place found.0 found.1 in
+        let good = EachGood-at (has_good_latest (history_tables h)) (history_tables h).pages place old keeps.latest row in
+        let has = has-last (history_tables h) (take place (history_tables h).pages) old (IsGood-from_rules (history_tables h) keeps) good in
+        let now : current_of (history_tables h).revisions (1 + place) ≡ cond has.last.rev_gone 0 has.last.rev_id = rw (has.is, current_of) refl in
+        let was : current_revision h title ≡ found.0.current = rw first refl in
+        let new = page_after (1 + place) found.0.title in
+        let by_id = id-place h 1 (1 + place) h.pages place refl within in
+        let standing : IsStanding (history_tables h) old new = record {
+          there = find_at (λ (r : PageColumns). eqb r.page_id (1 + place)) (history_tables h).pages ∙ (ap (slice_get (history_tables h).pages) by_id ∙ row);
+          title = refl;
+        } in
+        let pages = pages-old found.0 there found.1 in
+        moved new pages (KeepsRules-standing (history_tables h) new_row old new (fit (1 + place) found.0.title number (was ∙ (has.latest ∙ sym now))) standing keeps)
+
+    pub saved-new : list_any is_it h.pages ≡ false → length h.pages + 1 ≤ max_pages → KeepsRules (history_tables after)
+    saved-new none few =
+        let past = placed-in title current h.pages ∙ none in
+        let number : unwrap_or (page_number h title) (length h.pages + 1) ≡ 1 + length h.pages = rw past (omega arith) in
+        let new = page_after (1 + length h.pages) title in
+        let missing : has_page (history_tables h) (1 + length h.pages) ≡ false = ids-below h 1 h.pages (1 + length h.pages) (omega arith) in
+        let nothing = none-of (history_tables h) (1 + length h.pages) missing [] (history_tables h).revisions keeps.revisions in
+        let now : current_of (history_tables h).revisions (1 + length h.pages) ≡ 0 = rw (nothing, current_of) refl in
+        let was : current_revision h title ≡ 0 = rw (find-none h.pages none) refl in
+        let length_same = length-rows (page_row h) 1 h.pages in
+        let next : IsNext (history_tables h) new = record {
+          number = omega (arith, length_same);
+          few = omega (arith, few);
+          title = and_from (is_page_title title) (not (list_any (λ (r : PageColumns). title_eq r.page_title title) (history_tables h).pages)) real (ap not (titles-any h title 1 h.pages ∙ none));
+        } in
+        let pages = pages-added none in
+        moved new pages (KeepsRules-next (history_tables h) new_row new (fit (1 + length h.pages) title number (was ∙ sym now)) next keeps)

@@ -23,6 +23,7 @@ use Rattle.wk_view_laws.proofs.PlanLemmas.{title_eq-same}
 use Rattle.wk_state_rules.specs.States.{State, title_at}
 use Rattle.wk_state_rules.specs.Tables.{tables_of, page_row}
 use Rattle.wk_state_laws.proofs.SavedHistory.{apart-eq, eq-apart}
+use Rattle.wk_state_laws.specs.Kept.{FanFits}
 use Rattle.wk_state_laws.proofs.Formed.{Within}
 
 -- the params were read, and their cursor is low
@@ -126,9 +127,6 @@ titles-apart h m n distinct first second other same =
     other (omega (arith, first.0, second.0, place))
 
 -- ---- the rows of the jobs
-
-abbrev FanFits : ℕ → FanEntry → Type 0
-FanFits pages fan = (is_normal fan.title ≡ true) × (fan.cursor ≤ pages)
 
 abbrev row_of_fan : FanEntry → JobColumns
 row_of_fan job = fan_row job.number job.title (record { reach = job.reach; cursor = job.cursor })

@@ -17,15 +17,7 @@ use Rattle.wk_table_laws.proofs.Pairs.{each-append, each-weaker, Cross, Pairs-ap
 use Rattle.wk_table_laws.proofs.Links.{row_lt-lower, GoodAfter-map, link-good, category-good, redirect-good, own-page}
 use Rattle.wk_state_rules.specs.States.{State, title_at}
 use Rattle.wk_state_rules.specs.Tables.{tables_of, page_row, link_rows, rows_of_pages}
-
--- the link rows of a page are such as good tables have
-pub record AreGoodRows (stored : PageRows) : Type 0 where
-  pub templates : EachGood is_next_title stored.templates
-  pub exists : EachGood is_next_title stored.exists
-  pub links : EachGood is_next_title stored.links
-  pub members : EachGood is_next_member stored.members
-  pub categories : AllByRecursion (λ (m : Member). m.category.ns ≡ pos 14) stored.members
-  pub redirect : IfSome stored.redirect (λ title. is_page_title title ≡ true)
+use Rattle.wk_state_laws.specs.Kept.{AreGoodRows}
 
 pub AreGoodRows-none : AreGoodRows no_rows
 AreGoodRows-none = record { templates = tt; exists = tt; links = tt; members = tt; categories = tt; redirect = tt }

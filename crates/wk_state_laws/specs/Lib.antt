@@ -1,5 +1,6 @@
 pub mod Saves
 pub mod Conflicts
 pub mod WellFormed
+pub mod Kept
 pub mod FanRuns
 pub mod Reached

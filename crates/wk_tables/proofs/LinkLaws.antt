@@ -8,10 +8,11 @@ use Rattle.std.proofs.lemmas.List.{append-nil, append_assoc, drop_more, reverse-
 use Rattle.std.proofs.lemmas.List.Concat.{flat_map-append}
 use Rattle.std.proofs.lemmas.List.Elements.{All-cons, All-map, All-push, All-set}
 use Rattle.std.proofs.lemmas.List.Quantifiers.{all_pairs_push, position-Some}
-use Rattle.wk_table_rules.specs.Changes.{PageLinks, with_rows_of}
+use Rattle.wk_row_rules.specs.PageRows.{PageRows}
+use Rattle.wk_table_rules.specs.Changes.{with_rows_of}
 use Rattle.wk_table_rules.specs.Rows.{CategoryColumns, LinkColumns, PageColumns, RedirectColumns}
 use Rattle.wk_tables.specs.Rising.{IsRising}
-use Rattle.wk_tables.specs.LinkLists.{AreOf, IsCut, LinkLists, PageRows, appended, joined, no_rows, rows_of_lists, with_page_rows}
+use Rattle.wk_tables.specs.LinkLists.{AreOf, IsCut, LinkLists, PageBlock, appended, joined, no_lists, rows_of_lists, with_rows_of_page}
 use Rattle.wk_tables.specs.LinkForms.{IsByPage, KeepsLinks, Sets, pages_held}
 use Rattle.wk_tables.specs.declared.links.Form.{Form}
 use Rattle.wk_tables.specs.declared.links.Form.TheVariants.{ByPage, InRows}
@@ -39,22 +40,22 @@ map-same f (x ∷ xs) zero y same = ap (λ n. n ∷ map f xs) (sym (same y))
 map-same f (x ∷ xs) (suc i) y same = ap (λ later. f x ∷ later) (map-same f xs i y same)
 
 -- a page without rows at the end
-flat_map-push_none : {Row : Type 0} (rows : PageRows → List Row) (slots : List PageRows) (slot : PageRows) → rows slot ≡ [] → flat_map rows (slots ++ slot ∷ []) ≡ flat_map rows slots
+flat_map-push_none : {Row : Type 0} (rows : PageBlock → List Row) (slots : List PageBlock) (slot : PageBlock) → rows slot ≡ [] → flat_map rows (slots ++ slot ∷ []) ≡ flat_map rows slots
 flat_map-push_none rows slots slot none = flat_map-append rows slots (slot ∷ []) ∙ ap (λ l. flat_map rows slots ++ (l ++ [])) none ∙ append-nil (flat_map rows slots)
 
-pub joined-push : (slots : List PageRows) (page : ℕ) → joined (slots ++ record { page = page; rows = no_rows } ∷ []) ≡ joined slots
+pub joined-push : (slots : List PageBlock) (page : ℕ) → joined (slots ++ record { page = page; rows = no_lists } ∷ []) ≡ joined slots
 joined-push slots page =
-    let slot : PageRows = record { page = page; rows = no_rows } in
+    let slot : PageBlock = record { page = page; rows = no_lists } in
     same-lists (joined (slots ++ slot ∷ [])) (joined slots)
     (flat_map-push_none (λ p. p.rows.pagelinks) slots slot refl) (flat_map-push_none (λ p. p.rows.templatelinks) slots slot refl)
     (flat_map-push_none (λ p. p.rows.existlinks) slots slot refl) (flat_map-push_none (λ p. p.rows.categorylinks) slots slot refl)
     (flat_map-push_none (λ p. p.rows.redirects) slots slot refl)
 
-pub IsByPage-push : (slots : List PageRows) (page : ℕ) → IsByPage slots → All (λ earlier. earlier < page) (map (λ p. p.page) slots) → IsByPage (slots ++ record { page = page; rows = no_rows } ∷ [])
+pub IsByPage-push : (slots : List PageBlock) (page : ℕ) → IsByPage slots → All (λ earlier. earlier < page) (map (λ p. p.page) slots) → IsByPage (slots ++ record { page = page; rows = no_lists } ∷ [])
 IsByPage-push slots page keeps above = record {
-  rising = all_pairs_push (λ a b. a.page < b.page) slots (record { page = page; rows = no_rows }) keeps.rising (λ k d inside.
+  rising = all_pairs_push (λ a b. a.page < b.page) slots (record { page = page; rows = no_lists }) keeps.rising (λ k d inside.
       subst (λ n. n < page) (get_or-map (λ p. p.page) slots k d page inside) (above k page (subst (λ n. k < n) (sym (length-map slots (λ p. p.page))) inside)));
-  own = All-push (λ p. AreOf p.page p.rows) slots (record { page = page; rows = no_rows }) keeps.own (record {
+  own = All-push (λ p. AreOf p.page p.rows) slots (record { page = page; rows = no_lists }) keeps.own (record {
     pagelinks = λ k d l. absurd (omega arith);
     templatelinks = λ k d l. absurd (omega arith);
     existlinks = λ k d l. absurd (omega arith);
@@ -64,7 +65,7 @@ IsByPage-push slots page keeps above = record {
 }
 
 -- the rows that lists give are of their page
-pub AreOf-lists : (page : ℕ) (namespace : ℤ) (links : PageLinks) → AreOf page (rows_of_lists page namespace links)
+pub AreOf-lists : (page : ℕ) (namespace : ℤ) (links : PageRows) → AreOf page (rows_of_lists page namespace links)
 AreOf-lists page namespace links = record {
   pagelinks = All-map (λ row. row.from ≡ page) _ links.links (λ k d l. refl);
   templatelinks = All-map (λ row. row.from ≡ page) _ links.templates (λ k d l. refl);
@@ -73,17 +74,17 @@ AreOf-lists page namespace links = record {
   redirects = All-map (λ row. row.rd_from ≡ page) _ (option_to_list links.redirect) (λ k d l. refl);
 }
 
-module _ (old new : List PageRows) (page : ℕ) (rows : LinkLists) (sets : Sets old new page rows) (keeps : IsByPage old) where
-  abbrev slot : PageRows
+module _ (old new : List PageBlock) (page : ℕ) (rows : LinkLists) (sets : Sets old new page rows) (keeps : IsByPage old) where
+  abbrev slot : PageBlock
   slot = record { page = page; rows = rows }
 
-  flat : {Row : Type 0} (of : PageRows → List Row) (from : Row → ℕ) → All (λ p. All (λ row. from row ≡ p.page) (of p)) old
+  flat : {Row : Type 0} (of : PageBlock → List Row) (from : Row → ℕ) → All (λ p. All (λ row. from row ≡ p.page) (of p)) old
       → flat_map of new ≡ with_rows_of from page (flat_map of old) (of slot)
   flat of from own = ap (flat_map of) sets.changed ∙ flat_map-set (λ p. p.page) of from old sets.place slot slot keeps.rising own sets.inside (sets.is_of slot)
 
-  pub joined-set : joined new ≡ with_page_rows (joined old) page rows
+  pub joined-set : joined new ≡ with_rows_of_page (joined old) page rows
   joined-set =
-      same-lists (joined new) (with_page_rows (joined old) page rows)
+      same-lists (joined new) (with_rows_of_page (joined old) page rows)
       (flat (λ p. p.rows.pagelinks) (λ row. row.from) (λ k d l. (keeps.own k d l).pagelinks))
       (flat (λ p. p.rows.templatelinks) (λ row. row.from) (λ k d l. (keeps.own k d l).templatelinks))
       (flat (λ p. p.rows.existlinks) (λ row. row.from) (λ k d l. (keeps.own k d l).existlinks))
@@ -180,10 +181,10 @@ find-none {X} p xs none = go xs (position-None p xs (sym none))
     go (x ∷ xs) fails = rw (fails 0 x (omega arith)) (go xs (λ k d l. fails (suc k) d (omega arith)))
 
 -- what is written at the place of a page
-pub place-is : (slots seen : List PageRows) (page place : ℕ) (slot : PageRows) (rows : LinkLists) → seen ≡ slots → Some place ≡ position (λ s. eqb s.page page) seen
+pub place-is : (slots seen : List PageBlock) (page place : ℕ) (slot : PageBlock) (rows : LinkLists) → seen ≡ slots → Some place ≡ position (λ s. eqb s.page page) seen
     → slot ≡ record { page = page; rows = rows } → Sets slots (set slots place slot) page rows
 place-is slots seen page place slot rows same found is =
-    let at = λ (d : PageRows). position-Some (λ s. eqb s.page page) slots place d (ap (position (λ s. eqb s.page page)) (sym same) ∙ sym found) in
+    let at = λ (d : PageBlock). position-Some (λ s. eqb s.page page) slots place d (ap (position (λ s. eqb s.page page)) (sym same) ∙ sym found) in
     record {
       place = place;
       inside = (at slot).0;
@@ -198,19 +199,19 @@ appended-assoc a b c =
     same-lists (appended (appended a b) c) (appended a (appended b c)) (append_assoc a.pagelinks b.pagelinks c.pagelinks) (append_assoc a.templatelinks b.templatelinks c.templatelinks)
     (append_assoc a.existlinks b.existlinks c.existlinks) (append_assoc a.categorylinks b.categorylinks c.categorylinks) (append_assoc a.redirects b.redirects c.redirects)
 
-pub appended-no_rows : (a : LinkLists) → appended a no_rows ≡ a
-appended-no_rows a =
-    same-lists (appended a no_rows) a (append-nil a.pagelinks) (append-nil a.templatelinks) (append-nil a.existlinks) (append-nil a.categorylinks) (append-nil a.redirects)
+pub appended-no_lists : (a : LinkLists) → appended a no_lists ≡ a
+appended-no_lists a =
+    same-lists (appended a no_lists) a (append-nil a.pagelinks) (append-nil a.templatelinks) (append-nil a.existlinks) (append-nil a.categorylinks) (append-nil a.redirects)
 
 -- nothing is cut yet
 pub IsCut-none : (old : LinkLists) → IsCut old old [] []
-IsCut-none old = record { rows = sym (appended-no_rows old); numbered = refl; own = λ k d l. absurd (omega arith) }
+IsCut-none old = record { rows = sym (appended-no_lists old); numbered = refl; own = λ k d l. absurd (omega arith) }
 
 -- the rows of the page before those that are cut
-pub IsCut-more : (old mid new own : LinkLists) (slots : List PageRows) (page : ℕ) (numbers : List ℕ) → IsCut old mid (reverse slots) numbers
+pub IsCut-more : (old mid new own : LinkLists) (slots : List PageBlock) (page : ℕ) (numbers : List ℕ) → IsCut old mid (reverse slots) numbers
     → mid ≡ appended new own → AreOf page own → IsCut old new (reverse (slots ++ record { page = page; rows = own } ∷ [])) (page ∷ numbers)
 IsCut-more old mid new own slots page numbers cut is own_page =
-    let slot : PageRows = record { page = page; rows = own } in
+    let slot : PageBlock = record { page = page; rows = own } in
     subst (λ s. IsCut old new s (page ∷ numbers)) (sym (reverse-append slots (slot ∷ []))) (record {
       rows = cut.rows ∙ ap (λ m. appended m (joined (reverse slots))) is ∙ appended-assoc new own (joined (reverse slots));
       numbered = ap (λ later. page ∷ later) cut.numbered;
@@ -239,7 +240,7 @@ own-more from page rows end row some within read is own =
     (All-cons (λ r. from r ≡ page) row (drop end rows) is own)
 
 -- rows that are cut by pages whose numbers rise are kept by page
-pub IsByPage-cut : (old new : LinkLists) (slots : List PageRows) (pages : List PageColumns) → IsCut old new slots (map (λ page. page.page_id) pages)
+pub IsByPage-cut : (old new : LinkLists) (slots : List PageBlock) (pages : List PageColumns) → IsCut old new slots (map (λ page. page.page_id) pages)
     → IsRising (λ page. page.page_id) pages → IsByPage slots
 IsByPage-cut old new slots pages cut rising = record {
   rising = IsRising-from_map (λ p. p.page) slots (subst (IsRising (λ n. n)) (sym cut.numbered) (IsRising-map (λ page. page.page_id) pages rising));

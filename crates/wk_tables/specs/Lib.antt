@@ -4,7 +4,6 @@ pub mod Jobs
 pub mod JobsHeld
 pub mod LinkForms
 pub mod LinkLists
-pub mod Members
 pub mod PagesHeld
 pub mod Rising
 pub mod Room

@@ -1,7 +1,7 @@
 -- What the forms of the link tables stand for.
 use Rattle.std.specs.Prelude.{◌≡◌, ℕ, ◌+◌, ◌≤◌, ◌<◌, List, length, map, slice_index_or, slice_set, Option, Some, None, vec_len, vec_capacity}
 use Rattle.std.specs.List.{All}
-use Rattle.wk_tables.specs.LinkLists.{AreOf, LinkLists, PageRows, rows_of_lists, joined}
+use Rattle.wk_tables.specs.LinkLists.{AreOf, LinkLists, PageBlock, rows_of_lists, joined}
 use Rattle.wk_tables.specs.Rising.{IsRising}
 use Rattle.wk_tables.specs.declared.links.LinkRows.{LinkRows}
 use Rattle.wk_tables.specs.declared.links.Brought.{Brought}
@@ -41,7 +41,7 @@ pages_held (ByPage slots) = Some (map (λ slot. slot.page) slots.items)
 pages_held (InRows rows) = None
 
 -- the numbers of the pages rise, and the rows of each are its own
-pub record IsByPage (pages : List PageRows) : Type 0 where
+pub record IsByPage (pages : List PageBlock) : Type 0 where
   pub rising : IsRising (λ page. page.page) pages
   pub own : All (λ page. AreOf page.page page.rows) pages
 
@@ -51,8 +51,8 @@ KeepsLinks (ByPage slots) spare = (spare + vec_len slots ≤ vec_capacity slots)
 KeepsLinks (InRows rows) spare = HasRoom rows spare
 
 -- these are all rows of the page from then on
-pub record Sets (old new : List PageRows) (page : ℕ) (rows : LinkLists) : Type 0 where
+pub record Sets (old new : List PageBlock) (page : ℕ) (rows : LinkLists) : Type 0 where
   pub place : ℕ
   pub inside : place < length old
-  pub is_of : (d : PageRows) → (slice_index_or old place d).page ≡ page
+  pub is_of : (d : PageBlock) → (slice_index_or old place d).page ≡ page
   pub changed : new ≡ slice_set old place (record { page = page; rows = rows })

@@ -3,7 +3,8 @@ use Rattle.std.specs.Prelude.{◌≡◌, ℕ, ℤ, List, ◌++◌, [], map, Opti
 use Rattle.std.specs.List.{All, flat_map}
 use Rattle.std.specs.Option.{option_to_list}
 use Rattle.wk_table_rules.specs.Rows.{LinkColumns, CategoryColumns, RedirectColumns}
-use Rattle.wk_table_rules.specs.Changes.{PageLinks, with_rows_of, link_row, category_row, redirect_row}
+use Rattle.wk_row_rules.specs.PageRows.{PageRows}
+use Rattle.wk_table_rules.specs.Changes.{with_rows_of, link_row, category_row, redirect_row}
 
 pub record LinkLists : Type 0 where
   pub pagelinks : List LinkColumns
@@ -13,11 +14,11 @@ pub record LinkLists : Type 0 where
   pub redirects : List RedirectColumns
 
 -- no rows
-abbrev pub no_rows : LinkLists
-no_rows = record { pagelinks = []; templatelinks = []; existlinks = []; categorylinks = []; redirects = [] }
+abbrev pub no_lists : LinkLists
+no_lists = record { pagelinks = []; templatelinks = []; existlinks = []; categorylinks = []; redirects = [] }
 
 -- the rows that the lists of a page give, where its title is in this namespace
-abbrev pub rows_of_lists : ℕ → ℤ → PageLinks → LinkLists
+abbrev pub rows_of_lists : ℕ → ℤ → PageRows → LinkLists
 rows_of_lists page namespace links = record {
   pagelinks = map (link_row page namespace) links.links;
   templatelinks = map (link_row page namespace) links.templates;
@@ -27,8 +28,8 @@ rows_of_lists page namespace links = record {
 }
 
 -- these as all rows of the page
-abbrev pub with_page_rows : LinkLists → ℕ → LinkLists → LinkLists
-with_page_rows rows page new = record {
+abbrev pub with_rows_of_page : LinkLists → ℕ → LinkLists → LinkLists
+with_rows_of_page rows page new = record {
   pagelinks = with_rows_of (λ row. row.from) page rows.pagelinks new.pagelinks;
   templatelinks = with_rows_of (λ row. row.from) page rows.templatelinks new.templatelinks;
   existlinks = with_rows_of (λ row. row.from) page rows.existlinks new.existlinks;
@@ -55,12 +56,12 @@ pub record AreOf (page : ℕ) (rows : LinkLists) : Type 0 where
   pub redirects : All (λ row. row.rd_from ≡ page) rows.redirects
 
 -- the rows of one page
-pub record PageRows : Type 0 where
+pub record PageBlock : Type 0 where
   pub page : ℕ
   pub rows : LinkLists
 
 -- the rows of these pages, one page after the other
-abbrev pub joined : List PageRows → LinkLists
+abbrev pub joined : List PageBlock → LinkLists
 joined pages = record {
   pagelinks = flat_map (λ page. page.rows.pagelinks) pages;
   templatelinks = flat_map (λ page. page.rows.templatelinks) pages;
@@ -70,7 +71,7 @@ joined pages = record {
 }
 
 -- the rows of these pages, whose numbers are these, were cut from the ends of the tables
-pub record IsCut (old new : LinkLists) (pages : List PageRows) (numbers : List ℕ) : Type 0 where
+pub record IsCut (old new : LinkLists) (pages : List PageBlock) (numbers : List ℕ) : Type 0 where
   pub rows : old ≡ appended new (joined pages)
   pub numbered : map (λ page. page.page) pages ≡ numbers
   pub own : All (λ page. AreOf page.page page.rows) pages

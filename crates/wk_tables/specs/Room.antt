@@ -1,9 +1,10 @@
 -- How much room a change wants.
 use Rattle.std.specs.Prelude.{ℕ, ◌+◌, List, [], ◌∷◌, length}
-use Rattle.wk_table_rules.specs.Changes.{PageLinks, TableEdit, add_revision, set_page, set_rows, add_job, set_job, drop_job, set_version}
+use Rattle.wk_row_rules.specs.PageRows.{PageRows}
+use Rattle.wk_table_rules.specs.Changes.{TableEdit, add_revision, set_page, set_rows, add_job, set_job, drop_job, set_version}
 
 -- room for the link rows of a page
-abbrev pub lists_room : PageLinks → ℕ
+abbrev pub lists_room : PageRows → ℕ
 lists_room links = length links.templates + length links.exists + length links.links + length links.members + 1
 
 abbrev pub edit_room : TableEdit → ℕ

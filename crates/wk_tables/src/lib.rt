@@ -12,9 +12,11 @@ mod tables;
 #[cfg(test)]
 mod tests;
 
-pub use change::{Change, PageLists, RowEdit};
+pub use change::{Change, RowEdit};
 pub use tables::{Tables, apply, broken, make_room};
+pub use wk_row_rules::Reach;
 pub use wk_table_rows::{
-    CategoryRow, JobRow, LinkRow, PageRow, RedirectRow, RevisionRow, TableRows,
+    CategoryRow, JobRow, LinkRow, PageRow, PageRows as PageLists, RedirectRow, RevisionRow,
+    TableRows,
 };
-pub use wk_table_rules::{BadStore, Reach};
+pub use wk_table_rules::BadStore;

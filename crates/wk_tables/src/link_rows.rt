@@ -3,7 +3,7 @@ ghost use Rattle.std.specs.Prelude.{◌≡◌, ℕ, ◌+◌, ◌-◌, ◌≤◌,
 ghost use Rattle.std.specs.List.{All, position, position_or_len};
 ghost use Rattle.std.specs.Option.{option_to_list};
 ghost use Rattle.wk_table_rules.specs.Changes.{with_rows_of, link_row, category_row, redirect_row};
-ghost use Rattle.wk_tables.specs.Members.{member_of};
+ghost use Rattle.wk_table_rows.specs.Members.{member_of};
 
 use crate::number::Numbered;
 use wk_bytes::Text;

@@ -1,21 +1,21 @@
 //! The link tables and the redirect table, kept by page where their rows are in order.
 ghost use Rattle.std.specs.Prelude.{◌≡◌, ℕ, ◌+◌, ◌≤◌, ◌<◌, ◌==◌, ◌++◌, ◌∷◌, [], true, ◌↔◌, IfOk, IfSome, IsTrue, OnOk, map, Some, None, option_map, is_some, vec_len, vec_capacity};
 ghost use Rattle.std.specs.List.{All, list_any};
-ghost use Rattle.wk_table_rules.specs.Changes.{no_links};
-ghost use Rattle.wk_tables.specs.LinkLists.{AreOf, IsCut, appended, joined, no_rows, rows_of_lists, with_page_rows};
+ghost use Rattle.wk_row_rules.specs.PageRows.{no_rows};
+ghost use Rattle.wk_tables.specs.LinkLists.{AreOf, IsCut, appended, joined, no_lists, rows_of_lists, with_rows_of_page};
 ghost use Rattle.wk_tables.specs.LinkForms.{HasRoom, KeepsLinks, Sets, lists_of, pages_held, rows_held};
 ghost use Rattle.wk_tables.specs.Room.{lists_room};
 ghost use Rattle.wk_tables.specs.PagesHeld.{ArePagesOf};
 ghost use Rattle.wk_tables.specs.Rising.{IsRising};
 
-use crate::change::PageLists;
+use crate::change::lists_room;
 use crate::link_rows::{set_categories, set_links, set_redirect, take_end};
 use crate::number::{Numbered, is_rising, place_in_order};
 use crate::shared_rows::{push_all, push_categories, push_links, push_redirect};
 use std::alloc::Global;
 use std::marker::Model;
 use wk_memory::Memory;
-use wk_table_rows::{CategoryRow, LinkRow, PageRow, RedirectRow, share_all};
+use wk_table_rows::{CategoryRow, LinkRow, PageRow, PageRows, RedirectRow, share_all};
 
 /// The rows of the five tables, in any order.
 #[derive(Debug, Drop)]
@@ -31,7 +31,7 @@ pub struct LinkRows {
 #[derive(Debug, Drop)]
 enum Brought {
     /// With the namespace of the page's title.
-    Changed(i64, PageLists),
+    Changed(i64, PageRows),
     Loaded(LinkRows),
 }
 
@@ -43,9 +43,9 @@ struct PageSlot {
 }
 
 impl Model for PageSlot {
-    ghost use Rattle.wk_tables.specs.LinkLists.{PageRows};
+    ghost use Rattle.wk_tables.specs.LinkLists.{PageBlock};
 
-    ghost Value = { PageRows };
+    ghost Value = { PageBlock };
 
     ghost use Rattle.wk_tables.specs.LinkForms.{brought};
 
@@ -62,7 +62,7 @@ impl Numbered for PageSlot {
 
 impl PageSlot {
     /// The page with these rows, which the lists give.
-    fn changed(page: u64, namespace: i64, lists: PageLists) -> PageSlot
+    fn changed(page: u64, namespace: i64, lists: PageRows) -> PageSlot
         ensures { result ≡ record { page = page; rows = rows_of_lists page namespace lists } }
     {
         PageSlot {
@@ -105,7 +105,7 @@ impl Model for Links {
 impl Links {
     /// No rows and no pages. Takes no memory.
     pub fn new(alloc: Global) -> Links
-        ensures { result ≡ record { rows = no_rows; pages = Some []; spare = 0 } }
+        ensures { result ≡ record { rows = no_lists; pages = Some []; spare = 0 } }
     {
         Links {
             form: Form::ByPage(Vec::new(alloc)),
@@ -169,14 +169,14 @@ impl Links {
     }
 
     /// Makes these all rows of the page, whose title is in this namespace. Takes no memory.
-    pub fn set_rows(&mut self, page: u64, namespace: i64, lists: PageLists)
+    pub fn set_rows(&mut self, page: u64, namespace: i64, lists: PageRows)
         requires room { lists_room lists ≤ self.old.spare }
         requires there { IfSome self.old.pages (λ pages. list_any (λ other. other == page) pages ≡ true) }
-        ensures rows { self.new.rows ≡ with_page_rows self.old.rows page (rows_of_lists page namespace lists) }
+        ensures rows { self.new.rows ≡ with_rows_of_page self.old.rows page (rows_of_lists page namespace lists) }
         ensures pages { self.new.pages ≡ self.old.pages }
         ensures spare { self.new.spare + lists_room lists ≡ self.old.spare }
     {
-        self.spare -= lists.room();
+        self.spare -= lists_room(&lists).unwrap();
         set_form(&mut self.form, page, namespace, lists);
     }
 }
@@ -247,7 +247,7 @@ fn take_page(rows: &mut LinkRows, page: u64) -> Result<LinkRows, Memory>
 impl LinkRows {
     /// Whether there is no row in any table.
     fn is_empty(&self) -> bool
-        ensures { IsTrue result ↔ (lists_of self.now ≡ no_rows) }
+        ensures { IsTrue result ↔ (lists_of self.now ≡ no_lists) }
     {
         let no_links = self.pagelinks.is_empty() && self.templatelinks.is_empty();
         let no_others = self.existlinks.is_empty() && self.categorylinks.is_empty();
@@ -256,7 +256,7 @@ impl LinkRows {
 
     /// No rows. Takes no memory.
     fn new(alloc: Global) -> LinkRows
-        ensures { lists_of result ≡ no_rows }
+        ensures { lists_of result ≡ no_lists }
     {
         LinkRows {
             pagelinks: Vec::new(alloc),
@@ -298,12 +298,7 @@ fn push_slot_rows(out: &mut LinkRows, slot: &PageSlot) -> Result<(), Memory>
 }
 
 /// Appends the rows that the lists of a page give.
-fn push_lists(
-    out: &mut LinkRows,
-    page: u64,
-    namespace: i64,
-    lists: &PageLists,
-) -> Result<(), Memory>
+fn push_lists(out: &mut LinkRows, page: u64, namespace: i64, lists: &PageRows) -> Result<(), Memory>
     ensures { OnOk result (lists_of out.new ≡ appended (lists_of out.old) (rows_of_lists page namespace lists.now)) }
 {
     push_links(&mut out.pagelinks, page, namespace, &lists.links)?;
@@ -371,19 +366,19 @@ fn add_slot(form: &mut Form, page: u64)
 /// Appends the slot of a page without rows.
 fn push_slot(slots: &mut Vec<PageSlot>, page: u64)
     requires { vec_len slots.old < vec_capacity slots.old }
-    ensures slots { slots.new.items ≡ slots.old.items ++ record { page = page; rows = no_rows } ∷ [] }
+    ensures slots { slots.new.items ≡ slots.old.items ++ record { page = page; rows = no_lists } ∷ [] }
     ensures len { vec_len slots.new ≡ vec_len slots.old + 1 }
     ensures capacity { vec_capacity slots.new ≡ vec_capacity slots.old }
 {
-    let lists = PageLists::new(*slots.allocator());
+    let lists = PageRows::new(*slots.allocator());
     slots.push_reserved(PageSlot::changed(page, 0, lists));
 }
 
 /// Makes these all rows of the page.
-fn set_form(form: &mut Form, page: u64, namespace: i64, lists: PageLists)
+fn set_form(form: &mut Form, page: u64, namespace: i64, lists: PageRows)
     requires room { KeepsLinks form.old (lists_room lists) }
     requires there { IfSome (pages_held form.old) (λ pages. list_any (λ other. other == page) pages ≡ true) }
-    ensures rows { rows_held form.new ≡ with_page_rows (rows_held form.old) page (rows_of_lists page namespace lists) }
+    ensures rows { rows_held form.new ≡ with_rows_of_page (rows_held form.old) page (rows_of_lists page namespace lists) }
     ensures pages { pages_held form.new ≡ pages_held form.old }
     ensures kept { (n m : ℕ) → n + lists_room lists ≤ m → KeepsLinks form.old m → KeepsLinks form.new n }
 {
@@ -408,7 +403,7 @@ fn reserve_rows(rows: &mut LinkRows, more: usize) -> Result<(), Memory>
 }
 
 /// Makes these all rows of the page in its slot.
-fn set_slot(slots: &mut Vec<PageSlot>, page: u64, namespace: i64, lists: PageLists)
+fn set_slot(slots: &mut Vec<PageSlot>, page: u64, namespace: i64, lists: PageRows)
     requires rising { IsRising (λ slot. slot.page) slots.old.items }
     requires there { list_any (λ slot. slot.page == page) slots.old.items ≡ true }
     ensures sets { Sets slots.old.items slots.new.items page (rows_of_lists page namespace lists) }
@@ -421,12 +416,12 @@ fn set_slot(slots: &mut Vec<PageSlot>, page: u64, namespace: i64, lists: PageLis
 }
 
 /// Makes these all rows of the page, among rows in any order.
-fn set_in_rows(rows: &mut LinkRows, page: u64, namespace: i64, lists: PageLists)
+fn set_in_rows(rows: &mut LinkRows, page: u64, namespace: i64, lists: PageRows)
     requires { HasRoom rows.old (lists_room lists) }
-    ensures rows { lists_of rows.new ≡ with_page_rows (lists_of rows.old) page (rows_of_lists page namespace lists) }
+    ensures rows { lists_of rows.new ≡ with_rows_of_page (lists_of rows.old) page (rows_of_lists page namespace lists) }
     ensures kept { (n m : ℕ) → n + lists_room lists ≤ m → HasRoom rows.old m → HasRoom rows.new n }
 {
-    let PageLists {
+    let PageRows {
         templates,
         exists,
         links,

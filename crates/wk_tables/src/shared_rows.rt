@@ -2,7 +2,7 @@
 ghost use Rattle.std.specs.Prelude.{◌≡◌, ◌++◌, map, IfOk, OnOk};
 ghost use Rattle.std.specs.Option.{option_to_list};
 ghost use Rattle.wk_table_rules.specs.Changes.{link_row, category_row, redirect_row};
-ghost use Rattle.wk_tables.specs.Members.{member_of};
+ghost use Rattle.wk_table_rows.specs.Members.{member_of};
 
 use wk_bytes::Text;
 use wk_memory::Memory;

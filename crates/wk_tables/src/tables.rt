@@ -8,7 +8,7 @@ ghost use Rattle.wk_tables.specs.Edits.{edit_of};
 ghost use Rattle.wk_tables.specs.Room.{edit_room, room_for};
 ghost use Rattle.wk_tables.specs.PagesHeld.{ArePagesOf};
 
-use crate::change::{Change, PageLists, RowEdit};
+use crate::change::{Change, RowEdit, lists_room};
 use crate::job_list::JobList;
 use crate::links::{LinkRows, Links};
 use crate::number::{Numbered, place_of};
@@ -16,7 +16,7 @@ use std::alloc::Global;
 use std::marker::Model;
 use wk_good_rows::broken_rows;
 use wk_memory::Memory;
-use wk_table_rows::{JobRow, PageRow, RevisionRow, TableRows, share_all};
+use wk_table_rows::{JobRow, PageRow, PageRows, RevisionRow, TableRows, share_all};
 use wk_table_rules::BadStore;
 
 impl Numbered for PageRow {
@@ -199,14 +199,14 @@ impl Tables {
         self.spare -= 1;
     }
 
-    fn set_rows(&mut self, page: u64, lists: PageLists)
+    fn set_rows(&mut self, page: u64, lists: PageRows)
         requires room { edit_room (set_rows page lists) ≤ self.old.spare }
         requires fits { edit_fits self.old.tables (set_rows page lists) ≡ true }
         ensures tables { self.new.tables ≡ edited self.old.tables (set_rows page lists) }
         ensures spare { self.new.spare + edit_room (set_rows page lists) ≡ self.old.spare }
     {
         let namespace = self.namespace_of(page);
-        let room = lists.room();
+        let room = lists_room(&lists).unwrap();
         self.links.set_rows(page, namespace, lists);
         self.spare -= room;
     }

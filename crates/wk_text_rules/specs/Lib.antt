@@ -6,4 +6,5 @@ pub mod Marked
 pub mod Numerals
 pub mod Occurrences
 pub mod Shapes
+pub mod Targets
 pub mod Titles

@@ -1,11 +1,12 @@
 -- The links in an output (MediaWiki's Help:Links and Help:Categories; the profile's own choices are marked own).
-use Rattle.std.specs.Prelude.{ℕ, ◌+◌, ◌==◌, pos, Bool, ◌&&◌, ◌||◌, not, nat_le, List, [], length, drop, filter, filter_map, codes, Option, Some, None, option_map, option_and_then, if◌then◌else◌}
-use Rattle.std.specs.List.{list_any, starts_with, take_while}
+use Rattle.std.specs.Prelude.{ℕ, ◌+◌, ◌==◌, pos, Bool, ◌&&◌, not, nat_le, List, [], length, drop, filter, filter_map, codes, Option, Some, None, option_map, option_and_then, if◌then◌else◌}
+use Rattle.std.specs.List.{starts_with, take_while}
 use Rattle.std.specs.Option.{option_or}
 use Rattle.std.specs.Ordering.{int_eq}
 use Rattle.wk_text_rules.specs.Blank.{trimmed}
 use Rattle.wk_text_rules.specs.Marked.{MarkedByte, is_plain, byte_of, text_of, plainly, holds_plainly}
 use Rattle.wk_text_rules.specs.Shapes.{Span, split_at_nearest, spans}
+use Rattle.wk_text_rules.specs.Targets.{is_target_byte}
 use Rattle.wk_text_rules.specs.Titles.{PageTitle, normal, is_virtual}
 
 -- What an occurrence links to: a page; a category that the page becomes a member of, with the sort key prefix
@@ -23,9 +24,9 @@ pub record Occurrence : Type 0 where
 
 -- ---- what the brackets hold
 
--- a plain byte other than the brackets, braces, the bar, the angle brackets and the newline
-abbrev pub is_target_byte : MarkedByte → Bool
-is_target_byte m = is_plain m && not (byte_of m == 10 || list_any (λ b. byte_of m == b) (codes "[]|{}<>"))
+-- a plain byte that a target may hold
+abbrev pub is_plain_target : MarkedByte → Bool
+is_plain_target m = is_plain m && is_target_byte (byte_of m)
 
 -- the most bytes of a label (own)
 abbrev pub most_label : ℕ
@@ -56,7 +57,7 @@ abbrev pub content : List MarkedByte → Option Content
 content out =
     option_and_then
     (λ inside.
-    let target = take_while is_target_byte inside in
+    let target = take_while is_plain_target inside in
     let behind = drop (length target) inside in
     option_or (bare target behind) (labelled target behind))
     (plainly (codes "[[") out)

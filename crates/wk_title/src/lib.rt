@@ -4,13 +4,19 @@
 mod characters;
 mod legal;
 mod namespace;
+mod naming;
 mod parts;
 mod rules;
+mod spaces;
+mod target;
 #[cfg(test)]
 mod tests;
 mod title;
 
 pub use characters::to_nfc;
 pub use namespace::{is_namespace, namespace_name};
+pub use naming::{named, page_named};
 pub use rules::{normalize, shown};
+pub use spaces::{push_with_spaces, spaced};
+pub use target::target_len;
 pub use title::{Title, TitleRefusal, order_is_by_namespace_then_key};

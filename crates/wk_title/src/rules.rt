@@ -1,13 +1,14 @@
 //! Which title a text names, and how a title is shown.
 ghost use Rattle.std.specs.Prelude.{◌≡◌, ◌+◌, ◌≤◌, ◌<◌, ◌^◌, ◌++◌, true, length, encode_utf8_all, string_bytes, string_len, string_capacity, IfOk, OnOk, OnErr};
-ghost use Rattle.wk_text_rules.specs.Titles.{is_namespace, normal, with_spaces, shown};
+ghost use Rattle.wk_text_rules.specs.Titles.{is_namespace, normal, shown};
 ghost use Rattle.wk_title.specs.Placed.{placed_key};
-ghost use Rattle.wk_title.specs.Shown.{with_space, shown_namespace};
+ghost use Rattle.wk_title.specs.Shown.{shown_namespace};
 
 use crate::characters::{capitalized, squeezed, to_nfc, without_fragment};
 use crate::legal::is_legal_key;
 use crate::namespace::namespace_name;
 use crate::parts::{after_leading_colon, after_namespace};
+use crate::spaces::push_with_spaces;
 use crate::title::{Title, TitleRefusal};
 use std::alloc::{AllocError, Global};
 use wk_bytes::Text;
@@ -50,21 +51,6 @@ pub fn normalize(alloc: Global, text: &str, default_ns: i8) -> Result<Title, Tit
     }
     let key = key_text(alloc, &key)?;
     Ok(Title::new(ns, key))
-}
-
-fn with_space(c: char) -> char
-    ensures { result ≡ with_space c }
-{
-    if c == '_' { ' ' } else { c }
-}
-
-fn push_with_spaces(into: &mut String, key: &str)
-    requires room { string_len into.old + length key.now ≤ string_capacity into.old }
-    ensures { string_bytes into.new ≡ string_bytes into.old ++ with_spaces key.now }
-{
-    for c in key.chars() {
-        into.push(with_space(c)).unwrap();
-    }
 }
 
 fn push_namespace(into: &mut String, ns: i8)

@@ -1,5 +1,8 @@
 //! Titles of texts; the expected values are MediaWiki's, or follow from the profile's own rules by hand.
-use crate::{Title, TitleRefusal, is_namespace, namespace_name, normalize, shown};
+use crate::{
+    Title, TitleRefusal, is_namespace, namespace_name, normalize, page_named, shown, spaced,
+    target_len,
+};
 use std::alloc::{AllocError, Global};
 use std::test::Fail;
 
@@ -129,5 +132,62 @@ fn shares_a_title(rt: HostRuntime) -> Result<(), Fail> {
     let (ns, key) = title.into_parts();
     assert_eq!(rt; ns, 3);
     assert_eq!(rt; key.as_str(), "A_b");
+    Ok(())
+}
+
+/// Texts, and the namespace of the page that each names.
+const PAGES: [(&str, Option<i8>); 5] = [
+    ("a", Some(0)),
+    (":category:a", Some(14)),
+    ("special:a", None),
+    ("media:a", None),
+    ("a|", None),
+];
+
+#[test]
+fn names_pages(rt: HostRuntime) -> Result<(), Fail> {
+    for (text, ns) in PAGES {
+        let page = page_named(rt.alloc(), text)?;
+        assert_eq!(rt; page.map(|title| title.ns()), ns, "in {text:?}");
+    }
+    Ok(())
+}
+
+#[test]
+fn spaces_a_key(rt: HostRuntime) -> Result<(), Fail> {
+    for (key, text) in [
+        ("A_b__c", "A b  c"),
+        ("_", " "),
+        ("\u{e9}_", "\u{e9} "),
+        ("", ""),
+    ] {
+        assert_eq!(rt; spaced(rt.alloc(), key)?.as_str(), text, "in {key:?}");
+    }
+    Ok(())
+}
+
+#[test]
+fn a_target_ends_at_a_bracket_or_a_newline(rt: HostRuntime) {
+    for (inside, len) in [
+        ("a:b c", 5),
+        ("a]]", 1),
+        ("ab|c", 2),
+        ("a\nb", 1),
+        ("<", 0),
+        ("a{", 1),
+        ("", 0),
+    ] {
+        assert_eq!(rt; target_len(inside.as_bytes()), len, "in {inside:?}");
+    }
+}
+
+#[test]
+fn refusals_are_told(rt: HostRuntime) -> Result<(), Fail> {
+    for (refusal, text) in [
+        (TitleRefusal::Illegal, "bad title"),
+        (TitleRefusal::Memory, "out of memory"),
+    ] {
+        assert_eq!(rt; format!(in rt.alloc(); "{refusal}")?.as_str(), text);
+    }
     Ok(())
 }

@@ -10,15 +10,15 @@ use Rattle.wk_lex.specs.Spans.{source_in, span_of, IsWithin, IsRunWhereMarks, Is
 use Rattle.wk_lex.specs.declared.atom.Atom.{Atom}
 use Rattle.wk_tree.proofs.MatchingLemmas.{plained-all}
 use Rattle.wk_tree.proofs.MeetingLemmas.{item-kept}
-use Rattle.wk_tree.specs.Matching.{marks_by, as_run, is_bracket, brackets_at, plained, tokens_by, IsKept, Keeps}
+use Rattle.wk_tree.specs.Matching.{delimiters_by, as_run, is_bracket, brackets_at, plained, tokens_by, IsKept, Keeps}
 use Rattle.wk_tree.specs.Tokens.{opens, fills, item_tokens, items_tokens}
 use Rattle.wk_tree.specs.declared.matching.Matching.{Matching}
-use Rattle.wk_tree.specs.declared.matching.Level.{Level as OpenLevel}
+use Rattle.wk_tree.specs.declared.matching.Opener.{Opener as KeptOpener}
 use Rattle.wk_tree.specs.declared.matching.Run.{Run as OpenRun}
 use Rattle.wk_tree.specs.declared.token.Token.{Token}
 use Rattle.wk_tree.specs.declared.token.Token.TheVariants as token
 use Rattle.wk_tree_laws.specs.OnePass.{PassState, added, opened, closed, passed, nothing_seen, pieces_seen}
-use Rattle.wk_tree_rules.specs.Reduction.{Run, entry, opening, closing, marks_of, run_of_atom, piece_by, piece_of}
+use Rattle.wk_tree_rules.specs.Reduction.{Run, entry, opening, closing, delimiters_of, run_of_atom, piece_by, piece_of}
 use Rattle.wk_tree_rules.specs.Tree.{item_of}
 use Rattle.wk_tree_rules.specs.Trees.{plain, sealed, nothing, Entry, item, bar, equals, height}
 use Rattle.wk_tree_rules.specs.declared.AtomKind.{AtomKind}
@@ -42,19 +42,19 @@ passed-closing seen run = refl
 pub source-length : (text : List ℕ) (atom : Atom) → IsWithin (length text) atom → length (source_in text atom) ≡ atom.len
 source-length text atom w = omega (arith, length-take atom.len (drop atom.start text), length-drop atom.start text, w.some, w.bounded)
 
-marks-first : (b n : ℕ) (more : List ℕ) → 0 < n → marks_of (take n (b ∷ more)) ≡ marks_by (is_bracket b)
-marks-first b zero more h = absurd (omega arith)
-marks-first b (suc n) more h = by_test (b == 123) (b == 125)
+delimiters-first : (b n : ℕ) (more : List ℕ) → 0 < n → delimiters_of (take n (b ∷ more)) ≡ delimiters_by (is_bracket b)
+delimiters-first b zero more h = absurd (omega arith)
+delimiters-first b (suc n) more h = by_test (b == 123) (b == 125)
   where
-    by_test : (s t : _) → (if s then marks_by false else if t then marks_by false else marks_by true) ≡ marks_by (if s then false else if t then false else true)
+    by_test : (s t : _) → (if s then delimiters_by false else if t then delimiters_by false else delimiters_by true) ≡ delimiters_by (if s then false else if t then false else true)
     by_test true t = refl
     by_test false true = refl
     by_test false false = refl
 
-pub marks-at : (text : List ℕ) (atom : Atom) → IsWithin (length text) atom → marks_of (source_in text atom) ≡ marks_by (brackets_at text atom.start)
-marks-at text atom w =
+pub delimiters-at : (text : List ℕ) (atom : Atom) → IsWithin (length text) atom → delimiters_of (source_in text atom) ≡ delimiters_by (brackets_at text atom.start)
+delimiters-at text atom w =
     let within : atom.start < length text = omega (arith, w.some, w.bounded) in
-    ap (λ t. marks_of (take atom.len t)) (drop_more text atom.start 0 within) ∙ marks-first (slice_index_or text atom.start 0) atom.len (drop (atom.start + 1) text) w.some
+    ap (λ t. delimiters_of (take atom.len t)) (drop_more text atom.start 0 within) ∙ delimiters-first (slice_index_or text atom.start 0) atom.len (drop (atom.start + 1) text) w.some
 
 -- the run that an atom is, as the code has it
 abbrev pub run_in : List ℕ → Atom → OpenRun
@@ -63,7 +63,7 @@ run_in text atom = record { brackets = brackets_at text atom.start; count = atom
 pub run-is : (text : List ℕ) (atom : Atom) → IsWithin (length text) atom → run_of_atom (span_of text atom) ≡ as_run (run_in text atom)
 run-is text atom w =
     let at : atom.start ≡ (atom.start + atom.len) - atom.len = omega arith in
-    ap₂ (λ m (n : ℕ × ℕ). record { marks = m; start = n.0; count = n.1 }) (marks-at text atom w) (ap₂ (λ s k. (s, k)) at (source-length text atom w))
+    ap₂ (λ m (n : ℕ × ℕ). record { delimiters = m; start = n.0; count = n.1 }) (delimiters-at text atom w) (ap₂ (λ s k. (s, k)) at (source-length text atom w))
 
 either-long : (a b : ℕ) (source : List ℕ) → IsRunOfEither a b source → 2 ≤ length source
 either-long a b source (inl r) = r.long
@@ -90,49 +90,49 @@ module _ (text : List ℕ) (atom : Atom) (seen : PassState) (within : IsWithin (
   abbrev next : PassState
   next = passed seen (piece_of (span_of text atom) ∷ [])
 
-  pub step-open : {tokens : List Token} {places : List ℕ} {levels : List OpenLevel} → atom.kind ≡ Open → IsRunWhereMarks text atom
-      → (2 ≤ atom.len → atom.len ≤ atom.start + atom.len → Keeps (opened (as_run (run_in text atom)) seen) tokens places levels) → Keeps next tokens places levels
-  step-open {tokens = tokens} {places = places} {levels = levels} is marks h =
-      let long : 2 ≤ length (source_in text atom) = either-long 123 91 (source_in text atom) (subst (λ k. IsRunWhereMarks text (record atom { kind = k })) is marks) in
+  pub step-open : {tokens : List Token} {places : List ℕ} {openers : List KeptOpener} → atom.kind ≡ Open → IsRunWhereMarks text atom
+      → (2 ≤ atom.len → atom.len ≤ atom.start + atom.len → Keeps (opened (as_run (run_in text atom)) seen) tokens places openers) → Keeps next tokens places openers
+  step-open {tokens = tokens} {places = places} {openers = openers} is delimiters h =
+      let long : 2 ≤ length (source_in text atom) = either-long 123 91 (source_in text atom) (subst (λ k. IsRunWhereMarks text (record atom { kind = k })) is delimiters) in
       let same : opened (as_run (run_in text atom)) seen ≡ next =
       ap (λ r. opened r seen) (sym (run-is text atom within)) ∙ sym (passed-opening seen (run_of_atom (span_of text atom))) ∙ ap (λ k. passed seen (piece_by k (span_of text atom) ∷ [])) (sym is) in
-      subst (λ s. Keeps s tokens places levels) same (h (omega (arith, source-length text atom within, long)) (omega arith))
+      subst (λ s. Keeps s tokens places openers) same (h (omega (arith, source-length text atom within, long)) (omega arith))
 
-  pub step-close : {tokens : List Token} {places : List ℕ} {levels : List OpenLevel} → atom.kind ≡ Close → IsRunWhereMarks text atom
-      → (2 ≤ atom.len → atom.len ≤ atom.start + atom.len → Keeps (closed atom.len (as_run (run_in text atom)) seen) tokens places levels) → Keeps next tokens places levels
-  step-close {tokens = tokens} {places = places} {levels = levels} is marks h =
-      let long : 2 ≤ length (source_in text atom) = either-long 125 93 (source_in text atom) (subst (λ k. IsRunWhereMarks text (record atom { kind = k })) is marks) in
+  pub step-close : {tokens : List Token} {places : List ℕ} {openers : List KeptOpener} → atom.kind ≡ Close → IsRunWhereMarks text atom
+      → (2 ≤ atom.len → atom.len ≤ atom.start + atom.len → Keeps (closed atom.len (as_run (run_in text atom)) seen) tokens places openers) → Keeps next tokens places openers
+  step-close {tokens = tokens} {places = places} {openers = openers} is delimiters h =
+      let long : 2 ≤ length (source_in text atom) = either-long 125 93 (source_in text atom) (subst (λ k. IsRunWhereMarks text (record atom { kind = k })) is delimiters) in
       let same : closed atom.len (as_run (run_in text atom)) seen ≡ next =
       ap (λ (r : Run). closed r.count r seen) (sym (run-is text atom within)) ∙ sym (passed-closing seen (run_of_atom (span_of text atom))) ∙ ap (λ k. passed seen (piece_by k (span_of text atom) ∷ [])) (sym is) in
-      subst (λ s. Keeps s tokens places levels) same (h (omega (arith, source-length text atom within, long)) (omega arith))
+      subst (λ s. Keeps s tokens places openers) same (h (omega (arith, source-length text atom within, long)) (omega arith))
 
-  pub step-entry : {tokens : List Token} {places : List ℕ} {levels : List OpenLevel} (e : Entry) → piece_of (span_of text atom) ≡ entry e → Keeps (added (e ∷ []) seen) tokens places levels → Keeps next tokens places levels
-  step-entry {tokens = tokens} {places = places} {levels = levels} e is h =
-      subst (λ s. Keeps s tokens places levels) (sym (passed-entry seen e) ∙ ap (λ p. passed seen (p ∷ [])) (sym is)) h
+  pub step-entry : {tokens : List Token} {places : List ℕ} {openers : List KeptOpener} (e : Entry) → piece_of (span_of text atom) ≡ entry e → Keeps (added (e ∷ []) seen) tokens places openers → Keeps next tokens places openers
+  step-entry {tokens = tokens} {places = places} {openers = openers} e is h =
+      subst (λ s. Keeps s tokens places openers) (sym (passed-entry seen e) ∙ ap (λ p. passed seen (p ∷ [])) (sym is)) h
 
-  pub step-byte : {tokens tokens' : List Token} {places : List ℕ} {levels : List OpenLevel} → atom.kind ≡ Byte → IsOneText (source_in text atom) → tokens' ≡ tokens ++ token.Plain atom.start atom.len ∷ [] → Keeps seen tokens places levels → Keeps next tokens' places levels
+  pub step-byte : {tokens tokens' : List Token} {places : List ℕ} {openers : List KeptOpener} → atom.kind ≡ Byte → IsOneText (source_in text atom) → tokens' ≡ tokens ++ token.Plain atom.start atom.len ∷ [] → Keeps seen tokens places openers → Keeps next tokens' places openers
   unfolding item_tokens height
   step-byte {tokens = tokens} is one t k =
       step-entry (item (plain atom.start (source_in text atom))) (ap (λ k. piece_by k (span_of text atom)) is)
       (item-kept (plain atom.start (source_in text atom)) seen refl
       (t ∙ ap₂ (λ n f. tokens ++ token.Plain atom.start n ∷ f) (sym (source-length text atom within)) (sym (fills-none (source_in text atom) one))) k)
 
-  pub step-sealed : {tokens tokens' : List Token} {places : List ℕ} {levels : List OpenLevel} → atom.kind ≡ Sealed → tokens' ≡ tokens ++ token.Sealed atom.start atom.len ∷ [] → Keeps seen tokens places levels → Keeps next tokens' places levels
+  pub step-sealed : {tokens tokens' : List Token} {places : List ℕ} {openers : List KeptOpener} → atom.kind ≡ Sealed → tokens' ≡ tokens ++ token.Sealed atom.start atom.len ∷ [] → Keeps seen tokens places openers → Keeps next tokens' places openers
   unfolding item_tokens height
   step-sealed {tokens = tokens} is t k =
       step-entry (item (sealed atom.start (source_in text atom))) (ap (λ k. piece_by k (span_of text atom)) is)
       (item-kept (sealed atom.start (source_in text atom)) seen refl (t ∙ ap (λ n. tokens ++ token.Sealed atom.start n ∷ []) (sym (source-length text atom within))) k)
 
-  pub step-nothing : {tokens tokens' : List Token} {places : List ℕ} {levels : List OpenLevel} → piece_of (span_of text atom) ≡ entry (item (nothing atom.start (source_in text atom))) → tokens' ≡ tokens ++ token.Nothing atom.start atom.len ∷ [] → Keeps seen tokens places levels → Keeps next tokens' places levels
+  pub step-nothing : {tokens tokens' : List Token} {places : List ℕ} {openers : List KeptOpener} → piece_of (span_of text atom) ≡ entry (item (nothing atom.start (source_in text atom))) → tokens' ≡ tokens ++ token.Nothing atom.start atom.len ∷ [] → Keeps seen tokens places openers → Keeps next tokens' places openers
   unfolding item_tokens height
   step-nothing {tokens = tokens} is t k =
       step-entry (item (nothing atom.start (source_in text atom))) is
       (item-kept (nothing atom.start (source_in text atom)) seen refl (t ∙ ap (λ n. tokens ++ token.Nothing atom.start n ∷ []) (sym (source-length text atom within))) k)
 
-  pub step-bar : {tokens : List Token} {places : List ℕ} {levels : List OpenLevel} → atom.kind ≡ Bar → Keeps (added (bar atom.start ∷ []) seen) tokens places levels → Keeps next tokens places levels
+  pub step-bar : {tokens : List Token} {places : List ℕ} {openers : List KeptOpener} → atom.kind ≡ Bar → Keeps (added (bar atom.start ∷ []) seen) tokens places openers → Keeps next tokens places openers
   step-bar is k = step-entry (bar atom.start) (ap (λ k. piece_by k (span_of text atom)) is) k
 
-  pub step-equals : {tokens : List Token} {places : List ℕ} {levels : List OpenLevel} → atom.kind ≡ Equals → Keeps (added (equals atom.start ∷ []) seen) tokens places levels → Keeps next tokens places levels
+  pub step-equals : {tokens : List Token} {places : List ℕ} {openers : List KeptOpener} → atom.kind ≡ Equals → Keeps (added (equals atom.start ∷ []) seen) tokens places openers → Keeps next tokens places openers
   step-equals is k = step-entry (equals atom.start) (ap (λ k. piece_by k (span_of text atom)) is) k
 
 pub default-nothing : (kind : AtomKind) (atom : Atom_at) → kind ≢ Open → kind ≢ Close → kind ≢ Bar → kind ≢ Equals → kind ≢ Byte → kind ≢ Sealed → piece_by kind atom ≡ entry (item (nothing atom.start atom.source))
@@ -221,16 +221,16 @@ matched-ends all ahead m none k t =
     let seen : PassState = k.kept_of in
     let end : k.seen ≡ passed nothing_seen (map piece_of all) = ap (λ a. passed k.seen (map piece_of a)) (sym none) ∙ k.goes_on in
     ap laid
-    (t ∙ ap₂ plained k.kept.bars_are (k.kept.tokens_are ∙ sym (append-nil (tokens_by seen.first seen.levels)))
-    ∙ plained-all seen.first seen.levels [] ∙ append-nil (items_tokens (map item_of (pieces_seen seen))))
+    (t ∙ ap₂ plained k.kept.bars_are (k.kept.tokens_are ∙ sym (append-nil (tokens_by seen.first seen.openers)))
+    ∙ plained-all seen.first seen.openers [] ∙ append-nil (items_tokens (map item_of (pieces_seen seen))))
     ∙ sym (seen-laid k.alike)
     ∙ ap (λ s. laid (items_tokens (map item_of (pieces_seen s)))) end
 
-pub matched-begins : (all : List Atom_at) (m : Matching) → m.tokens.items ≡ [] → m.bars.items ≡ [] → m.levels.items ≡ [] → AreMatched all all m
+pub matched-begins : (all : List Atom_at) (m : Matching) → m.tokens.items ≡ [] → m.bars.items ≡ [] → m.openers.items ≡ [] → AreMatched all all m
 matched-begins all m t b l = record {
   seen = nothing_seen;
   kept_of = nothing_seen;
-  kept = record { tokens_are = t; bars_are = b; levels_are = l; fit = tt };
+  kept = record { tokens_are = t; bars_are = b; openers_are = l; fit = tt };
   alike = nothing-alike nothing_seen refl;
   goes_on = refl;
 }

@@ -3,9 +3,9 @@ use Rattle.std.proofs.Common.{◌≡◌, ◌≢◌, ℕ, zero, suc, ◌+◌, ◌
 use Rattle.std.proofs.lemmas.Bool.Decides.{nat_tests}
 use Rattle.std.proofs.lemmas.List.{map-append, length-replicate}
 use Rattle.std.proofs.lemmas.List.Concat.{flat_map-append}
-use Rattle.wk_tree.specs.Layout.{SectionShown, ValueShown, NodeShown, FrameShown, LayoutShown, no_section, no_frame, put, put_each, joined, with_item, with_equals, new_part, with_bar, braces_of, new_node, with_node, laid}
-use Rattle.wk_tree.specs.Shown.{from_end, ShowsItem, shows_plain, shows_sealed, shows_nothing, shows_node, ShowsItems, no_items, one_more, no_name, a_name, ShowsPart, no_parts, part_more, ShowsNode, ShowsNodes, no_nodes, node_more, ShowsSection, ShowsSegment, no_equals, at_equals, ShowsFrame, ShowsFrames, no_frames, frame_more, ShowsLayout}
-use Rattle.wk_tree.specs.Tokens.{opens, fills, text_tokens, is_argument, opening_tokens, item_tokens, row_tokens, items_tokens}
+use Rattle.wk_tree.specs.Layout.{SectionShown, ValueShown, NodeShown, OpenNodeShown, LayoutShown, no_section, no_open_node, put, put_each, joined, with_item, with_equals, new_part, with_bar, braces_of, new_node, with_node, laid}
+use Rattle.wk_tree.specs.Shown.{from_end, ShowsItem, shows_plain, shows_sealed, shows_nothing, shows_node, ShowsItems, no_items, one_more, no_name, a_name, ShowsPart, no_parts, part_more, ShowsNode, ShowsNodes, no_nodes, node_more, ShowsSection, ShowsSegment, no_equals, at_equals, ShowsOpenNode, ShowsOpenNodes, no_open_nodes, open_node_more, ShowsLayout}
+use Rattle.wk_tree.specs.Tokens.{opens, fills, text_tokens, is_argument, opening_tokens, item_tokens, content_tokens, items_tokens}
 use Rattle.wk_tree.specs.Tree.{IsLaidAs}
 use Rattle.wk_tree.specs.declared.item.Item.{Item}
 use Rattle.wk_tree.specs.declared.item.Item.TheVariants as code
@@ -14,8 +14,8 @@ use Rattle.wk_tree.specs.declared.token.Token.TheVariants.{Fill, NodeEnd}
 use Rattle.wk_tree_laws.proofs.ListLemmas.{entries-text, plain_entries-source}
 use Rattle.wk_tree_laws.proofs.PieceLemmas.{entry_source, entries_source}
 use Rattle.wk_tree_laws.proofs.TreeLemmas.{merged-source}
-use Rattle.wk_tree_rules.specs.Tree.{Node, Part, name_by, split_at_bars, nodes_of, row_nodes, nodes}
-use Rattle.wk_tree_rules.specs.Trees.{Item as TreeItem, plain, sealed, nothing, node, NodeKind, template, argument, width, opening_braces, closing_braces, Row, empty_row, item_then, bar_then, equals_then, entries, Entry, item, bar, equals, source_of, row_source, plain_entry, plain_items, put_before, merged, items_source}
+use Rattle.wk_tree_rules.specs.Tree.{Node, Part, name_by, split_at_bars, nodes_of, content_nodes, nodes}
+use Rattle.wk_tree_rules.specs.Trees.{Item as TreeItem, plain, sealed, nothing, node, NodeKind, template, argument, width, opening_braces, closing_braces, Content, empty_content, item_then, bar_then, equals_then, entries, Entry, item, bar, equals, source_of, content_source, plain_entry, plain_items, put_before, merged, items_source}
 
 -- ---- lists of items
 
@@ -115,27 +115,27 @@ part-shows : {ns : List Node} {s : SectionShown} {v : Option ValueShown} {parts 
 part-shows {parts = parts} start (no_equals k) = record { name = no_name; value = k.items; start = refl; len = k.len ∙ sym (value-size parts) }
 part-shows start (at_equals {value = value} k l) = record { name = a_name k.items; value = l.items; start = refl; len = l.len ∙ sym (value-size value) }
 
--- ---- frames
+-- ---- open_nodes
 
-no_frame-shows : {ns : List Node} → ShowsFrame ns no_frame []
-no_frame-shows = record { segment = no_equals no_section-shows; further = no_parts; total = refl }
+no_open_node-shows : {ns : List Node} → ShowsOpenNode ns no_open_node []
+no_open_node-shows = record { segment = no_equals no_section-shows; further = no_parts; total = refl }
 
-frame-item : {ns : List Node} {f : FrameShown} {parts : List Entry} {c : Item} {i : TreeItem} {n : ℕ} → ShowsItem ns c i → n ≡ length (source_of i) → ShowsFrame ns f parts → ShowsFrame ns (with_item c n f) (item i ∷ parts)
-frame-item {parts = parts} {i = i} h e k = record {
+open_node-item : {ns : List Node} {f : OpenNodeShown} {parts : List Entry} {c : Item} {i : TreeItem} {n : ℕ} → ShowsItem ns c i → n ≡ length (source_of i) → ShowsOpenNode ns f parts → ShowsOpenNode ns (with_item c n f) (item i ∷ parts)
+open_node-item {parts = parts} {i = i} h e k = record {
   segment = segment-item h e k.segment;
   further = k.further;
   total = omega (arith, k.total, e, size-cons (item i) parts (length (source_of i)) (size-item i));
 }
 
-frame-equals : {ns : List Node} {f : FrameShown} {parts : List Entry} (start : ℕ) → ShowsFrame ns f parts → ShowsFrame ns (with_equals start f) (equals start ∷ parts)
-frame-equals {parts = parts} start k = record {
+open_node-equals : {ns : List Node} {f : OpenNodeShown} {parts : List Entry} (start : ℕ) → ShowsOpenNode ns f parts → ShowsOpenNode ns (with_equals start f) (equals start ∷ parts)
+open_node-equals {parts = parts} start k = record {
   segment = segment-equals start k.segment;
   further = k.further;
   total = omega (arith, k.total, size-cons (equals start) parts 1 refl);
 }
 
-frame-bar : {ns : List Node} {f : FrameShown} {parts : List Entry} (start : ℕ) → ShowsFrame ns f parts → ShowsFrame ns (with_bar start f) (bar start ∷ parts)
-frame-bar {parts = parts} start k = record {
+open_node-bar : {ns : List Node} {f : OpenNodeShown} {parts : List Entry} (start : ℕ) → ShowsOpenNode ns f parts → ShowsOpenNode ns (with_bar start f) (bar start ∷ parts)
+open_node-bar {parts = parts} start k = record {
   segment = no_equals no_section-shows;
   further = part_more (part-shows start k.segment) k.further;
   total = omega (arith, k.total, size-cons (bar start) parts 1 refl);
@@ -147,12 +147,12 @@ kind-argument : (kind : NodeKind) → braces_of (is_argument kind) ≡ 2 * width
 kind-argument template = refl
 kind-argument argument = refl
 
-node-size : (kind : NodeKind) (start : ℕ) (content : Row) → length (source_of (node kind start content)) ≡ 2 * width kind + length (row_source content)
+node-size : (kind : NodeKind) (start : ℕ) (content : Content) → length (source_of (node kind start content)) ≡ 2 * width kind + length (content_source content)
 unfolding source_of
 node-size kind start content =
-    omega (arith, length-append (opening_braces kind) (row_source content ++ closing_braces kind), length-append (row_source content) (closing_braces kind), length-replicate {A = ℕ} (width kind) 123, length-replicate {A = ℕ} (width kind) 125)
+    omega (arith, length-append (opening_braces kind) (content_source content ++ closing_braces kind), length-append (content_source content) (closing_braces kind), length-replicate {A = ℕ} (width kind) 123, length-replicate {A = ℕ} (width kind) 125)
 
-node-shows : {ns : List Node} {f : FrameShown} (kind : NodeKind) (start : ℕ) (content : Row) → ShowsFrame ns f (entries content) → ShowsNode ns (new_node (is_argument kind) start f) (record { kind = kind; start = start; content = content })
+node-shows : {ns : List Node} {f : OpenNodeShown} (kind : NodeKind) (start : ℕ) (content : Content) → ShowsOpenNode ns f (entries content) → ShowsNode ns (new_node (is_argument kind) start f) (record { kind = kind; start = start; content = content })
 node-shows kind start content k = record {
   argument = refl;
   start = refl;
@@ -193,34 +193,34 @@ source-laid (b ∷ source) tokens = by_test (opens b)
     by_test true = fills-laid (length source) tokens
     by_test false = refl
 
-pub plain-laid : (start : ℕ) (source : List ℕ) (tokens : List Token) → laid (text_tokens start source ++ tokens) ≡ record (laid tokens) { frame = with_item (code.Plain start (length source)) (length source) (laid tokens).frame }
-plain-laid start source tokens = ap (λ (l : LayoutShown). record l { frame = with_item (code.Plain start (length source)) (length source) l.frame }) (source-laid source tokens)
+pub plain-laid : (start : ℕ) (source : List ℕ) (tokens : List Token) → laid (text_tokens start source ++ tokens) ≡ record (laid tokens) { open_node = with_item (code.Plain start (length source)) (length source) (laid tokens).open_node }
+plain-laid start source tokens = ap (λ (l : LayoutShown). record l { open_node = with_item (code.Plain start (length source)) (length source) l.open_node }) (source-laid source tokens)
 
 -- what is laid out with an item in front
 layout-item : {ns : List Node} {l : LayoutShown} {parts : List Entry} {outer : List (List Entry)} {met : List Node} {c : Item} {i : TreeItem} (n : ℕ) → ShowsItem ns c i → n ≡ length (source_of i) → ShowsLayout ns l parts outer met
-    → ShowsLayout ns (record l { frame = with_item c n l.frame }) (item i ∷ parts) outer met
-layout-item n h e k = record { frame = frame-item h e k.frame; around = k.around; nodes = k.nodes }
+    → ShowsLayout ns (record l { open_node = with_item c n l.open_node }) (item i ∷ parts) outer met
+layout-item n h e k = record { open_node = open_node-item h e k.open_node; around = k.around; nodes = k.nodes }
 
 start-laid : (kind : NodeKind) (start : ℕ) (tokens : List Token) → laid (opening_tokens kind start ++ tokens) ≡ with_node (is_argument kind) start (laid tokens)
 start-laid template start tokens = refl
 start-laid argument start tokens = refl
 
-node-laid : {ns : List Node} {f : FrameShown} {frames : List FrameShown} {shown : List NodeShown} {parts : List Entry} {outer : List (List Entry)} {met : List Node} (before : List Node) (kind : NodeKind) (start : ℕ) (content : Row)
+node-laid : {ns : List Node} {f : OpenNodeShown} {open_nodes : List OpenNodeShown} {shown : List NodeShown} {parts : List Entry} {outer : List (List Entry)} {met : List Node} (before : List Node) (kind : NodeKind) (start : ℕ) (content : Content)
     → ns ≡ before ++ record { kind = kind; start = start; content = content } ∷ met
-    → ShowsFrames ns frames (parts ∷ outer) → ShowsFrame ns f (entries content) → ShowsNodes ns shown met
-    → ShowsLayout ns (with_node (is_argument kind) start (record { frame = f; outer = frames; nodes = shown })) (item (node kind start content) ∷ parts) outer (record { kind = kind; start = start; content = content } ∷ met)
-node-laid {ns = ns} {shown = shown} {met = met} before kind start content e (frame_more h k) g nodes =
+    → ShowsOpenNodes ns open_nodes (parts ∷ outer) → ShowsOpenNode ns f (entries content) → ShowsNodes ns shown met
+    → ShowsLayout ns (with_node (is_argument kind) start (record { open_node = f; outer = open_nodes; nodes = shown })) (item (node kind start content) ∷ parts) outer (record { kind = kind; start = start; content = content } ∷ met)
+node-laid {ns = ns} {shown = shown} {met = met} before kind start content e (open_node_more h k) g nodes =
     let made : Node = record { kind = kind; start = start; content = content } in
     let shows = node-shows kind start content g in
     let at : from_end ns (length shown) ≡ Some made = ap (λ l. from_end l (length shown)) e ∙ from_end-at before met made (length shown) (nodes-long nodes) in
     record {
-      frame = frame-item (shows_node (record { 0 = length shown }) kind start content at) (shows.len ∙ sym (node-size kind start content)) h;
+      open_node = open_node-item (shows_node (record { 0 = length shown }) kind start content at) (shows.len ∙ sym (node-size kind start content)) h;
       around = k;
       nodes = node_more shows nodes;
     }
 
 mutual
-  unfolding item_tokens row_tokens nodes_of row_nodes source_of
+  unfolding item_tokens content_tokens nodes_of content_nodes source_of
 
   item-laid : (ns : List Node) (i : TreeItem) (before : List Node) (ts : List Token) {parts : List Entry} {outer : List (List Entry)} {met : List Node} → ns ≡ before ++ (nodes_of i ++ met) → ShowsLayout ns (laid ts) parts outer met
       → ShowsLayout ns (laid (item_tokens i ++ ts)) (item i ∷ parts) outer (nodes_of i ++ met)
@@ -230,32 +230,32 @@ mutual
   item-laid ns (nothing start source) before ts e k = layout-item (length source) (shows_nothing start source) refl k
   item-laid ns (node kind start content) before ts {parts = parts} {outer = outer} {met = met} e k =
       let made : Node = record { kind = kind; start = start; content = content } in
-      let behind : List Token = row_tokens content ++ NodeEnd ∷ ts in
-      let opened : ShowsLayout ns (laid (NodeEnd ∷ ts)) [] (parts ∷ outer) met = record { frame = no_frame-shows; around = frame_more k.frame k.around; nodes = k.nodes } in
-      let inner = row-laid ns content (before ++ made ∷ []) (NodeEnd ∷ ts) (e ∙ sym (append_assoc before (made ∷ []) (row_nodes content ++ met))) opened in
-      let frame = subst (λ es. ShowsFrame ns (laid behind).frame es) (append-nil (entries content)) inner.frame in
-      subst (λ l. ShowsLayout ns l (item (node kind start content) ∷ parts) outer (made ∷ (row_nodes content ++ met)))
-      (sym (ap laid (append_assoc (opening_tokens kind start) (row_tokens content ++ NodeEnd ∷ []) ts ∙ ap (λ t. opening_tokens kind start ++ t) (append_assoc (row_tokens content) (NodeEnd ∷ []) ts)) ∙ start-laid kind start behind))
-      (node-laid before kind start content e inner.around frame inner.nodes)
+      let behind : List Token = content_tokens content ++ NodeEnd ∷ ts in
+      let opened : ShowsLayout ns (laid (NodeEnd ∷ ts)) [] (parts ∷ outer) met = record { open_node = no_open_node-shows; around = open_node_more k.open_node k.around; nodes = k.nodes } in
+      let inner = content-laid ns content (before ++ made ∷ []) (NodeEnd ∷ ts) (e ∙ sym (append_assoc before (made ∷ []) (content_nodes content ++ met))) opened in
+      let open_node = subst (λ es. ShowsOpenNode ns (laid behind).open_node es) (append-nil (entries content)) inner.open_node in
+      subst (λ l. ShowsLayout ns l (item (node kind start content) ∷ parts) outer (made ∷ (content_nodes content ++ met)))
+      (sym (ap laid (append_assoc (opening_tokens kind start) (content_tokens content ++ NodeEnd ∷ []) ts ∙ ap (λ t. opening_tokens kind start ++ t) (append_assoc (content_tokens content) (NodeEnd ∷ []) ts)) ∙ start-laid kind start behind))
+      (node-laid before kind start content e inner.around open_node inner.nodes)
 
-  row-laid : (ns : List Node) (r : Row) (before : List Node) (ts : List Token) {parts : List Entry} {outer : List (List Entry)} {met : List Node} → ns ≡ before ++ (row_nodes r ++ met) → ShowsLayout ns (laid ts) parts outer met
-      → ShowsLayout ns (laid (row_tokens r ++ ts)) (entries r ++ parts) outer (row_nodes r ++ met)
-  row-laid ns empty_row before ts e k = k
-  row-laid ns (item_then i rest) before ts {parts = parts} {outer = outer} {met = met} e k =
-      let f : ns ≡ before ++ (nodes_of i ++ (row_nodes rest ++ met)) = e ∙ ap (λ t. before ++ t) (append_assoc (nodes_of i) (row_nodes rest) met) in
-      let later = row-laid ns rest (before ++ nodes_of i) ts (f ∙ sym (append_assoc before (nodes_of i) (row_nodes rest ++ met))) k in
-      subst (λ m. ShowsLayout ns (laid ((item_tokens i ++ row_tokens rest) ++ ts)) (item i ∷ (entries rest ++ parts)) outer m) (sym (append_assoc (nodes_of i) (row_nodes rest) met))
-      (subst (λ t. ShowsLayout ns (laid t) (item i ∷ (entries rest ++ parts)) outer (nodes_of i ++ (row_nodes rest ++ met))) (sym (append_assoc (item_tokens i) (row_tokens rest) ts))
-      (item-laid ns i before (row_tokens rest ++ ts) f later))
-  row-laid ns (bar_then start rest) before ts e k =
-      let later = row-laid ns rest before ts e k in
-      record { frame = frame-bar start later.frame; around = later.around; nodes = later.nodes }
-  row-laid ns (equals_then start rest) before ts e k =
-      let later = row-laid ns rest before ts e k in
-      record { frame = frame-equals start later.frame; around = later.around; nodes = later.nodes }
+  content-laid : (ns : List Node) (r : Content) (before : List Node) (ts : List Token) {parts : List Entry} {outer : List (List Entry)} {met : List Node} → ns ≡ before ++ (content_nodes r ++ met) → ShowsLayout ns (laid ts) parts outer met
+      → ShowsLayout ns (laid (content_tokens r ++ ts)) (entries r ++ parts) outer (content_nodes r ++ met)
+  content-laid ns empty_content before ts e k = k
+  content-laid ns (item_then i rest) before ts {parts = parts} {outer = outer} {met = met} e k =
+      let f : ns ≡ before ++ (nodes_of i ++ (content_nodes rest ++ met)) = e ∙ ap (λ t. before ++ t) (append_assoc (nodes_of i) (content_nodes rest) met) in
+      let later = content-laid ns rest (before ++ nodes_of i) ts (f ∙ sym (append_assoc before (nodes_of i) (content_nodes rest ++ met))) k in
+      subst (λ m. ShowsLayout ns (laid ((item_tokens i ++ content_tokens rest) ++ ts)) (item i ∷ (entries rest ++ parts)) outer m) (sym (append_assoc (nodes_of i) (content_nodes rest) met))
+      (subst (λ t. ShowsLayout ns (laid t) (item i ∷ (entries rest ++ parts)) outer (nodes_of i ++ (content_nodes rest ++ met))) (sym (append_assoc (item_tokens i) (content_tokens rest) ts))
+      (item-laid ns i before (content_tokens rest ++ ts) f later))
+  content-laid ns (bar_then start rest) before ts e k =
+      let later = content-laid ns rest before ts e k in
+      record { open_node = open_node-bar start later.open_node; around = later.around; nodes = later.nodes }
+  content-laid ns (equals_then start rest) before ts e k =
+      let later = content-laid ns rest before ts e k in
+      record { open_node = open_node-equals start later.open_node; around = later.around; nodes = later.nodes }
 
 items-laid : (ns : List Node) (items : List TreeItem) (before : List Node) → ns ≡ before ++ nodes items → ShowsLayout ns (laid (items_tokens items)) (map item items) [] (nodes items)
-items-laid ns [] before e = record { frame = no_frame-shows; around = no_frames; nodes = no_nodes }
+items-laid ns [] before e = record { open_node = no_open_node-shows; around = no_open_nodes; nodes = no_nodes }
 items-laid ns (i ∷ items) before e =
     item-laid ns i before (items_tokens items) e (items-laid ns items (before ++ nodes_of i) (e ∙ sym (append_assoc before (nodes_of i) (nodes items))))
 
@@ -283,16 +283,16 @@ merged-nodes [] = refl
 merged-nodes (i ∷ items) = put-nodes i (merged items) ∙ ap (λ t. nodes_of i ++ t) (merged-nodes items)
 
 pub is-laid : (items : List TreeItem) (tokens : List Token) (l : LayoutShown) (root : List Item) (found : List NodeShown) → laid tokens ≡ laid (items_tokens items) → l ≡ laid tokens
-    → root ≡ (joined l.frame.section l.frame.value).items → found ≡ l.nodes → IsLaidAs items root found
+    → root ≡ (joined l.open_node.section l.open_node.value).items → found ≡ l.nodes → IsLaidAs items root found
 is-laid items tokens l root found t e r f =
     let is : l ≡ laid (items_tokens items) = e ∙ t in
     let same = merged-nodes items in
     let ns : List Node = nodes (merged items) in
     let k = items-laid ns items [] same in
-    let first : ShowsItems ns (joined (laid (items_tokens items)).frame.section (laid (items_tokens items)).frame.value).items (merged items) =
-    subst (λ t. ShowsItems ns (joined (laid (items_tokens items)).frame.section (laid (items_tokens items)).frame.value).items (merged t)) (ap (map plain_entry) (first-items items) ∙ plain-items items)
-    (joined-shows k.frame.segment).items in
+    let first : ShowsItems ns (joined (laid (items_tokens items)).open_node.section (laid (items_tokens items)).open_node.value).items (merged items) =
+    subst (λ t. ShowsItems ns (joined (laid (items_tokens items)).open_node.section (laid (items_tokens items)).open_node.value).items (merged t)) (ap (map plain_entry) (first-items items) ∙ plain-items items)
+    (joined-shows k.open_node.segment).items in
     record {
-      root_shows = subst (λ x. ShowsItems ns x (merged items)) (sym (r ∙ ap (λ (m : LayoutShown). (joined m.frame.section m.frame.value).items) is)) first;
+      root_shows = subst (λ x. ShowsItems ns x (merged items)) (sym (r ∙ ap (λ (m : LayoutShown). (joined m.open_node.section m.open_node.value).items) is)) first;
       nodes_show = subst (λ x. ShowsNodes ns x ns) (sym (f ∙ ap (λ (m : LayoutShown). m.nodes) is)) (subst (λ m. ShowsNodes ns (laid (items_tokens items)).nodes m) (sym same) k.nodes);
     }

@@ -4,27 +4,27 @@ use Rattle.std.proofs.lemmas.List.{length-replicate, replicate_more, get_or_read
 use Rattle.std.proofs.lemmas.List.Concat.{flat_map-append}
 use Rattle.std.specs.List.{AllByRecursion}
 use Rattle.std.specs.Prelude.{slice_set, slice_index_or}
-use Rattle.wk_tree.specs.Matching.{are_brackets, of_run, run_tokens, bar_places, plain_token, plain_at, plained, raised, tokens_by, bars_by, level_behind, levels_by, IsFit, Keeps, left_tokens, still_open}
-use Rattle.wk_tree.specs.Tokens.{plain_tokens, text_tokens, item_tokens, row_tokens, entry_tokens, entries_tokens, items_tokens}
-use Rattle.wk_tree.specs.declared.matching.Level.{Level as OpenLevel}
+use Rattle.wk_tree.specs.Matching.{are_brackets, of_run, run_tokens, bar_places, plain_token, plain_at, plained, raised, tokens_by, bars_by, opener_behind, openers_by, IsFit, Keeps, left_tokens, still_open}
+use Rattle.wk_tree.specs.Tokens.{plain_tokens, text_tokens, item_tokens, content_tokens, entry_tokens, entries_tokens, items_tokens}
+use Rattle.wk_tree.specs.declared.matching.Opener.{Opener as KeptOpener}
 use Rattle.wk_tree.specs.declared.token.Token.{Token}
 use Rattle.wk_tree.specs.declared.token.Token.TheVariants.{Plain, Bar, Equals, Fill}
-use Rattle.wk_tree_laws.specs.OnePass.{Level, PassState, pieces_by, added_by, added, opened, reopened}
-use Rattle.wk_tree_rules.specs.Reduction.{Marks, braces, brackets, Run, Piece, entry, opening, opening_mark, plain_opening, most_height}
+use Rattle.wk_tree_laws.specs.OnePass.{Opener, PassState, pieces_by, added_by, added, opened, reopened}
+use Rattle.wk_tree_rules.specs.Reduction.{Delimiter, braces, brackets, Run, Piece, entry, opening, opening_delimiter, plain_opening, most_height}
 use Rattle.wk_tree_rules.specs.Tree.{item_of}
-use Rattle.wk_tree_rules.specs.Trees.{Item, Entry, item, bar, equals, row, row_height, height, plain_entry}
+use Rattle.wk_tree_rules.specs.Trees.{Item, Entry, item, bar, equals, content_of, content_height, height, plain_entry}
 
 -- ---- heights
 
-pub height-append : (xs ys : List Entry) → row_height (row (xs ++ ys)) ≡ max (row_height (row xs)) (row_height (row ys))
-unfolding row_height
+pub height-append : (xs ys : List Entry) → content_height (content_of (xs ++ ys)) ≡ max (content_height (content_of xs)) (content_height (content_of ys))
+unfolding content_height
 height-append [] ys = omega arith
 height-append (item i ∷ xs) ys = let later = height-append xs ys in omega arith
 height-append (bar start ∷ xs) ys = height-append xs ys
 height-append (equals start ∷ xs) ys = height-append xs ys
 
-pub height-plain : (es : List Entry) → row_height (row (map (λ e. item (plain_entry e)) es)) ≡ row_height (row es)
-unfolding row_height height
+pub height-plain : (es : List Entry) → content_height (content_of (map (λ e. item (plain_entry e)) es)) ≡ content_height (content_of es)
+unfolding content_height height
 height-plain [] = refl
 height-plain (item i ∷ es) = ap (λ n. max (height i) n) (height-plain es)
 height-plain (bar start ∷ es) = let later = height-plain es in omega arith
@@ -32,18 +32,18 @@ height-plain (equals start ∷ es) = let later = height-plain es in omega arith
 
 -- ---- tokens
 
-pub row-tokens : (es : List Entry) → row_tokens (row es) ≡ entries_tokens es
-unfolding row_tokens
-row-tokens [] = refl
-row-tokens (item i ∷ es) = ap (λ t. item_tokens i ++ t) (row-tokens es)
-row-tokens (bar start ∷ es) = ap (λ t. Bar start ∷ t) (row-tokens es)
-row-tokens (equals start ∷ es) = ap (λ t. Equals start ∷ t) (row-tokens es)
+pub content-tokens : (es : List Entry) → content_tokens (content_of es) ≡ entries_tokens es
+unfolding content_tokens
+content-tokens [] = refl
+content-tokens (item i ∷ es) = ap (λ t. item_tokens i ++ t) (content-tokens es)
+content-tokens (bar start ∷ es) = ap (λ t. Bar start ∷ t) (content-tokens es)
+content-tokens (equals start ∷ es) = ap (λ t. Equals start ∷ t) (content-tokens es)
 
-tokens-added : (parts first : List Entry) (levels : List Level) → tokens_by (added_by parts first levels).first (added_by parts first levels).levels ≡ tokens_by first levels ++ entries_tokens parts
+tokens-added : (parts first : List Entry) (openers : List Opener) → tokens_by (added_by parts first openers).first (added_by parts first openers).openers ≡ tokens_by first openers ++ entries_tokens parts
 tokens-added parts first [] = flat_map-append entry_tokens first parts
-tokens-added parts first (level ∷ levels) =
-    ap (λ t. tokens_by first levels ++ (run_tokens level.run ++ t)) (flat_map-append entry_tokens level.stretch parts)
-    ∙ regroup (tokens_by first levels) (run_tokens level.run) (entries_tokens level.stretch) (entries_tokens parts)
+tokens-added parts first (opener ∷ openers) =
+    ap (λ t. tokens_by first openers ++ (run_tokens opener.run ++ t)) (flat_map-append entry_tokens opener.stretch parts)
+    ∙ regroup (tokens_by first openers) (run_tokens opener.run) (entries_tokens opener.stretch) (entries_tokens parts)
   where
     regroup : (a b c d : List Token) → a ++ (b ++ (c ++ d)) ≡ (a ++ (b ++ c)) ++ d
     regroup a b c d = simp append_assoc
@@ -60,95 +60,95 @@ bar_places-append at (bar start ∷ xs) ys =
 bar_places-append at (equals start ∷ xs) ys =
     ap (λ t. at ∷ t) (bar_places-append (at + 1) xs ys ∙ ap (λ n. bar_places (at + 1) xs ++ bar_places n ys) (omega arith))
 
-bars-added : (parts first : List Entry) (levels : List Level) → bars_by (added_by parts first levels).first (added_by parts first levels).levels ≡ bars_by first levels ++ bar_places (length (tokens_by first levels)) parts
+bars-added : (parts first : List Entry) (openers : List Opener) → bars_by (added_by parts first openers).first (added_by parts first openers).openers ≡ bars_by first openers ++ bar_places (length (tokens_by first openers)) parts
 bars-added parts first [] = bar_places-append 0 first parts ∙ ap (λ n. bar_places 0 first ++ bar_places n parts) (omega arith)
-bars-added parts first (level ∷ levels) =
-    let before = tokens_by first levels in
-    let run = run_tokens level.run in
-    let stretch = entries_tokens level.stretch in
+bars-added parts first (opener ∷ openers) =
+    let before = tokens_by first openers in
+    let run = run_tokens opener.run in
+    let stretch = entries_tokens opener.stretch in
     let long : length (before ++ run) + length stretch ≡ length (before ++ (run ++ stretch)) =
     omega (arith, length-append before run, length-append before (run ++ stretch), length-append run stretch) in
-    ap (λ t. bars_by first levels ++ t) (bar_places-append (length (before ++ run)) level.stretch parts)
-    ∙ sym (append_assoc (bars_by first levels) (bar_places (length (before ++ run)) level.stretch) (bar_places (length (before ++ run) + length stretch) parts))
-    ∙ ap (λ n. (bars_by first levels ++ bar_places (length (before ++ run)) level.stretch) ++ bar_places n parts) long
+    ap (λ t. bars_by first openers ++ t) (bar_places-append (length (before ++ run)) opener.stretch parts)
+    ∙ sym (append_assoc (bars_by first openers) (bar_places (length (before ++ run)) opener.stretch) (bar_places (length (before ++ run) + length stretch) parts))
+    ∙ ap (λ n. (bars_by first openers ++ bar_places (length (before ++ run)) opener.stretch) ++ bar_places n parts) long
 
 -- no bar stands among items
 pub bars-none : (at : ℕ) (es : List Entry) (i : Item) → bar_places at (map (λ e. item (plain_entry e)) es ++ item i ∷ []) ≡ []
 bars-none at [] i = refl
 bars-none at (e ∷ es) i = bars-none (at + length (item_tokens (plain_entry e))) es i
 
--- ---- levels
+-- ---- openers
 
-pub raised-push : (h : ℕ) (levels : List OpenLevel) (level : OpenLevel) → raised h (levels ++ level ∷ []) ≡ levels ++ record level { height = max level.height h } ∷ []
-raised-push h [] level = refl
-raised-push h (a ∷ []) level = refl
-raised-push h (a ∷ b ∷ levels) level = ap (λ t. a ∷ t) (raised-push h (b ∷ levels) level)
+pub raised-push : (h : ℕ) (openers : List KeptOpener) (opener : KeptOpener) → raised h (openers ++ opener ∷ []) ≡ openers ++ record opener { height = max opener.height h } ∷ []
+raised-push h [] opener = refl
+raised-push h (a ∷ []) opener = refl
+raised-push h (a ∷ b ∷ openers) opener = ap (λ t. a ∷ t) (raised-push h (b ∷ openers) opener)
 
-pub raised-zero : (levels : List OpenLevel) → raised 0 levels ≡ levels
+pub raised-zero : (openers : List KeptOpener) → raised 0 openers ≡ openers
 raised-zero [] = refl
-raised-zero (level ∷ []) =
-    let e : max level.height 0 ≡ level.height = omega arith in
-    ap (λ n. record level { height = n } ∷ []) e
-raised-zero (a ∷ b ∷ levels) = ap (λ t. a ∷ t) (raised-zero (b ∷ levels))
+raised-zero (opener ∷ []) =
+    let e : max opener.height 0 ≡ opener.height = omega arith in
+    ap (λ n. record opener { height = n } ∷ []) e
+raised-zero (a ∷ b ∷ openers) = ap (λ t. a ∷ t) (raised-zero (b ∷ openers))
 
-levels-added : (parts first : List Entry) (levels : List Level) → levels_by (added_by parts first levels).first (added_by parts first levels).levels ≡ raised (row_height (row parts)) (levels_by first levels)
-levels-added parts first [] = refl
-levels-added parts first (level ∷ levels) =
-    ap (λ n. levels_by first levels ++ record (level_behind first levels level) { height = n } ∷ []) (height-append level.stretch parts)
-    ∙ sym (raised-push (row_height (row parts)) (levels_by first levels) (level_behind first levels level))
+openers-added : (parts first : List Entry) (openers : List Opener) → openers_by (added_by parts first openers).first (added_by parts first openers).openers ≡ raised (content_height (content_of parts)) (openers_by first openers)
+openers-added parts first [] = refl
+openers-added parts first (opener ∷ openers) =
+    ap (λ n. openers_by first openers ++ record (opener_behind first openers opener) { height = n } ∷ []) (height-append opener.stretch parts)
+    ∙ sym (raised-push (content_height (content_of parts)) (openers_by first openers) (opener_behind first openers opener))
 
-fit-added : (parts first : List Entry) (levels : List Level) → row_height (row parts) ≤ most_height → AllByRecursion IsFit levels → AllByRecursion IsFit (added_by parts first levels).levels
+fit-added : (parts first : List Entry) (openers : List Opener) → content_height (content_of parts) ≤ most_height → AllByRecursion IsFit openers → AllByRecursion IsFit (added_by parts first openers).openers
 fit-added parts first [] low fit = tt
-fit-added parts first (level ∷ levels) low fit =
-    (record { long = fit.0.long; low = omega (arith, height-append level.stretch parts, fit.0.low) }, fit.1)
+fit-added parts first (opener ∷ openers) low fit =
+    (record { long = fit.0.long; low = omega (arith, height-append opener.stretch parts, fit.0.low) }, fit.1)
 
 -- ---- what is kept
 
 -- entries behind what was seen
-pub keeps-added : (parts : List Entry) (seen : PassState) {tokens : List Token} {bars : List ℕ} {levels : List OpenLevel} → row_height (row parts) ≤ most_height → Keeps seen tokens bars levels
-    → Keeps (added parts seen) (tokens ++ entries_tokens parts) (bars ++ bar_places (length tokens) parts) (raised (row_height (row parts)) levels)
-keeps-added parts seen {tokens = tokens} {bars = bars} {levels = levels} low k = record {
-  tokens_are = ap (λ t. t ++ entries_tokens parts) k.tokens_are ∙ sym (tokens-added parts seen.first seen.levels);
-  bars_are = ap₂ (λ b t. b ++ bar_places (length t) parts) k.bars_are k.tokens_are ∙ sym (bars-added parts seen.first seen.levels);
-  levels_are = ap (raised (row_height (row parts))) k.levels_are ∙ sym (levels-added parts seen.first seen.levels);
-  fit = fit-added parts seen.first seen.levels low k.fit;
+pub keeps-added : (parts : List Entry) (seen : PassState) {tokens : List Token} {bars : List ℕ} {openers : List KeptOpener} → content_height (content_of parts) ≤ most_height → Keeps seen tokens bars openers
+    → Keeps (added parts seen) (tokens ++ entries_tokens parts) (bars ++ bar_places (length tokens) parts) (raised (content_height (content_of parts)) openers)
+keeps-added parts seen {tokens = tokens} {bars = bars} {openers = openers} low k = record {
+  tokens_are = ap (λ t. t ++ entries_tokens parts) k.tokens_are ∙ sym (tokens-added parts seen.first seen.openers);
+  bars_are = ap₂ (λ b t. b ++ bar_places (length t) parts) k.bars_are k.tokens_are ∙ sym (bars-added parts seen.first seen.openers);
+  openers_are = ap (raised (content_height (content_of parts))) k.openers_are ∙ sym (openers-added parts seen.first seen.openers);
+  fit = fit-added parts seen.first seen.openers low k.fit;
 }
 
 -- the same for one list in the place of an equal one
-pub keeps-as : (seen : PassState) {tokens tokens' : List Token} {bars bars' : List ℕ} {levels levels' : List OpenLevel} → tokens' ≡ tokens → bars' ≡ bars → levels' ≡ levels → Keeps seen tokens bars levels → Keeps seen tokens' bars' levels'
-keeps-as seen t b l k = record { tokens_are = t ∙ k.tokens_are; bars_are = b ∙ k.bars_are; levels_are = l ∙ k.levels_are; fit = k.fit }
+pub keeps-as : (seen : PassState) {tokens tokens' : List Token} {bars bars' : List ℕ} {openers openers' : List KeptOpener} → tokens' ≡ tokens → bars' ≡ bars → openers' ≡ openers → Keeps seen tokens bars openers → Keeps seen tokens' bars' openers'
+keeps-as seen t b l k = record { tokens_are = t ∙ k.tokens_are; bars_are = b ∙ k.bars_are; openers_are = l ∙ k.openers_are; fit = k.fit }
 
 -- an opening run behind what was seen
-pub keeps-opened : (run : Run) (seen : PassState) {tokens : List Token} {bars : List ℕ} {levels : List OpenLevel} → 2 ≤ run.count → Keeps seen tokens bars levels
-    → Keeps (opened run seen) (tokens ++ run_tokens run) bars (levels ++ record { run = of_run run; slot = length tokens; bars = length bars; height = 0 } ∷ [])
-unfolding row_height
-keeps-opened run seen {tokens = tokens} {bars = bars} {levels = levels} long k = record {
+pub keeps-opened : (run : Run) (seen : PassState) {tokens : List Token} {bars : List ℕ} {openers : List KeptOpener} → 2 ≤ run.count → Keeps seen tokens bars openers
+    → Keeps (opened run seen) (tokens ++ run_tokens run) bars (openers ++ record { run = of_run run; slot = length tokens; bars = length bars; height = 0 } ∷ [])
+unfolding content_height
+keeps-opened run seen {tokens = tokens} {bars = bars} {openers = openers} long k = record {
   tokens_are = ap₂ (λ t r. t ++ r) k.tokens_are (sym (append-nil (run_tokens run)));
-  bars_are = k.bars_are ∙ sym (append-nil (bars_by seen.first seen.levels));
-  levels_are =
-      ap₂ (λ l (n : ℕ × ℕ). l ++ record { run = of_run run; slot = n.0; bars = n.1; height = 0 } ∷ []) k.levels_are
+  bars_are = k.bars_are ∙ sym (append-nil (bars_by seen.first seen.openers));
+  openers_are =
+      ap₂ (λ l (n : ℕ × ℕ). l ++ record { run = of_run run; slot = n.0; bars = n.1; height = 0 } ∷ []) k.openers_are
       (ap₂ (λ t b. (length t, length b)) k.tokens_are k.bars_are);
   fit = (record { long = long; low = omega arith }, k.fit);
 }
 
-keeps-one : (marks : Marks) (start : ℕ) (seen : PassState) {tokens : List Token} {bars : List ℕ} {levels : List OpenLevel} → Keeps seen tokens bars levels
-    → Keeps (added (item (plain_opening (record { marks = marks; start = start; count = 1 })) ∷ []) seen) (tokens ++ plain_tokens start 1) (bars ++ []) (raised 0 levels)
-unfolding row_height height item_tokens
-keeps-one braces start seen k = keeps-added (item (plain_opening (record { marks = braces; start = start; count = 1 })) ∷ []) seen (omega arith) k
-keeps-one brackets start seen k = keeps-added (item (plain_opening (record { marks = brackets; start = start; count = 1 })) ∷ []) seen (omega arith) k
+keeps-one : (delimiters : Delimiter) (start : ℕ) (seen : PassState) {tokens : List Token} {bars : List ℕ} {openers : List KeptOpener} → Keeps seen tokens bars openers
+    → Keeps (added (item (plain_opening (record { delimiters = delimiters; start = start; count = 1 })) ∷ []) seen) (tokens ++ plain_tokens start 1) (bars ++ []) (raised 0 openers)
+unfolding content_height height item_tokens
+keeps-one braces start seen k = keeps-added (item (plain_opening (record { delimiters = braces; start = start; count = 1 })) ∷ []) seen (omega arith) k
+keeps-one brackets start seen k = keeps-added (item (plain_opening (record { delimiters = brackets; start = start; count = 1 })) ∷ []) seen (omega arith) k
 
 -- what is left of an opening run behind what was seen
-pub keeps-reopened : (marks : Marks) (start count : ℕ) (seen : PassState) {tokens : List Token} {bars : List ℕ} {levels : List OpenLevel} → Keeps seen tokens bars levels
-    → Keeps (reopened count (record { marks = marks; start = start; count = count }) seen) (tokens ++ left_tokens start count) bars
-    (levels ++ still_open count (record { run = record { brackets = are_brackets marks; count = count; end = start + count }; slot = length tokens; bars = length bars; height = 0 }))
-keeps-reopened marks start zero seen {tokens = tokens} {bars = bars} {levels = levels} k = keeps-as seen (append-nil tokens) refl (append-nil levels) k
-keeps-reopened marks start (suc zero) seen {tokens = tokens} {bars = bars} {levels = levels} k =
-    keeps-as (added (item (plain_opening (record { marks = marks; start = start; count = 1 })) ∷ []) seen)
-    refl (sym (append-nil bars)) (append-nil levels ∙ sym (raised-zero levels))
-    (keeps-one marks start seen k)
-keeps-reopened marks start (suc (suc n)) seen {tokens = tokens} {bars = bars} {levels = levels} k = keeps-opened (record { marks = marks; start = start; count = suc (suc n) }) seen (omega arith) k
+pub keeps-reopened : (delimiters : Delimiter) (start count : ℕ) (seen : PassState) {tokens : List Token} {bars : List ℕ} {openers : List KeptOpener} → Keeps seen tokens bars openers
+    → Keeps (reopened count (record { delimiters = delimiters; start = start; count = count }) seen) (tokens ++ left_tokens start count) bars
+    (openers ++ still_open count (record { run = record { brackets = are_brackets delimiters; count = count; end = start + count }; slot = length tokens; bars = length bars; height = 0 }))
+keeps-reopened delimiters start zero seen {tokens = tokens} {bars = bars} {openers = openers} k = keeps-as seen (append-nil tokens) refl (append-nil openers) k
+keeps-reopened delimiters start (suc zero) seen {tokens = tokens} {bars = bars} {openers = openers} k =
+    keeps-as (added (item (plain_opening (record { delimiters = delimiters; start = start; count = 1 })) ∷ []) seen)
+    refl (sym (append-nil bars)) (append-nil openers ∙ sym (raised-zero openers))
+    (keeps-one delimiters start seen k)
+keeps-reopened delimiters start (suc (suc n)) seen {tokens = tokens} {bars = bars} {openers = openers} k = keeps-opened (record { delimiters = delimiters; start = start; count = suc (suc n) }) seen (omega arith) k
 
--- ---- a run's tokens where some of its marks are matched
+-- ---- a run's tokens where some of its delimiters are matched
 
 replicate-split : (k r : ℕ) (x : Token) → replicate (k + suc r) x ≡ replicate k x ++ x ∷ replicate r x
 replicate-split zero r x = let e : 0 + suc r ≡ suc r = omega arith in ap (λ n. replicate n x) e
@@ -224,7 +224,7 @@ items-entries (e ∷ es) = ap (λ t. item_tokens (plain_entry e) ++ t) (items-en
 pub items-append : (xs ys : List Piece) → items_tokens (map item_of (xs ++ ys)) ≡ items_tokens (map item_of xs) ++ items_tokens (map item_of ys)
 items-append xs ys = ap items_tokens (map-append item_of xs ys) ∙ flat_map-append item_tokens (map item_of xs) (map item_of ys)
 
-opening-tokens : (marks : Marks) (start count : ℕ) → text_tokens start (replicate count (opening_mark marks)) ≡ plain_tokens start count
+opening-tokens : (delimiters : Delimiter) (start count : ℕ) → text_tokens start (replicate count (opening_delimiter delimiters)) ≡ plain_tokens start count
 opening-tokens braces start zero = refl
 opening-tokens brackets start zero = refl
 opening-tokens braces start (suc n) = ap (λ k. Plain start (suc k) ∷ replicate k Fill) (length-replicate n 123)
@@ -232,33 +232,33 @@ opening-tokens brackets start (suc n) = ap (λ k. Plain start (suc k) ∷ replic
 
 pub run-item : (run : Run) → item_tokens (plain_opening run) ≡ run_tokens run
 unfolding item_tokens
-run-item run = opening-tokens run.marks run.start run.count
+run-item run = opening-tokens run.delimiters run.start run.count
 
-behind : (first : List Entry) (level : Level) (levels : List Level) (more : List Token) → items_tokens (map item_of (pieces_by first levels)) ++ (run_tokens level.run ++ (items_tokens (map item_of (map entry level.stretch)) ++ more)) ≡ items_tokens (map item_of (pieces_by first (level ∷ levels))) ++ more
-behind first level levels more =
-    let outer : List Token = items_tokens (map item_of (pieces_by first levels)) in
-    let stretch : List Token = items_tokens (map item_of (map entry level.stretch)) in
-    ap (λ r. outer ++ (r ++ (stretch ++ more))) (sym (run-item level.run))
-    ∙ regroup outer (item_tokens (plain_opening level.run)) stretch more
-    ∙ ap (λ t. t ++ more) (sym (items-append (pieces_by first levels) (opening level.run ∷ map entry level.stretch)))
+behind : (first : List Entry) (opener : Opener) (openers : List Opener) (more : List Token) → items_tokens (map item_of (pieces_by first openers)) ++ (run_tokens opener.run ++ (items_tokens (map item_of (map entry opener.stretch)) ++ more)) ≡ items_tokens (map item_of (pieces_by first (opener ∷ openers))) ++ more
+behind first opener openers more =
+    let outer : List Token = items_tokens (map item_of (pieces_by first openers)) in
+    let stretch : List Token = items_tokens (map item_of (map entry opener.stretch)) in
+    ap (λ r. outer ++ (r ++ (stretch ++ more))) (sym (run-item opener.run))
+    ∙ regroup outer (item_tokens (plain_opening opener.run)) stretch more
+    ∙ ap (λ t. t ++ more) (sym (items-append (pieces_by first openers) (opening opener.run ∷ map entry opener.stretch)))
   where
     regroup : (a b c d : List Token) → a ++ (b ++ (c ++ d)) ≡ (a ++ (b ++ c)) ++ d
     regroup a b c d = simp append_assoc
 
 -- at the end all bars are plain
-pub plained-all : (first : List Entry) (levels : List Level) (more : List Token) → plained (bars_by first levels) (tokens_by first levels ++ more) ≡ items_tokens (map item_of (pieces_by first levels)) ++ more
+pub plained-all : (first : List Entry) (openers : List Opener) (more : List Token) → plained (bars_by first openers) (tokens_by first openers ++ more) ≡ items_tokens (map item_of (pieces_by first openers)) ++ more
 plained-all first [] more = plained-stretch [] first more 0 refl ∙ ap (λ t. t ++ more) (items-entries first)
-plained-all first (level ∷ levels) more =
-    let before : List Token = tokens_by first levels in
-    let run : List Token = run_tokens level.run in
-    let stretch : List Token = entries_tokens level.stretch in
-    let plain : List Token = items_tokens (map plain_entry level.stretch) in
-    plained-append (bars_by first levels) (bar_places (length (before ++ run)) level.stretch) ((before ++ (run ++ stretch)) ++ more)
-    ∙ ap (λ t. plained (bars_by first levels) (plained (bar_places (length (before ++ run)) level.stretch) t)) (regroup before run stretch more)
-    ∙ ap (plained (bars_by first levels)) (plained-stretch (before ++ run) level.stretch more (length (before ++ run)) refl ∙ append_assoc before run (plain ++ more))
-    ∙ plained-all first levels (run ++ (plain ++ more))
-    ∙ ap (λ t. items_tokens (map item_of (pieces_by first levels)) ++ (run ++ (t ++ more))) (items-entries level.stretch)
-    ∙ behind first level levels more
+plained-all first (opener ∷ openers) more =
+    let before : List Token = tokens_by first openers in
+    let run : List Token = run_tokens opener.run in
+    let stretch : List Token = entries_tokens opener.stretch in
+    let plain : List Token = items_tokens (map plain_entry opener.stretch) in
+    plained-append (bars_by first openers) (bar_places (length (before ++ run)) opener.stretch) ((before ++ (run ++ stretch)) ++ more)
+    ∙ ap (λ t. plained (bars_by first openers) (plained (bar_places (length (before ++ run)) opener.stretch) t)) (regroup before run stretch more)
+    ∙ ap (plained (bars_by first openers)) (plained-stretch (before ++ run) opener.stretch more (length (before ++ run)) refl ∙ append_assoc before run (plain ++ more))
+    ∙ plained-all first openers (run ++ (plain ++ more))
+    ∙ ap (λ t. items_tokens (map item_of (pieces_by first openers)) ++ (run ++ (t ++ more))) (items-entries opener.stretch)
+    ∙ behind first opener openers more
   where
     regroup : (a b c d : List Token) → (a ++ (b ++ c)) ++ d ≡ (a ++ b) ++ (c ++ d)
     regroup a b c d = simp append_assoc
@@ -276,13 +276,13 @@ take-pop kept old new at e h =
     let long : kept ≤ length new = omega (arith, ap length e, length_push new at) in
     ap (take kept) e ∙ take-append-le kept new (at ∷ []) long
 
--- the last level of some is raised
-pub raised-set : (h : ℕ) (levels : List OpenLevel) (d : OpenLevel) (n : ℕ) → length levels ≡ suc n → raised h levels ≡ slice_set levels n (record (slice_index_or levels n d) { height = max (slice_index_or levels n d).height h })
+-- the last opener of some is raised
+pub raised-set : (h : ℕ) (openers : List KeptOpener) (d : KeptOpener) (n : ℕ) → length openers ≡ suc n → raised h openers ≡ slice_set openers n (record (slice_index_or openers n d) { height = max (slice_index_or openers n d).height h })
 raised-set h [] d n e = absurd (omega arith)
-raised-set h (level ∷ []) d zero e = refl
-raised-set h (level ∷ []) d (suc n) e = absurd (omega arith)
-raised-set h (a ∷ b ∷ levels) d zero e = absurd (omega arith)
-raised-set h (a ∷ b ∷ levels) d (suc n) e = ap (λ t. a ∷ t) (raised-set h (b ∷ levels) d n (omega arith))
+raised-set h (opener ∷ []) d zero e = refl
+raised-set h (opener ∷ []) d (suc n) e = absurd (omega arith)
+raised-set h (a ∷ b ∷ openers) d zero e = absurd (omega arith)
+raised-set h (a ∷ b ∷ openers) d (suc n) e = ap (λ t. a ∷ t) (raised-set h (b ∷ openers) d n (omega arith))
 
 pub fills-more : (base old new : List Token) (n : ℕ) → 1 ≤ n → old ≡ base ++ replicate (n - 1) Fill → new ≡ old ++ Fill ∷ [] → new ≡ base ++ replicate (n + 1 - 1) Fill
 fills-more base old new n h e f =
@@ -308,8 +308,8 @@ plained-read kept old new at tokens x y e h read within is =
     plained-pop kept old new at tokens e h
     ∙ ap (λ z. plained (drop kept new) (slice_set tokens at z)) (ap plain_token (sym (get_or_read tokens at x within read Fill)) ∙ sym is)
 
-pub raised-read : (h : ℕ) (levels : List OpenLevel) (x : OpenLevel) (n m : ℕ) → n ≡ length levels → 0 < n → x ≡ slice_index_or levels (n - 1) x → m ≡ max x.height h
-    → slice_set levels (n - 1) (record x { height = m }) ≡ raised h levels
-raised-read h levels x n m e some read is =
-    let front : length levels ≡ suc (n - 1) = omega arith in
-    ap₂ (λ z k. slice_set levels (n - 1) (record z { height = k })) read (is ∙ ap (λ z. max z.height h) read) ∙ sym (raised-set h levels x (n - 1) front)
+pub raised-read : (h : ℕ) (openers : List KeptOpener) (x : KeptOpener) (n m : ℕ) → n ≡ length openers → 0 < n → x ≡ slice_index_or openers (n - 1) x → m ≡ max x.height h
+    → slice_set openers (n - 1) (record x { height = m }) ≡ raised h openers
+raised-read h openers x n m e some read is =
+    let front : length openers ≡ suc (n - 1) = omega arith in
+    ap₂ (λ z k. slice_set openers (n - 1) (record z { height = k })) read (is ∙ ap (λ z. max z.height h) read) ∙ sym (raised-set h openers x (n - 1) front)

@@ -10,7 +10,7 @@ use Rattle.wk_tree.specs.Parsed.{ParsedText, IsParsed, IsTextIn, part_at, node_w
 use Rattle.wk_tree.specs.declared.item.ListId.{ListId}
 use Rattle.wk_tree.specs.declared.item.ListId.TheVariants.{Root, Title, Name, Value}
 use Rattle.wk_tree_laws.proofs.PieceLemmas.{all-front, all-back}
-use Rattle.wk_tree_laws.specs.Rows.{IsItemIn}
+use Rattle.wk_tree_laws.specs.Places.{IsItemIn}
 use Rattle.std.specs.Str.{IsUtf8}
 use Rattle.wk_tree_rules.specs.Trees.{source_of as item_source}
 use Rattle.wk_tree.specs.Shown.{from_end, ShowsItems, ShowsName, no_name, a_name, ShowsPart, ShowsParts, no_parts, part_more, ShowsNode, ShowsNodes, no_nodes, node_more}

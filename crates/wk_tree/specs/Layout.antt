@@ -2,7 +2,7 @@
 use Rattle.std.specs.Prelude.{ℕ, ◌+◌, Bool, if◌then◌else◌, List, [], ◌∷◌, length, map, reverse, Option, Some, None, option_map}
 use Rattle.wk_tree.specs.declared.item.Item.{Item}
 use Rattle.wk_tree.specs.declared.item.Item.TheVariants as code
-use Rattle.wk_tree.specs.declared.layout.Frame.{Frame}
+use Rattle.wk_tree.specs.declared.layout.OpenNode.{OpenNode}
 use Rattle.wk_tree.specs.declared.layout.Layout.{Layout}
 use Rattle.wk_tree.specs.declared.layout.NodeLists.{NodeLists}
 use Rattle.wk_tree.specs.declared.layout.PartLists.{PartLists}
@@ -38,7 +38,7 @@ pub record NodeShown : Type 0 where
 
 -- what was met of a node: the items up to the next equals sign or bar, the value behind them, the parts behind it, and
 -- how many bytes all stand for
-pub record FrameShown : Type 0 where
+pub record OpenNodeShown : Type 0 where
   pub section : SectionShown
   pub value : Option ValueShown
   pub parts : List PartShown
@@ -46,8 +46,8 @@ pub record FrameShown : Type 0 where
 
 -- the innermost node that isn't met wholly, those around it, and the nodes that are
 pub record LayoutShown : Type 0 where
-  pub frame : FrameShown
-  pub outer : List FrameShown
+  pub open_node : OpenNodeShown
+  pub outer : List OpenNodeShown
   pub nodes : List NodeShown
 
 -- ---- what the code keeps
@@ -64,18 +64,18 @@ part_of part = record { name = option_map (λ items. items.items) part.name; val
 abbrev pub node_of : NodeLists → NodeShown
 node_of n = record { argument = n.argument; start = n.start; len = n.len; title = n.title.items; parts = map part_of n.parts.items }
 
-abbrev pub frame_of : Frame → FrameShown
-frame_of frame = record {
-  section = section_of frame.section;
-  value = option_map value_of frame.value;
-  parts = map part_of (reverse frame.parts.items);
-  total = frame.total;
+abbrev pub open_node_of : OpenNode → OpenNodeShown
+open_node_of open_node = record {
+  section = section_of open_node.section;
+  value = option_map value_of open_node.value;
+  parts = map part_of (reverse open_node.parts.items);
+  total = open_node.total;
 }
 
 abbrev pub layout_of : Layout → LayoutShown
 layout_of layout = record {
-  frame = frame_of layout.frame;
-  outer = map frame_of (reverse layout.outer.items);
+  open_node = open_node_of layout.open_node;
+  outer = map open_node_of (reverse layout.outer.items);
   nodes = map node_of (reverse layout.nodes.items);
 }
 
@@ -84,8 +84,8 @@ layout_of layout = record {
 abbrev pub no_section : SectionShown
 no_section = record { items = []; len = 0 }
 
-abbrev pub no_frame : FrameShown
-no_frame = record { section = no_section; value = None; parts = []; total = 0 }
+abbrev pub no_open_node : OpenNodeShown
+no_open_node = record { section = no_section; value = None; parts = []; total = 0 }
 
 -- an item before others; plain text goes together
 abbrev pub put : Item → List Item → List Item
@@ -105,70 +105,70 @@ joined section (Some value) = record {
   len = section.len + (1 + value.section.len);
 }
 
-abbrev pub with_item : Item → ℕ → FrameShown → FrameShown
-with_item i len frame = record frame {
-  section = record { items = put i frame.section.items; len = len + frame.section.len };
-  total = len + frame.total;
+abbrev pub with_item : Item → ℕ → OpenNodeShown → OpenNodeShown
+with_item i len open_node = record open_node {
+  section = record { items = put i open_node.section.items; len = len + open_node.section.len };
+  total = len + open_node.total;
 }
 
-abbrev pub with_equals : ℕ → FrameShown → FrameShown
-with_equals start frame = record frame {
+abbrev pub with_equals : ℕ → OpenNodeShown → OpenNodeShown
+with_equals start open_node = record open_node {
   section = no_section;
-  value = Some (record { equals = start; section = joined frame.section frame.value });
-  total = 1 + frame.total;
+  value = Some (record { equals = start; section = joined open_node.section open_node.value });
+  total = 1 + open_node.total;
 }
 
 abbrev pub new_part : ℕ → SectionShown → Option ValueShown → PartShown
 new_part start section None = record { name = None; value = section.items; start = start + 1; len = section.len }
 new_part start section (Some value) = record { name = Some section.items; value = value.section.items; start = value.equals + 1; len = value.section.len }
 
-abbrev pub with_bar : ℕ → FrameShown → FrameShown
-with_bar start frame = record {
+abbrev pub with_bar : ℕ → OpenNodeShown → OpenNodeShown
+with_bar start open_node = record {
   section = no_section;
   value = None;
-  parts = new_part start frame.section frame.value ∷ frame.parts;
-  total = 1 + frame.total;
+  parts = new_part start open_node.section open_node.value ∷ open_node.parts;
+  total = 1 + open_node.total;
 }
 
 abbrev pub braces_of : Bool → ℕ
 braces_of argument = if argument then 6 else 4
 
-abbrev pub new_node : Bool → ℕ → FrameShown → NodeShown
-new_node argument start frame = record {
+abbrev pub new_node : Bool → ℕ → OpenNodeShown → NodeShown
+new_node argument start open_node = record {
   argument = argument;
   start = start;
-  len = braces_of argument + frame.total;
-  title = (joined frame.section frame.value).items;
-  parts = frame.parts;
+  len = braces_of argument + open_node.total;
+  title = (joined open_node.section open_node.value).items;
+  parts = open_node.parts;
 }
 
--- the frame around the innermost
-abbrev pub first_frame : List FrameShown → FrameShown
-first_frame [] = no_frame
-first_frame (frame ∷ frames) = frame
+-- the open_node around the innermost
+abbrev pub first_open_node : List OpenNodeShown → OpenNodeShown
+first_open_node [] = no_open_node
+first_open_node (open_node ∷ open_nodes) = open_node
 
-abbrev pub other_frames : List FrameShown → List FrameShown
-other_frames [] = []
-other_frames (frame ∷ frames) = frames
+abbrev pub other_open_nodes : List OpenNodeShown → List OpenNodeShown
+other_open_nodes [] = []
+other_open_nodes (open_node ∷ open_nodes) = open_nodes
 
 abbrev pub with_node : Bool → ℕ → LayoutShown → LayoutShown
 with_node argument start layout = record {
-  frame = with_item (code.Node (record { 0 = length layout.nodes })) (new_node argument start layout.frame).len (first_frame layout.outer);
-  outer = other_frames layout.outer;
-  nodes = new_node argument start layout.frame ∷ layout.nodes;
+  open_node = with_item (code.Node (record { 0 = length layout.nodes })) (new_node argument start layout.open_node).len (first_open_node layout.outer);
+  outer = other_open_nodes layout.outer;
+  nodes = new_node argument start layout.open_node ∷ layout.nodes;
 }
 
 abbrev pub with_token : Token → LayoutShown → LayoutShown
-with_token (Plain start len) layout = record layout { frame = with_item (code.Plain start len) len layout.frame }
-with_token (Sealed start len) layout = record layout { frame = with_item (code.Sealed start len) len layout.frame }
-with_token (Nothing start len) layout = record layout { frame = with_item (code.Nothing start len) len layout.frame }
-with_token (Bar start) layout = record layout { frame = with_bar start layout.frame }
-with_token (Equals start) layout = record layout { frame = with_equals start layout.frame }
+with_token (Plain start len) layout = record layout { open_node = with_item (code.Plain start len) len layout.open_node }
+with_token (Sealed start len) layout = record layout { open_node = with_item (code.Sealed start len) len layout.open_node }
+with_token (Nothing start len) layout = record layout { open_node = with_item (code.Nothing start len) len layout.open_node }
+with_token (Bar start) layout = record layout { open_node = with_bar start layout.open_node }
+with_token (Equals start) layout = record layout { open_node = with_equals start layout.open_node }
 with_token (NodeStart argument start) layout = with_node argument start layout
-with_token NodeEnd layout = record layout { frame = no_frame; outer = layout.frame ∷ layout.outer }
+with_token NodeEnd layout = record layout { open_node = no_open_node; outer = layout.open_node ∷ layout.outer }
 with_token Fill layout = layout
 
 -- tokens, the last first
 abbrev pub laid : List Token → LayoutShown
-laid [] = record { frame = no_frame; outer = []; nodes = [] }
+laid [] = record { open_node = no_open_node; outer = []; nodes = [] }
 laid (token ∷ tokens) = with_token token (laid tokens)

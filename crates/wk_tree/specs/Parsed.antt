@@ -11,7 +11,7 @@ use Rattle.wk_tree.specs.declared.parsed.Part.{Part}
 use Rattle.wk_tree_rules.specs.Selection.{selection, selected}
 use Rattle.wk_tree_rules.specs.Tree.{Node, Part as TreePart, tree, nodes, title_part, further_parts, value_length}
 use Rattle.std.specs.Str.{IsUtf8}
-use Rattle.wk_tree_laws.specs.Rows.{IsItemIn}
+use Rattle.wk_tree_laws.specs.Places.{IsItemIn}
 use Rattle.wk_tree_rules.specs.Trees.{Item as TreeItem, source_of as item_source}
 use Rattle.wk_tree_rules.specs.declared.Mode.{Mode}
 

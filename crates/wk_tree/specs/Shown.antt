@@ -1,12 +1,12 @@
 -- What the lists of a tree show.
 use Rattle.std.specs.Prelude.{◌≡◌, ℕ, ◌+◌, ◌==◌, if◌then◌else◌, List, [], ◌∷◌, ◌++◌, length, map, Option, Some, None}
-use Rattle.wk_tree.specs.Layout.{SectionShown, ValueShown, PartShown, NodeShown, FrameShown, LayoutShown}
+use Rattle.wk_tree.specs.Layout.{SectionShown, ValueShown, PartShown, NodeShown, OpenNodeShown, LayoutShown}
 use Rattle.wk_tree.specs.Tokens.{is_argument}
 use Rattle.wk_tree.specs.declared.item.Item.{Item}
 use Rattle.wk_tree.specs.declared.item.Item.TheVariants as code
 use Rattle.wk_tree.specs.declared.item.NodeId.{NodeId}
 use Rattle.wk_tree_rules.specs.Tree.{Node, Part, node_length, value_length, title_part, further_parts, part_of, split_at_bars, split_at_equals}
-use Rattle.wk_tree_rules.specs.Trees.{Item as TreeItem, plain, sealed, nothing, node, NodeKind, Row, Entry, equals, plain_entry, merged}
+use Rattle.wk_tree_rules.specs.Trees.{Item as TreeItem, plain, sealed, nothing, node, NodeKind, Content, Entry, equals, plain_entry, merged}
 use Rattle.wk_tree_laws.proofs.PieceLemmas.{entries_source}
 
 -- the element that has so many behind it
@@ -19,7 +19,7 @@ pub data ShowsItem (ns : List Node) : Item → TreeItem → Type 0 where
   shows_plain : (start : ℕ) (source : List ℕ) → ShowsItem ns (code.Plain start (length source)) (plain start source)
   shows_sealed : (start : ℕ) (source : List ℕ) → ShowsItem ns (code.Sealed start (length source)) (sealed start source)
   shows_nothing : (start : ℕ) (source : List ℕ) → ShowsItem ns (code.Nothing start (length source)) (nothing start source)
-  shows_node : (id : NodeId) (kind : NodeKind) (start : ℕ) (content : Row) → from_end ns id.0 ≡ Some (record { kind = kind; start = start; content = content }) → ShowsItem ns (code.Node id) (node kind start content)
+  shows_node : (id : NodeId) (kind : NodeKind) (start : ℕ) (content : Content) → from_end ns id.0 ≡ Some (record { kind = kind; start = start; content = content }) → ShowsItem ns (code.Node id) (node kind start content)
 
 pub data ShowsItems (ns : List Node) : List Item → List TreeItem → Type 0 where
   no_items : ShowsItems ns [] []
@@ -61,16 +61,16 @@ pub data ShowsSegment (ns : List Node) : SectionShown → Option ValueShown → 
   no_equals : {s : SectionShown} {parts : List Entry} → ShowsSection ns s parts → ShowsSegment ns s None parts None
   at_equals : {s : SectionShown} {v : ValueShown} {name value : List Entry} → ShowsSection ns s name → ShowsSection ns v.section value → ShowsSegment ns s (Some v) (name ++ equals v.equals ∷ value) (Some (name, v.equals + 1, value))
 
-pub record ShowsFrame (ns : List Node) (f : FrameShown) (parts : List Entry) : Type 0 where
+pub record ShowsOpenNode (ns : List Node) (f : OpenNodeShown) (parts : List Entry) : Type 0 where
   pub segment : ShowsSegment ns f.section f.value (split_at_bars parts).first (split_at_equals (split_at_bars parts).first)
   pub further : ShowsParts ns f.parts (map part_of (split_at_bars parts).further)
   pub total : f.total ≡ length (entries_source parts)
 
-pub data ShowsFrames (ns : List Node) : List FrameShown → List (List Entry) → Type 0 where
-  no_frames : ShowsFrames ns [] []
-  frame_more : {f : FrameShown} {parts : List Entry} {fs : List FrameShown} {outer : List (List Entry)} → ShowsFrame ns f parts → ShowsFrames ns fs outer → ShowsFrames ns (f ∷ fs) (parts ∷ outer)
+pub data ShowsOpenNodes (ns : List Node) : List OpenNodeShown → List (List Entry) → Type 0 where
+  no_open_nodes : ShowsOpenNodes ns [] []
+  open_node_more : {f : OpenNodeShown} {parts : List Entry} {fs : List OpenNodeShown} {outer : List (List Entry)} → ShowsOpenNode ns f parts → ShowsOpenNodes ns fs outer → ShowsOpenNodes ns (f ∷ fs) (parts ∷ outer)
 
 pub record ShowsLayout (ns : List Node) (l : LayoutShown) (parts : List Entry) (outer : List (List Entry)) (met : List Node) : Type 0 where
-  pub frame : ShowsFrame ns l.frame parts
-  pub around : ShowsFrames ns l.outer outer
+  pub open_node : ShowsOpenNode ns l.open_node parts
+  pub around : ShowsOpenNodes ns l.outer outer
   pub nodes : ShowsNodes ns l.nodes met

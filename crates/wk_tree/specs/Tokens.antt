@@ -1,24 +1,24 @@
--- The tokens of a text whose marks are matched (own).
+-- The tokens of a text whose delimiters are matched (own).
 use Rattle.std.specs.Prelude.{ℕ, zero, suc, ◌==◌, if◌then◌else◌, Bool, true, false, List, [], ◌∷◌, ◌++◌, length, replicate, flat_map}
 use Rattle.wk_tree.specs.declared.token.Token.{Token}
 use Rattle.wk_tree.specs.declared.token.Token.TheVariants.{Plain, Sealed, Nothing, Bar, Equals, NodeStart, NodeEnd, Fill}
-use Rattle.wk_tree_rules.specs.Trees.{Item, plain, sealed, nothing, node, Row, empty_row, item_then, bar_then, equals_then, NodeKind, template, argument, Entry, item, bar, equals}
+use Rattle.wk_tree_rules.specs.Trees.{Item, plain, sealed, nothing, node, Content, empty_content, item_then, bar_then, equals_then, NodeKind, template, argument, Entry, item, bar, equals}
 
--- opening marks as plain text, with a token for each
+-- opening delimiters as plain text, with a token for each
 abbrev pub plain_tokens : ℕ → ℕ → List Token
 plain_tokens start zero = Plain start 0 ∷ []
 plain_tokens start (suc n) = Plain start (suc n) ∷ replicate n Fill
 
--- whether a byte is a mark that opens
+-- whether a byte is a delimiter that opens
 abbrev pub opens : ℕ → Bool
 opens b = if b == 123 then true else b == 91
 
--- the places of the marks behind the first, where they open
+-- the places of the delimiters behind the first, where they open
 abbrev pub fills : List ℕ → List Token
 fills [] = []
 fills (b ∷ source) = if opens b then replicate (length source) Fill else []
 
--- plain text: opening marks have a token each, and other text has one
+-- plain text: opening delimiters have a token each, and other text has one
 abbrev pub text_tokens : ℕ → List ℕ → List Token
 text_tokens start source = Plain start (length source) ∷ fills source
 
@@ -36,13 +36,13 @@ unfoldable mutual
   item_tokens (plain start source) = text_tokens start source
   item_tokens (sealed start source) = Sealed start (length source) ∷ []
   item_tokens (nothing start source) = Nothing start (length source) ∷ []
-  item_tokens (node kind start content) = opening_tokens kind start ++ (row_tokens content ++ NodeEnd ∷ [])
+  item_tokens (node kind start content) = opening_tokens kind start ++ (content_tokens content ++ NodeEnd ∷ [])
 
-  pub row_tokens : Row → List Token
-  row_tokens empty_row = []
-  row_tokens (item_then i rest) = item_tokens i ++ row_tokens rest
-  row_tokens (bar_then start rest) = Bar start ∷ row_tokens rest
-  row_tokens (equals_then start rest) = Equals start ∷ row_tokens rest
+  pub content_tokens : Content → List Token
+  content_tokens empty_content = []
+  content_tokens (item_then i rest) = item_tokens i ++ content_tokens rest
+  content_tokens (bar_then start rest) = Bar start ∷ content_tokens rest
+  content_tokens (equals_then start rest) = Equals start ∷ content_tokens rest
 
 abbrev pub entry_tokens : Entry → List Token
 entry_tokens (item i) = item_tokens i

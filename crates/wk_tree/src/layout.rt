@@ -3,7 +3,7 @@ ghost use Rattle.std.specs.Prelude.{◌≡◌, ◌+◌, ◌<◌, ◌^◌, List, 
 ghost use Rattle.wk_tree.specs.Tokens.{items_tokens};
 ghost use Rattle.wk_tree.specs.Tree.{IsLaidAs};
 ghost use Rattle.wk_tree_rules.specs.Trees.{Item as TreeItem};
-ghost use Rattle.wk_tree.specs.Layout.{section_of, value_of, part_of, node_of, frame_of, layout_of, no_section, no_frame, put_each, joined, put, with_item, with_equals, new_part, with_bar, new_node, with_node, with_token, laid};
+ghost use Rattle.wk_tree.specs.Layout.{section_of, value_of, part_of, node_of, open_node_of, layout_of, no_section, no_open_node, put_each, joined, put, with_item, with_equals, new_part, with_bar, new_node, with_node, with_token, laid};
 
 use crate::item::{Item, NodeId};
 use crate::token::Token;
@@ -47,7 +47,7 @@ pub struct NodeLists {
 /// What was met of a node: the items up to the next equals sign or bar, the value behind them, the parts behind it
 /// from the last to the first, and how many bytes all stand for.
 #[derive(Debug, Drop)]
-pub struct Frame {
+pub struct OpenNode {
     pub section: Section,
     pub value: Option<Value>,
     pub parts: Vec<PartLists>,
@@ -58,8 +58,8 @@ pub struct Frame {
 /// last.
 #[derive(Debug, Drop)]
 pub struct Layout {
-    pub frame: Frame,
-    pub outer: Vec<Frame>,
+    pub open_node: OpenNode,
+    pub outer: Vec<OpenNode>,
     pub nodes: Vec<NodeLists>,
 }
 
@@ -72,10 +72,10 @@ fn no_section(alloc: Global) -> Section
     }
 }
 
-fn no_frame(alloc: Global) -> Frame
-    ensures { frame_of result ≡ no_frame }
+fn no_open_node(alloc: Global) -> OpenNode
+    ensures { open_node_of result ≡ no_open_node }
 {
-    Frame {
+    OpenNode {
         section: no_section(alloc),
         value: None,
         parts: Vec::new(alloc),
@@ -118,12 +118,12 @@ fn put_each(items: &mut Vec<Item>, more: &[Item]) -> Result<(), Memory>
     Ok(())
 }
 
-fn push_item(frame: &mut Frame, item: Item, len: u32) -> Result<(), Memory>
-    ensures { OnOk result (frame_of frame.new ≡ with_item item len (frame_of frame.old)) }
+fn push_item(open_node: &mut OpenNode, item: Item, len: u32) -> Result<(), Memory>
+    ensures { OnOk result (open_node_of open_node.new ≡ with_item item len (open_node_of open_node.old)) }
 {
-    put(&mut frame.section.items, item)?;
-    frame.section.len = sum(len, frame.section.len)?;
-    frame.total = sum(len, frame.total)?;
+    put(&mut open_node.section.items, item)?;
+    open_node.section.len = sum(len, open_node.section.len)?;
+    open_node.total = sum(len, open_node.total)?;
     Ok(())
 }
 
@@ -145,17 +145,17 @@ fn join(section: Section, value: Option<Value>) -> Result<Section, Memory>
     }
 }
 
-fn push_equals(alloc: Global, frame: &mut Frame, start: u32) -> Result<(), Memory>
-    ensures { OnOk result (frame_of frame.new ≡ with_equals start (frame_of frame.old)) }
+fn push_equals(alloc: Global, open_node: &mut OpenNode, start: u32) -> Result<(), Memory>
+    ensures { OnOk result (open_node_of open_node.new ≡ with_equals start (open_node_of open_node.old)) }
 {
-    let section = mem::replace(&mut frame.section, no_section(alloc));
-    let value = mem::replace(&mut frame.value, None);
+    let section = mem::replace(&mut open_node.section, no_section(alloc));
+    let value = mem::replace(&mut open_node.value, None);
     let section = join(section, value)?;
-    frame.value = Some(Value {
+    open_node.value = Some(Value {
         equals: start,
         section,
     });
-    frame.total = sum(1, frame.total)?;
+    open_node.total = sum(1, open_node.total)?;
     Ok(())
 }
 
@@ -196,25 +196,25 @@ fn new_part(start: u32, section: Section, value: Option<Value>) -> Result<PartLi
     }
 }
 
-fn push_bar(alloc: Global, frame: &mut Frame, start: u32) -> Result<(), Memory>
-    ensures { OnOk result (frame_of frame.new ≡ with_bar start (frame_of frame.old)) }
+fn push_bar(alloc: Global, open_node: &mut OpenNode, start: u32) -> Result<(), Memory>
+    ensures { OnOk result (open_node_of open_node.new ≡ with_bar start (open_node_of open_node.old)) }
 {
-    let section = mem::replace(&mut frame.section, no_section(alloc));
-    let value = mem::replace(&mut frame.value, None);
+    let section = mem::replace(&mut open_node.section, no_section(alloc));
+    let value = mem::replace(&mut open_node.value, None);
     let part = new_part(start, section, value)?;
-    frame.parts.push(part)?;
-    frame.total = sum(1, frame.total)?;
+    open_node.parts.push(part)?;
+    open_node.total = sum(1, open_node.total)?;
     Ok(())
 }
 
-fn new_node(argument: bool, start: u32, frame: Frame) -> Result<NodeLists, Memory>
-    ensures { IfOk result (λ n. node_of n ≡ new_node argument start (frame_of frame)) }
+fn new_node(argument: bool, start: u32, open_node: OpenNode) -> Result<NodeLists, Memory>
+    ensures { IfOk result (λ n. node_of n ≡ new_node argument start (open_node_of open_node)) }
 {
     let braces = if argument { 6 } else { 4 };
-    let len = sum(braces, frame.total)?;
-    let whole = join(frame.section, frame.value)?;
+    let len = sum(braces, open_node.total)?;
+    let whole = join(open_node.section, open_node.value)?;
     let title = in_order(whole.items);
-    let mut parts = frame.parts;
+    let mut parts = open_node.parts;
     parts.reverse();
     Ok(NodeLists {
         argument,
@@ -229,23 +229,23 @@ fn push_node(alloc: Global, layout: &mut Layout, argument: bool, start: u32) -> 
     ensures { OnOk result (layout_of layout.new ≡ with_node argument start (layout_of layout.old)) }
 {
     let outer = match layout.outer.pop() {
-        Some(frame) => frame,
-        None => no_frame(alloc),
+        Some(open_node) => open_node,
+        None => no_open_node(alloc),
     };
-    let frame = mem::replace(&mut layout.frame, outer);
-    let made = new_node(argument, start, frame)?;
+    let open_node = mem::replace(&mut layout.open_node, outer);
+    let made = new_node(argument, start, open_node)?;
     let len = made.len;
     let id = NodeId(layout.nodes.len());
     layout.nodes.push(made)?;
-    push_item(&mut layout.frame, Item::Node(id), len)?;
+    push_item(&mut layout.open_node, Item::Node(id), len)?;
     Ok(())
 }
 
 fn end_node(alloc: Global, layout: &mut Layout) -> Result<(), Memory>
     ensures { OnOk result (layout_of layout.new ≡ with_token Token.NodeEnd (layout_of layout.old)) }
 {
-    let frame = mem::replace(&mut layout.frame, no_frame(alloc));
-    layout.outer.push(frame)?;
+    let open_node = mem::replace(&mut layout.open_node, no_open_node(alloc));
+    layout.outer.push(open_node)?;
     Ok(())
 }
 
@@ -254,22 +254,22 @@ fn step(alloc: Global, layout: &mut Layout, token: Token) -> Result<(), Memory>
 {
     match token {
         Token::Plain { start, len } => push_item(
-            &mut layout.frame,
+            &mut layout.open_node,
             Item::Plain { start, len },
             len,
         ),
         Token::Sealed { start, len } => push_item(
-            &mut layout.frame,
+            &mut layout.open_node,
             Item::Sealed { start, len },
             len,
         ),
         Token::Nothing { start, len } => push_item(
-            &mut layout.frame,
+            &mut layout.open_node,
             Item::Nothing { start, len },
             len,
         ),
-        Token::Bar { start } => push_bar(alloc, &mut layout.frame, start),
-        Token::Equals { start } => push_equals(alloc, &mut layout.frame, start),
+        Token::Bar { start } => push_bar(alloc, &mut layout.open_node, start),
+        Token::Equals { start } => push_equals(alloc, &mut layout.open_node, start),
         Token::NodeStart { argument, start } => push_node(alloc, layout, argument, start),
         Token::NodeEnd => end_node(alloc, layout),
         Token::Fill => Ok(()),
@@ -281,7 +281,7 @@ pub fn lay(alloc: Global, tokens: &[Token]) -> Result<Layout, Memory>
     ensures { IfOk result (λ layout. layout_of layout ≡ laid tokens.now) }
 {
     let mut layout = Layout {
-        frame: no_frame(alloc),
+        open_node: no_open_node(alloc),
         outer: Vec::new(alloc),
         nodes: Vec::new(alloc),
     };
@@ -298,8 +298,8 @@ pub fn finish(alloc: Global, tokens: &[Token]) -> Result<(Vec<Item>, Vec<NodeLis
     ensures { IfOk result (λ found. (items : List TreeItem) → laid tokens.now ≡ laid (items_tokens items) → IsLaidAs items found.0.items (map node_of (reverse found.1.items))) }
 {
     let layout = lay(alloc, tokens)?;
-    let frame = layout.frame;
-    let whole = join(frame.section, frame.value)?;
+    let open_node = layout.open_node;
+    let whole = join(open_node.section, open_node.value)?;
     let root = in_order(whole.items);
     Ok((root, layout.nodes))
 }

@@ -1,4 +1,4 @@
-//! The matching of marks, by one pass from the left over the atoms with a stack of opening runs.
+//! The matching of delimiters, by one pass from the left over the atoms with a stack of opening runs.
 ghost use Rattle.std.specs.Prelude.{◌≡◌, ℕ, ◌+◌, ◌-◌, ◌<◌, ◌≤◌, ◌^◌, max, List, [], ◌∷◌, ◌++◌, length, take, drop, map, slice_set, OnOk, IfOk};
 ghost use Rattle.wk_lex.specs.Ahead.{IsOneText};
 ghost use Rattle.wk_lex.specs.Spans.{source_in, span_of, IsWithin, IsRunWhereMarks};
@@ -20,7 +20,7 @@ use wk_memory::Memory;
 /// How many nodes may stand within each other (own).
 const MAX_HEIGHT: usize = 100;
 
-/// A run of marks.
+/// A run of delimiters.
 #[derive(Clone, Copy, Debug, PartialEq, Eq)]
 pub struct Run {
     /// Whether they are brackets, and not braces.
@@ -33,7 +33,7 @@ pub struct Run {
 
 /// An opening run that may still be matched.
 #[derive(Clone, Copy, Debug, PartialEq, Eq)]
-pub struct Level {
+pub struct Opener {
     /// What is left of it.
     pub run: Run,
     /// The place of its first token.
@@ -52,10 +52,10 @@ pub struct Matching {
     /// The places of the bars and equals signs that no node and no brackets hold.
     pub bars: Vec<usize>,
     /// The opening runs that may still be matched, in the order of the text.
-    pub levels: Vec<Level>,
+    pub openers: Vec<Opener>,
 }
 
-/// Appends opening marks as plain text, with a token for each mark.
+/// Appends opening delimiters as plain text, with a token for each delimiter.
 fn push_plain(tokens: &mut Vec<Token>, start: u32, len: u32) -> Result<(), Memory>
     ensures { OnOk result (tokens.new.items ≡ tokens.old.items ++ plain_tokens start len) }
 {
@@ -89,14 +89,14 @@ fn plain_bars(tokens: &mut Vec<Token>, bars: &mut Vec<usize>, kept: usize)
     }
 }
 
-/// The last level has something of this height.
-fn raise(levels: &mut Vec<Level>, height: usize)
-    ensures { levels.new.items ≡ raised height levels.old.items }
+/// The last opener has something of this height.
+fn raise(openers: &mut Vec<Opener>, height: usize)
+    ensures { openers.new.items ≡ raised height openers.old.items }
 {
-    let count = levels.len();
+    let count = openers.len();
     if 0 < count {
-        let level = &mut levels[count - 1];
-        level.height = level.height.max(height);
+        let opener = &mut openers[count - 1];
+        opener.height = opener.height.max(height);
     }
 }
 
@@ -107,7 +107,7 @@ fn open(matching: &mut Matching, run: Run) -> Result<(), Memory>
 {
     let slot = matching.tokens.len();
     let bars = matching.bars.len();
-    matching.levels.push(Level {
+    matching.openers.push(Opener {
         run,
         slot,
         bars,
@@ -130,62 +130,62 @@ fn write(tokens: &mut Vec<Token>, at: usize, token: Token)
     }
 }
 
-/// Writes a token in the place of the last marks of a level that was taken, and leaves the marks before them.
-fn split(matching: &mut Matching, level: &Level, taken: u32, token: Token) -> Result<(), Memory>
-    requires { taken ≤ level.now.run.count }
-    ensures tokens { OnOk result (level.now.slot < length matching.old.tokens.items → matching.new.tokens.items
-        ≡ slice_set (slice_set matching.old.tokens.items level.now.slot (Token.Plain (level.now.run.end - level.now.run.count) (level.now.run.count - taken)))
-        (level.now.slot + (level.now.run.count - taken)) token) }
+/// Writes a token in the place of the last delimiters of a opener that was taken, and leaves the delimiters before them.
+fn split(matching: &mut Matching, opener: &Opener, taken: u32, token: Token) -> Result<(), Memory>
+    requires { taken ≤ opener.now.run.count }
+    ensures tokens { OnOk result (opener.now.slot < length matching.old.tokens.items → matching.new.tokens.items
+        ≡ slice_set (slice_set matching.old.tokens.items opener.now.slot (Token.Plain (opener.now.run.end - opener.now.run.count) (opener.now.run.count - taken)))
+        (opener.now.slot + (opener.now.run.count - taken)) token) }
     ensures bars { matching.new.bars ≡ matching.old.bars }
-    ensures levels { OnOk result (matching.new.levels.items ≡ matching.old.levels.items ++ still_open (level.now.run.count - taken)
+    ensures openers { OnOk result (matching.new.openers.items ≡ matching.old.openers.items ++ still_open (opener.now.run.count - taken)
         (record {
-          run = record { brackets = level.now.run.brackets; count = level.now.run.count - taken; end = level.now.run.end - taken };
-          slot = level.now.slot;
-          bars = level.now.bars;
+          run = record { brackets = opener.now.run.brackets; count = opener.now.run.count - taken; end = opener.now.run.end - taken };
+          slot = opener.now.slot;
+          bars = opener.now.bars;
           height = 0;
         })) }
 {
-    let run = level.run;
+    let run = opener.run;
     let left = run.count - taken;
-    if level.slot < matching.tokens.len() {
+    if opener.slot < matching.tokens.len() {
         let start = run.end.saturating_sub(run.count);
         write(
             &mut matching.tokens,
-            level.slot,
+            opener.slot,
             Token::Plain { start, len: left },
         );
-        write(&mut matching.tokens, level.slot + left as usize, token);
+        write(&mut matching.tokens, opener.slot + left as usize, token);
     }
     if 2 <= left {
-        matching.levels.push(Level {
+        matching.openers.push(Opener {
             run: Run {
                 brackets: run.brackets,
                 count: left,
                 end: run.end.saturating_sub(taken),
             },
-            slot: level.slot,
-            bars: level.bars,
+            slot: opener.slot,
+            bars: opener.bars,
             height: 0,
         })?;
     }
     Ok(())
 }
 
-/// Braces of a level that was taken and of a closing run become a node, and gives what is left of the closing run.
-fn make_node(matching: &mut Matching, level: &Level, run: Run) -> Result<Run, Memory>
-    ensures { IfOk result (λ left. (first : List Entry) (top : pass.Level) (levels : List pass.Level) → IsPopped first top levels level.now matching.old
-        → way_of level.now.run.brackets run.brackets level.now.height ≡ Way.Node → 2 ≤ run.count → run.count ≤ run.end
-        → MeetsAs (met_as_node top (as_run run) (record { first = first; levels = levels })) matching.new left) }
+/// Braces of a opener that was taken and of a closing run become a node, and gives what is left of the closing run.
+fn make_node(matching: &mut Matching, opener: &Opener, run: Run) -> Result<Run, Memory>
+    ensures { IfOk result (λ left. (first : List Entry) (top : pass.Opener) (openers : List pass.Opener) → IsPopped first top openers opener.now matching.old
+        → way_of opener.now.run.brackets run.brackets opener.now.height ≡ Way.Node → 2 ≤ run.count → run.count ≤ run.end
+        → MeetsAs (met_as_node top (as_run run) (record { first = first; openers = openers })) matching.new left) }
 {
-    let taken = level.run.count.min(run.count.min(3));
+    let taken = opener.run.count.min(run.count.min(3));
     let token = Token::NodeStart {
         argument: taken == 3,
-        start: level.run.end.saturating_sub(taken),
+        start: opener.run.end.saturating_sub(taken),
     };
-    split(matching, level, taken, token)?;
+    split(matching, opener, taken, token)?;
     matching.tokens.push(Token::NodeEnd)?;
-    matching.bars.truncate(level.bars);
-    raise(&mut matching.levels, level.height.saturating_add(1));
+    matching.bars.truncate(opener.bars);
+    raise(&mut matching.openers, opener.height.saturating_add(1));
     Ok(Run {
         brackets: run.brackets,
         count: run.count - taken,
@@ -193,24 +193,24 @@ fn make_node(matching: &mut Matching, level: &Level, run: Run) -> Result<Run, Me
     })
 }
 
-/// Two brackets of a level that was taken and two of a closing run become plain text with all bars and equals signs
+/// Two brackets of a opener that was taken and two of a closing run become plain text with all bars and equals signs
 /// between them, and gives what is left of the closing run.
-fn make_brackets(matching: &mut Matching, level: &Level, run: Run) -> Result<Run, Memory>
-    ensures { IfOk result (λ left. (first : List Entry) (top : pass.Level) (levels : List pass.Level) → IsPopped first top levels level.now matching.old
-        → 2 ≤ run.count → run.count ≤ run.end → MeetsAs (met_as_brackets top (as_run run) (record { first = first; levels = levels })) matching.new left) }
+fn make_brackets(matching: &mut Matching, opener: &Opener, run: Run) -> Result<Run, Memory>
+    ensures { IfOk result (λ left. (first : List Entry) (top : pass.Opener) (openers : List pass.Opener) → IsPopped first top openers opener.now matching.old
+        → 2 ≤ run.count → run.count ≤ run.end → MeetsAs (met_as_brackets top (as_run run) (record { first = first; openers = openers })) matching.new left) }
 {
-    let taken = level.run.count.min(2);
+    let taken = opener.run.count.min(2);
     let token = Token::Plain {
-        start: level.run.end.saturating_sub(taken),
+        start: opener.run.end.saturating_sub(taken),
         len: 2,
     };
-    split(matching, level, taken, token)?;
-    plain_bars(&mut matching.tokens, &mut matching.bars, level.bars);
+    split(matching, opener, taken, token)?;
+    plain_bars(&mut matching.tokens, &mut matching.bars, opener.bars);
     matching.tokens.push(Token::Plain {
         start: run.end.saturating_sub(run.count),
         len: 2,
     })?;
-    raise(&mut matching.levels, level.height);
+    raise(&mut matching.openers, opener.height);
     Ok(Run {
         brackets: run.brackets,
         count: run.count.saturating_sub(2),
@@ -225,17 +225,17 @@ pub enum Way {
     Node,
     /// Brackets.
     Brackets,
-    /// The closing marks are plain text.
+    /// The closing delimiters are plain text.
     Plain,
 }
 
-fn find_way(level: &Level, run: &Run) -> Way
-    ensures { result ≡ way_of level.now.run.brackets run.now.brackets level.now.height }
+fn find_way(opener: &Opener, run: &Run) -> Way
+    ensures { result ≡ way_of opener.now.run.brackets run.now.brackets opener.now.height }
 {
-    match (level.run.brackets, run.brackets) {
+    match (opener.run.brackets, run.brackets) {
         (true, true) => Way::Brackets,
         (false, false) => {
-            if level.height == MAX_HEIGHT {
+            if opener.height == MAX_HEIGHT {
                 Way::Plain
             } else {
                 Way::Node
@@ -264,28 +264,28 @@ fn make_plain(matching: &mut Matching, run: Run) -> Result<Run, Memory>
 fn meet(matching: &mut Matching, run: Run) -> Result<Run, Memory>
     ensures { IfOk result (λ left. (seen : PassState) → IsKept seen matching.old → 2 ≤ run.count → run.count ≤ run.end → MeetsAs (met (as_run run) seen) matching.new left) }
 {
-    let Some(level) = matching.levels.pop() else {
+    let Some(opener) = matching.openers.pop() else {
         let left = make_plain(matching, run)?;
         return Ok(left);
     };
-    match find_way(&level, &run) {
+    match find_way(&opener, &run) {
         Way::Node => {
-            let left = make_node(matching, &level, run)?;
+            let left = make_node(matching, &opener, run)?;
             Ok(left)
         }
         Way::Brackets => {
-            let left = make_brackets(matching, &level, run)?;
+            let left = make_brackets(matching, &opener, run)?;
             Ok(left)
         }
         Way::Plain => {
-            matching.levels.push(level)?;
+            matching.openers.push(opener)?;
             let left = make_plain(matching, run)?;
             Ok(left)
         }
     }
 }
 
-/// A closing run meets what was seen where it has two marks or more.
+/// A closing run meets what was seen where it has two delimiters or more.
 fn meet_again(matching: &mut Matching, run: Run) -> Result<Run, Memory>
     ensures few { IfOk result (λ left. run.count < 2 → (matching.new ≡ matching.old) × (left ≡ run)) }
     ensures many { IfOk result (λ left. 2 ≤ run.count → (seen : PassState) → IsKept seen matching.old → run.count ≤ run.end → MeetsAs (met (as_run run) seen) matching.new left) }
@@ -297,12 +297,12 @@ fn meet_again(matching: &mut Matching, run: Run) -> Result<Run, Memory>
     Ok(left)
 }
 
-/// A closing run behind all that was seen. It meets what was seen until at most one mark of it is left.
+/// A closing run behind all that was seen. It meets what was seen until at most one delimiter of it is left.
 fn close(matching: &mut Matching, run: Run) -> Result<(), Memory>
     ensures { OnOk result ((seen : PassState) → IsKept seen matching.old → 2 ≤ run.count → run.count ≤ run.end → IsKept (closed run.count (as_run run) seen) matching.new) }
 {
     let mut left = run;
-    // Each time that it meets something a mark or more of it is taken.
+    // Each time that it meets something a delimiter or more of it is taken.
     for _time in 0..run.count {
         left = meet_again(matching, left)?;
     }
@@ -324,7 +324,7 @@ fn push_bar(matching: &mut Matching, token: Token) -> Result<(), Memory>
     Ok(())
 }
 
-/// Whether the marks at a place are brackets.
+/// Whether the delimiters at a place are brackets.
 fn are_brackets(text: &[u8], at: usize) -> bool
     ensures { result ≡ brackets_at text.now at }
 {
@@ -335,7 +335,7 @@ fn are_brackets(text: &[u8], at: usize) -> bool
     }
 }
 
-/// The run of marks that an atom is.
+/// The run of delimiters that an atom is.
 fn run_at(text: &[u8], atom: &Atom) -> Run
     requires within { IsWithin (length text.now) atom.now }
     requires short { length text.now < 2 ^ 32 }
@@ -401,7 +401,7 @@ pub fn matched(alloc: Global, text: &[u8], atoms: Lexer) -> Result<Vec<Token>, M
     let mut matching = Matching {
         tokens: Vec::with_capacity(alloc, text.len())?,
         bars: Vec::new(alloc),
-        levels: Vec::new(alloc),
+        openers: Vec::new(alloc),
     };
     while let Some(atom) = ahead.next() {
         step(&mut matching, text, &atom)?;

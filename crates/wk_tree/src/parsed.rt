@@ -301,16 +301,16 @@ mod tests {
     fn show_text(
         out: &mut String,
         source: &str,
-        marks: [&str; 2],
+        delimiters: [&str; 2],
         span: (u32, u32),
     ) -> Result<(), Fail> {
         let start = span.0 as usize;
         let text = source
             .get(start..start + span.1 as usize)
             .ok_or("a span of no text")?;
-        out.push_str(marks[0])?;
+        out.push_str(delimiters[0])?;
         out.push_str(text)?;
-        out.push_str(marks[1])?;
+        out.push_str(delimiters[1])?;
         Ok(())
     }
 

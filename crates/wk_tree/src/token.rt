@@ -1,7 +1,7 @@
-//! A text whose marks are matched, as a flat list.
+//! A text whose delimiters are matched, as a flat list.
 
-/// A token of the list. Each run of marks has as many tokens as marks while it may still be matched, so that what
-/// becomes of its marks is written in their places (own).
+/// A token of the list. Each run of delimiters has as many tokens as delimiters while it may still be matched, so that what
+/// becomes of its delimiters is written in their places (own).
 #[derive(Clone, Copy, Debug, PartialEq, Eq)]
 pub enum Token {
     /// Plain text.
@@ -44,6 +44,6 @@ pub enum Token {
     },
     /// The closing braces of a node.
     NodeEnd,
-    /// The place of a mark that belongs to the token before it.
+    /// The place of a delimiter that belongs to the token before it.
     Fill,
 }

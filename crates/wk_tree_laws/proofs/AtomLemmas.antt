@@ -5,16 +5,16 @@ use Rattle.std.specs.List.{prefix_len, AllByRecursion}
 use Rattle.wk_text_rules.specs.Shapes.{Shape, exactly, run_of, ◌or_else◌, first_that_fits}
 use Rattle.wk_tree_laws.proofs.ShapeLemmas.{exactly-fits, and_then-fits, or_else-fits, take-prefix_len, part-is}
 use Rattle.wk_tree_laws.proofs.SpanLemmas.{spans-all}
-use Rattle.wk_tree_rules.specs.Atoms.{Atom, atoms, atom_at, atom_shapes, run_of_marks}
-use Rattle.wk_tree_rules.specs.Reduction.{Marks, marks_of, opening_mark, closing_mark}
+use Rattle.wk_tree_rules.specs.Atoms.{Atom, atoms, atom_at, atom_shapes, run_of_delimiters}
+use Rattle.wk_tree_rules.specs.Reduction.{Delimiter, delimiters_of, opening_delimiter, closing_delimiter}
 use Rattle.wk_tree_rules.specs.declared.AtomKind.{AtomKind}
 use Rattle.wk_tree_rules.specs.declared.AtomKind.TheVariants.{LineComment, Comment, Sealed, Ignored, Tag, Open, Close, Bar, Equals, Byte}
 use Rattle.wk_tree_rules.specs.declared.Mode.{Mode}
 
--- a run of two or more of the mark that its first byte shows
-pub record IsRun (mark : Marks → ℕ) (source : List ℕ) : Type 0 where
+-- a run of two or more of the delimiter that its first byte shows
+pub record IsRun (delimiter : Delimiter → ℕ) (source : List ℕ) : Type 0 where
   pub long : 2 ≤ length source
-  pub marks : replicate (length source) (mark (marks_of source)) ≡ source
+  pub delimiters : replicate (length source) (delimiter (delimiters_of source)) ≡ source
 
 -- what the source of an atom is, where its kind fixes it
 abbrev pub IsSourceOf : AtomKind → List ℕ → Type 0
@@ -23,8 +23,8 @@ IsSourceOf Comment source = Unit {0}
 IsSourceOf Sealed source = Unit {0}
 IsSourceOf Ignored source = Unit {0}
 IsSourceOf Tag source = Unit {0}
-IsSourceOf Open source = IsRun opening_mark source
-IsSourceOf Close source = IsRun closing_mark source
+IsSourceOf Open source = IsRun opening_delimiter source
+IsSourceOf Close source = IsRun closing_delimiter source
 IsSourceOf Bar source = source ≡ codes "|"
 IsSourceOf Equals source = source ≡ codes "="
 IsSourceOf Byte source = Unit {0}
@@ -47,47 +47,47 @@ first_that_fits-each P (alternative ∷ alternatives) otherwise text p each =
 abbrev pub covered : ℕ → List ℕ → List ℕ → List ℕ
 covered b bs rest = take (suc (length bs - length rest)) (b ∷ bs)
 
-mark-covered : (mark : ℕ) (b : ℕ) (bs rest : List ℕ) → run_of_marks mark (b ∷ bs) ≡ Some rest → (k : ℕ) × (covered b bs rest ≡ mark ∷ mark ∷ replicate k mark)
-mark-covered mark b bs rest e =
-    let fits = and_then-fits (exactly (mark ∷ mark ∷ [])) (run_of (λ x. x == mark)) (b ∷ bs) rest e in
+delimiter-covered : (delimiter : ℕ) (b : ℕ) (bs rest : List ℕ) → run_of_delimiters delimiter (b ∷ bs) ≡ Some rest → (k : ℕ) × (covered b bs rest ≡ delimiter ∷ delimiter ∷ replicate k delimiter)
+delimiter-covered delimiter b bs rest e =
+    let fits = and_then-fits (exactly (delimiter ∷ delimiter ∷ [])) (run_of (λ x. x == delimiter)) (b ∷ bs) rest e in
     let mid : List ℕ = fits.0 in
-    let k : ℕ = prefix_len (λ x. x == mark) mid in
-    let front : b ∷ bs ≡ mark ∷ mark ∷ mid = exactly-fits (mark ∷ mark ∷ []) (b ∷ bs) mid fits.1 in
+    let k : ℕ = prefix_len (λ x. x == delimiter) mid in
+    let front : b ∷ bs ≡ delimiter ∷ delimiter ∷ mid = exactly-fits (delimiter ∷ delimiter ∷ []) (b ∷ bs) mid fits.1 in
     let last : drop k mid ≡ rest = cc (fits.2) in
-    let parted : mid ≡ replicate k mark ++ rest =
-    sym (take-append-drop k mid) ∙ ap (λ t. t ++ drop k mid) (take-prefix_len mark mid) ∙ ap (λ t. replicate k mark ++ t) last in
-    (k, part-is b bs (mark ∷ mark ∷ replicate k mark) rest (front ∙ ap (λ t. mark ∷ mark ∷ t) parted) (omega arith))
+    let parted : mid ≡ replicate k delimiter ++ rest =
+    sym (take-append-drop k mid) ∙ ap (λ t. t ++ drop k mid) (take-prefix_len delimiter mid) ∙ ap (λ t. replicate k delimiter ++ t) last in
+    (k, part-is b bs (delimiter ∷ delimiter ∷ replicate k delimiter) rest (front ∙ ap (λ t. delimiter ∷ delimiter ∷ t) parted) (omega arith))
 
-run-long : (mark k : ℕ) → 2 ≤ length (mark ∷ mark ∷ replicate k mark)
-run-long mark k = omega arith
+run-long : (delimiter k : ℕ) → 2 ≤ length (delimiter ∷ delimiter ∷ replicate k delimiter)
+run-long delimiter k = omega arith
 
-open-braces : (k : ℕ) → IsRun opening_mark (123 ∷ 123 ∷ replicate k 123)
-open-braces k = record { long = run-long 123 k; marks = ap (λ n. 123 ∷ 123 ∷ replicate n 123) (length-replicate k 123) }
+open-braces : (k : ℕ) → IsRun opening_delimiter (123 ∷ 123 ∷ replicate k 123)
+open-braces k = record { long = run-long 123 k; delimiters = ap (λ n. 123 ∷ 123 ∷ replicate n 123) (length-replicate k 123) }
 
-open-brackets : (k : ℕ) → IsRun opening_mark (91 ∷ 91 ∷ replicate k 91)
-open-brackets k = record { long = run-long 91 k; marks = ap (λ n. 91 ∷ 91 ∷ replicate n 91) (length-replicate k 91) }
+open-brackets : (k : ℕ) → IsRun opening_delimiter (91 ∷ 91 ∷ replicate k 91)
+open-brackets k = record { long = run-long 91 k; delimiters = ap (λ n. 91 ∷ 91 ∷ replicate n 91) (length-replicate k 91) }
 
-close-braces : (k : ℕ) → IsRun closing_mark (125 ∷ 125 ∷ replicate k 125)
-close-braces k = record { long = run-long 125 k; marks = ap (λ n. 125 ∷ 125 ∷ replicate n 125) (length-replicate k 125) }
+close-braces : (k : ℕ) → IsRun closing_delimiter (125 ∷ 125 ∷ replicate k 125)
+close-braces k = record { long = run-long 125 k; delimiters = ap (λ n. 125 ∷ 125 ∷ replicate n 125) (length-replicate k 125) }
 
-close-brackets : (k : ℕ) → IsRun closing_mark (93 ∷ 93 ∷ replicate k 93)
-close-brackets k = record { long = run-long 93 k; marks = ap (λ n. 93 ∷ 93 ∷ replicate n 93) (length-replicate k 93) }
+close-brackets : (k : ℕ) → IsRun closing_delimiter (93 ∷ 93 ∷ replicate k 93)
+close-brackets k = record { long = run-long 93 k; delimiters = ap (λ n. 93 ∷ 93 ∷ replicate n 93) (length-replicate k 93) }
 
 module _ (b : ℕ) (bs rest : List ℕ) where
-  run-covered : (side : Marks → ℕ) (mark : ℕ) → ((k : ℕ) → IsRun side (mark ∷ mark ∷ replicate k mark)) → run_of_marks mark (b ∷ bs) ≡ Some rest → IsRun side (covered b bs rest)
-  run-covered side mark is_run e =
-      let c = mark-covered mark b bs rest e in
+  run-covered : (side : Delimiter → ℕ) (delimiter : ℕ) → ((k : ℕ) → IsRun side (delimiter ∷ delimiter ∷ replicate k delimiter)) → run_of_delimiters delimiter (b ∷ bs) ≡ Some rest → IsRun side (covered b bs rest)
+  run-covered side delimiter is_run e =
+      let c = delimiter-covered delimiter b bs rest e in
       subst (λ source. IsRun side source) (sym c.1) (is_run c.0)
 
-  open-covered : (run_of_marks 123 or_else run_of_marks 91) (b ∷ bs) ≡ Some rest → IsRun opening_mark (covered b bs rest)
+  open-covered : (run_of_delimiters 123 or_else run_of_delimiters 91) (b ∷ bs) ≡ Some rest → IsRun opening_delimiter (covered b bs rest)
   open-covered e =
-      ⊎_elim (run-covered opening_mark 123 open-braces) (run-covered opening_mark 91 open-brackets)
-      (or_else-fits (run_of_marks 123) (run_of_marks 91) (b ∷ bs) rest e)
+      ⊎_elim (run-covered opening_delimiter 123 open-braces) (run-covered opening_delimiter 91 open-brackets)
+      (or_else-fits (run_of_delimiters 123) (run_of_delimiters 91) (b ∷ bs) rest e)
 
-  close-covered : (run_of_marks 125 or_else run_of_marks 93) (b ∷ bs) ≡ Some rest → IsRun closing_mark (covered b bs rest)
+  close-covered : (run_of_delimiters 125 or_else run_of_delimiters 93) (b ∷ bs) ≡ Some rest → IsRun closing_delimiter (covered b bs rest)
   close-covered e =
-      ⊎_elim (run-covered closing_mark 125 close-braces) (run-covered closing_mark 93 close-brackets)
-      (or_else-fits (run_of_marks 125) (run_of_marks 93) (b ∷ bs) rest e)
+      ⊎_elim (run-covered closing_delimiter 125 close-braces) (run-covered closing_delimiter 93 close-brackets)
+      (or_else-fits (run_of_delimiters 125) (run_of_delimiters 93) (b ∷ bs) rest e)
 
   byte-covered : (byte : ℕ) → exactly (byte ∷ []) (b ∷ bs) ≡ Some rest → covered b bs rest ≡ byte ∷ []
   byte-covered byte e = part-is b bs (byte ∷ []) rest (exactly-fits (byte ∷ []) (b ∷ bs) rest e) (omega arith)

@@ -6,14 +6,14 @@ use Rattle.std.specs.List.{AllByRecursion}
 use Rattle.wk_tree_laws.proofs.AtomLemmas.{IsSourceOf, atoms-sources}
 use Rattle.wk_tree_laws.proofs.PieceLemmas.{all-append, all-imp, entry_source, piece_source, entries_source, plain_entry-source}
 use Rattle.wk_tree_laws.proofs.PlaceLemmas.{IsEntryAt, IsPieceAt, ArePiecesAt, reduced-at}
-use Rattle.wk_tree_laws.proofs.SpanLemmas.{spans-row}
+use Rattle.wk_tree_laws.proofs.SpanLemmas.{spans-at}
 use Rattle.wk_tree_laws.proofs.TreeLemmas.{pieces_of-sound, piece_by-source, merged-source, tree-source}
-use Rattle.wk_tree_laws.specs.Rows.{IsRowOfSpans, IsItemAt, IsRowAt, AreItemsAt, start_of, IsPartAt, IsItemIn, AreItemsIn, IsValueIn, IsNodeIn}
+use Rattle.wk_tree_laws.specs.Places.{AreSpansAt, IsItemAt, IsContentAt, AreItemsAt, start_of, IsPartAt, IsItemIn, AreItemsIn, IsValueIn, IsNodeIn}
 use Rattle.wk_tree_rules.specs.Atoms.{Atom, atoms, atom_at}
 use Rattle.wk_tree_rules.specs.Reduction.{Piece, entry, opening, closing, piece_by, piece_of, pieces_of, reduced}
 use Rattle.wk_tree_rules.specs.Selection.{selected}
-use Rattle.wk_tree_rules.specs.Tree.{item_of, tree, Split, split_by, split_at_bars, name_by, split_at_equals, part_of, Node, nodes_of, row_nodes, nodes, part_lists, node_lists, lists}
-use Rattle.wk_tree_rules.specs.Trees.{Item, NodeKind, Row, empty_row, item_then, bar_then, equals_then, Entry, item, bar, equals, entries, width, opening_braces, closing_braces, source_of, row_source, items_source, plain_entry, put_before, merged, plain_items}
+use Rattle.wk_tree_rules.specs.Tree.{item_of, tree, Split, split_by, split_at_bars, name_by, split_at_equals, part_of, Node, nodes_of, content_nodes, nodes, part_lists, node_lists, lists}
+use Rattle.wk_tree_rules.specs.Trees.{Item, NodeKind, Content, empty_content, item_then, bar_then, equals_then, Entry, item, bar, equals, entries, width, opening_braces, closing_braces, source_of, content_source, items_source, plain_entry, put_before, merged, plain_items}
 use Rattle.wk_tree_rules.specs.declared.AtomKind.{AtomKind}
 use Rattle.wk_tree_rules.specs.declared.AtomKind.TheVariants.{LineComment, Comment, Sealed, Ignored, Tag, Open, Close, Bar, Equals, Byte}
 use Rattle.wk_tree_rules.specs.declared.Mode.{Mode}
@@ -52,27 +52,27 @@ About-back text at xs ys a = record {
 
 -- ---- the root
 
-pieces_by-at : (at : ℕ) (found : List Atom) → IsRowOfSpans at found → AllByRecursion (λ (a : Atom). IsSourceOf a.kind a.source) found → ArePiecesAt at (map piece_of found)
-pieces_by-at at [] row all = tt
-pieces_by-at at (atom ∷ found) row all =
+pieces_by-at : (at : ℕ) (found : List Atom) → AreSpansAt at found → AllByRecursion (λ (a : Atom). IsSourceOf a.kind a.source) found → ArePiecesAt at (map piece_of found)
+pieces_by-at at [] placed all = tt
+pieces_by-at at (atom ∷ found) placed all =
     let e : at + length atom.source ≡ at + length (piece_source (piece_of atom)) = ap (λ t. at + length t) (sym (piece_by-source atom.kind atom all.0)) in
-    (by_kind atom.kind, subst (λ n. ArePiecesAt n (map piece_of found)) e (pieces_by-at (at + length atom.source) found row.2 all.1))
+    (by_kind atom.kind, subst (λ n. ArePiecesAt n (map piece_of found)) e (pieces_by-at (at + length atom.source) found placed.2 all.1))
   where
     by_kind : (kind : AtomKind) → IsPieceAt at (piece_by kind atom)
-    by_kind LineComment = row.0
-    by_kind Comment = row.0
-    by_kind Sealed = row.0
-    by_kind Ignored = row.0
-    by_kind Tag = row.0
-    by_kind Open = row.0
-    by_kind Close = row.0
-    by_kind Bar = row.0
-    by_kind Equals = row.0
-    by_kind Byte = row.0
+    by_kind LineComment = placed.0
+    by_kind Comment = placed.0
+    by_kind Sealed = placed.0
+    by_kind Ignored = placed.0
+    by_kind Tag = placed.0
+    by_kind Open = placed.0
+    by_kind Close = placed.0
+    by_kind Bar = placed.0
+    by_kind Equals = placed.0
+    by_kind Byte = placed.0
 
 pub pieces_of-at : (mode : Mode) (text : List ℕ) → ArePiecesAt 0 (pieces_of mode text)
 unfolding atoms
-pieces_of-at mode text = pieces_by-at 0 (atoms mode text) (spans-row (atom_at mode) text) (atoms-sources mode text)
+pieces_of-at mode text = pieces_by-at 0 (atoms mode text) (spans-at (atom_at mode) text) (atoms-sources mode text)
 
 item_of-at : (at : ℕ) (piece : Piece) → IsPieceAt at piece → IsItemAt at (item_of piece)
 item_of-at at (entry (item i)) h = h
@@ -126,18 +126,18 @@ AreEntriesAt at (e ∷ parts) = IsEntryAt at e × AreEntriesAt (at + length (ent
 
 -- entries stand in a text from a place on
 pub record AreEntriesIn (text : List ℕ) (at : ℕ) (parts : List Entry) : Type 0 where
-  pub row : AreEntriesAt at parts
+  pub placed : AreEntriesAt at parts
   pub about : About text at (entries_source parts)
 
-entries-at : (at : ℕ) (content : Row) → IsRowAt at content → AreEntriesAt at (entries content)
-entries-at at empty_row h = tt
+entries-at : (at : ℕ) (content : Content) → IsContentAt at content → AreEntriesAt at (entries content)
+entries-at at empty_content h = tt
 entries-at at (item_then i rest) h = (h.0, entries-at (at + length (source_of i)) rest h.1)
 entries-at at (bar_then start rest) h = (h.0, entries-at (at + 1) rest h.1)
 entries-at at (equals_then start rest) h = (h.0, entries-at (at + 1) rest h.1)
 
-pub entries-text : (content : Row) → row_source content ≡ entries_source (entries content)
-unfolding row_source source_of
-entries-text empty_row = refl
+pub entries-text : (content : Content) → content_source content ≡ entries_source (entries content)
+unfolding content_source source_of
+entries-text empty_content = refl
 entries-text (item_then i rest) = ap (λ t. source_of i ++ t) (entries-text rest)
 entries-text (bar_then start rest) = ap (λ t. codes "|" ++ t) (entries-text rest)
 entries-text (equals_then start rest) = ap (λ t. codes "=" ++ t) (entries-text rest)
@@ -164,7 +164,7 @@ plain_items-part text at parts h = subst (λ t. IsPartAt text at t) (sym (merged
 plain_items-in : (text : List ℕ) (at : ℕ) (parts : List Entry) → AreEntriesIn text at parts → AreItemsIn text (plain_items parts)
 plain_items-in text at parts h = record {
   at = at;
-  row = merged-at at (map plain_entry parts) (plain_entries-at at parts h.row);
+  placed = merged-at at (map plain_entry parts) (plain_entries-at at parts h.placed);
   source = plain_items-part text at parts h;
 }
 
@@ -193,10 +193,10 @@ About-empty text at xs a = About-front text at [] xs a
 
 -- an entry before entries that stand in the text behind it
 entry-before : (text : List ℕ) (at : ℕ) (e : Entry) (parts : List Entry) → IsEntryAt at e → About text at (entry_source e) → AreEntriesIn text (at + length (entry_source e)) parts → AreEntriesIn text at (e ∷ parts)
-entry-before text at e parts h a k = record { row = (h, k.row); about = About-join text at (entry_source e) (entries_source parts) a k.about }
+entry-before text at e parts h a k = record { placed = (h, k.placed); about = About-join text at (entry_source e) (entries_source parts) a k.about }
 
 rest-in : (text : List ℕ) (at : ℕ) (e : Entry) (parts : List Entry) → AreEntriesIn text at (e ∷ parts) → AreEntriesIn text (at + length (entry_source e)) parts
-rest-in text at e parts h = record { row = h.row.1; about = About-back text at (entry_source e) (entries_source parts) h.about }
+rest-in text at e parts h = record { placed = h.placed.1; about = About-back text at (entry_source e) (entries_source parts) h.about }
 
 head-about : (text : List ℕ) (at : ℕ) (e : Entry) (parts : List Entry) → AreEntriesIn text at (e ∷ parts) → About text at (entry_source e)
 head-about text at e parts h = About-front text at (entry_source e) (entries_source parts) h.about
@@ -208,11 +208,11 @@ record SplitIn (text : List ℕ) (at : ℕ) (split : Split) : Type 0 where
   further : AllByRecursion (λ (part : ℕ × List Entry). AreEntriesIn text part.0 part.1) split.further
 
 split_by-in : (text : List ℕ) (at : ℕ) (e : Entry) (parts : List Entry) (split : Split) → AreEntriesIn text at (e ∷ parts) → SplitIn text (at + length (entry_source e)) split → SplitIn text at (split_by e split)
-split_by-in text at (item i) parts split h k = record { first = entry-before text at (item i) split.first h.row.0 (head-about text at (item i) parts h) k.first; further = k.further }
-split_by-in text at (equals start) parts split h k = record { first = entry-before text at (equals start) split.first h.row.0 (head-about text at (equals start) parts h) k.first; further = k.further }
+split_by-in text at (item i) parts split h k = record { first = entry-before text at (item i) split.first h.placed.0 (head-about text at (item i) parts h) k.first; further = k.further }
+split_by-in text at (equals start) parts split h k = record { first = entry-before text at (equals start) split.first h.placed.0 (head-about text at (equals start) parts h) k.first; further = k.further }
 split_by-in text at (bar start) parts split h k = record {
-  first = record { row = tt; about = About-empty text at (codes "|") (head-about text at (bar start) parts h) };
-  further = (subst (λ n. AreEntriesIn text (n + 1) split.first) (sym h.row.0) k.first, k.further);
+  first = record { placed = tt; about = About-empty text at (codes "|") (head-about text at (bar start) parts h) };
+  further = (subst (λ n. AreEntriesIn text (n + 1) split.first) (sym h.placed.0) k.first, k.further);
 }
 
 split_at_bars-in : (text : List ℕ) (at : ℕ) (parts : List Entry) → AreEntriesIn text at parts → SplitIn text at (split_at_bars parts)
@@ -227,12 +227,12 @@ NamedIn text at (Some found) = AreEntriesIn text at found.0 × AreEntriesIn text
 
 name_by-in : (text : List ℕ) (at : ℕ) (e : Entry) (parts : List Entry) (later : Option (List Entry × ℕ × List Entry)) → AreEntriesIn text at (e ∷ parts) → NamedIn text (at + length (entry_source e)) later → NamedIn text at (name_by e parts later)
 name_by-in text at (item i) parts None h k = tt
-name_by-in text at (item i) parts (Some found) h k = (entry-before text at (item i) found.0 h.row.0 (head-about text at (item i) parts h) k.0, k.1)
+name_by-in text at (item i) parts (Some found) h k = (entry-before text at (item i) found.0 h.placed.0 (head-about text at (item i) parts h) k.0, k.1)
 name_by-in text at (bar start) parts None h k = tt
-name_by-in text at (bar start) parts (Some found) h k = (entry-before text at (bar start) found.0 h.row.0 (head-about text at (bar start) parts h) k.0, k.1)
+name_by-in text at (bar start) parts (Some found) h k = (entry-before text at (bar start) found.0 h.placed.0 (head-about text at (bar start) parts h) k.0, k.1)
 name_by-in text at (equals start) parts later h k = (
-  record { row = tt; about = About-empty text at (codes "=") (head-about text at (equals start) parts h) },
-  subst (λ n. AreEntriesIn text (n + 1) parts) (sym h.row.0) (rest-in text at (equals start) parts h),
+  record { placed = tt; about = About-empty text at (codes "=") (head-about text at (equals start) parts h) },
+  subst (λ n. AreEntriesIn text (n + 1) parts) (sym h.placed.0) (rest-in text at (equals start) parts h),
 )
 
 split_at_equals-in : (text : List ℕ) (at : ℕ) (parts : List Entry) → AreEntriesIn text at parts → NamedIn text at (split_at_equals parts)
@@ -259,27 +259,27 @@ further-in text ((at, parts) ∷ found) all =
 -- a node stands in the text where it says, and its content behind its opening braces
 pub record IsContentIn (text : List ℕ) (n : Node) : Type 0 where
   pub node : About text n.start (source_of (Item.node n.kind n.start n.content))
-  pub row : IsRowAt (n.start + width n.kind) n.content
-  pub about : About text (n.start + width n.kind) (row_source n.content)
+  pub placed : IsContentAt (n.start + width n.kind) n.content
+  pub about : About text (n.start + width n.kind) (content_source n.content)
 
 node_lists-in : (text : List ℕ) (n : Node) → IsContentIn text n → AllByRecursion (AreItemsIn text) (node_lists n)
 node_lists-in text n h =
     let at : ℕ = n.start + width n.kind in
-    let whole : AreEntriesIn text at (entries n.content) = record { row = entries-at at n.content h.row; about = subst (λ t. About text at t) (entries-text n.content) h.about } in
+    let whole : AreEntriesIn text at (entries n.content) = record { placed = entries-at at n.content h.placed; about = subst (λ t. About text at t) (entries-text n.content) h.about } in
     let split = split_at_bars-in text at (entries n.content) whole in
     (plain_items-in text at (split_at_bars (entries n.content)).first split.first, further-in text (split_at_bars (entries n.content)).further split.further)
 
 opening-long : (kind : NodeKind) → length (opening_braces kind) ≡ width kind
 opening-long kind = length-replicate (width kind) 123
 
-node-content-about : (text : List ℕ) (at : ℕ) (kind : NodeKind) (start : ℕ) (content : Row) → About text at (source_of (Item.node kind start content)) → About text (at + width kind) (row_source content)
+node-content-about : (text : List ℕ) (at : ℕ) (kind : NodeKind) (start : ℕ) (content : Content) → About text at (source_of (Item.node kind start content)) → About text (at + width kind) (content_source content)
 unfolding source_of
 node-content-about text at kind start content a =
-    subst (λ k. About text (at + k) (row_source content)) (opening-long kind)
-    (About-front text (at + length (opening_braces kind)) (row_source content) (closing_braces kind) (About-back text at (opening_braces kind) (row_source content ++ closing_braces kind) a))
+    subst (λ k. About text (at + k) (content_source content)) (opening-long kind)
+    (About-front text (at + length (opening_braces kind)) (content_source content) (closing_braces kind) (About-back text at (opening_braces kind) (content_source content ++ closing_braces kind) a))
 
 mutual
-  unfolding nodes_of row_source source_of
+  unfolding nodes_of content_source source_of
 
   contents_of-in : (text : List ℕ) (at : ℕ) (i : Item) → IsItemAt at i → About text at (source_of i) → AllByRecursion (IsContentIn text) (nodes_of i)
   contents_of-in text at (Item.plain start source) h a = tt
@@ -288,20 +288,20 @@ mutual
   contents_of-in text at (Item.node kind start content) h a = (
     record {
       node = subst (λ n. About text n (source_of (Item.node kind start content))) (sym h.0) a;
-      row = subst (λ n. IsRowAt (n + width kind) content) (sym h.0) h.1;
-      about = subst (λ n. About text (n + width kind) (row_source content)) (sym h.0) (node-content-about text at kind start content a);
+      placed = subst (λ n. IsContentAt (n + width kind) content) (sym h.0) h.1;
+      about = subst (λ n. About text (n + width kind) (content_source content)) (sym h.0) (node-content-about text at kind start content a);
     },
-    row_contents-in text (at + width kind) content h.1 (node-content-about text at kind start content a),
+    content_nodes-in text (at + width kind) content h.1 (node-content-about text at kind start content a),
   )
 
-  row_contents-in : (text : List ℕ) (at : ℕ) (content : Row) → IsRowAt at content → About text at (row_source content) → AllByRecursion (IsContentIn text) (row_nodes content)
-  row_contents-in text at empty_row h a = tt
-  row_contents-in text at (item_then i rest) h a =
-      all-append (IsContentIn text) (nodes_of i) (row_nodes rest)
-      (contents_of-in text at i h.0 (About-front text at (source_of i) (row_source rest) a))
-      (row_contents-in text (at + length (source_of i)) rest h.1 (About-back text at (source_of i) (row_source rest) a))
-  row_contents-in text at (bar_then start rest) h a = row_contents-in text (at + 1) rest h.1 (About-back text at (codes "|") (row_source rest) a)
-  row_contents-in text at (equals_then start rest) h a = row_contents-in text (at + 1) rest h.1 (About-back text at (codes "=") (row_source rest) a)
+  content_nodes-in : (text : List ℕ) (at : ℕ) (content : Content) → IsContentAt at content → About text at (content_source content) → AllByRecursion (IsContentIn text) (content_nodes content)
+  content_nodes-in text at empty_content h a = tt
+  content_nodes-in text at (item_then i rest) h a =
+      all-append (IsContentIn text) (nodes_of i) (content_nodes rest)
+      (contents_of-in text at i h.0 (About-front text at (source_of i) (content_source rest) a))
+      (content_nodes-in text (at + length (source_of i)) rest h.1 (About-back text at (source_of i) (content_source rest) a))
+  content_nodes-in text at (bar_then start rest) h a = content_nodes-in text (at + 1) rest h.1 (About-back text at (codes "|") (content_source rest) a)
+  content_nodes-in text at (equals_then start rest) h a = content_nodes-in text (at + 1) rest h.1 (About-back text at (codes "=") (content_source rest) a)
 
 contents-in : (text : List ℕ) (at : ℕ) (items : List Item) → AreItemsAt at items → About text at (items_source items) → AllByRecursion (IsContentIn text) (nodes items)
 contents-in text at [] h a = tt
@@ -321,7 +321,7 @@ tree-contents-in mode text = contents-in (selected mode text) 0 (tree mode text)
 
 pub tree-lists-in : (mode : Mode) (text : List ℕ) → AllByRecursion (AreItemsIn (selected mode text)) (lists (tree mode text))
 tree-lists-in mode text = (
-  record { at = 0; row = tree-at mode text; source = About-IsPartAt (selected mode text) 0 (items_source (tree mode text)) (tree-about mode text) },
+  record { at = 0; placed = tree-at mode text; source = About-IsPartAt (selected mode text) 0 (items_source (tree mode text)) (tree-about mode text) },
   all_lists-in (selected mode text) (nodes (tree mode text)) (tree-contents-in mode text),
 )
 
@@ -353,7 +353,7 @@ items-each text at (i ∷ items) h a = (
 
 -- each of the items that stand in a text stands where it says
 pub AreItemsIn-each : (text : List ℕ) (items : List Item) → AreItemsIn text items → AllByRecursion (IsItemIn text) items
-AreItemsIn-each text items h = items-each text h.at items h.row (IsPartAt-About text h.at (items_source items) h.source)
+AreItemsIn-each text items h = items-each text h.at items h.placed (IsPartAt-About text h.at (items_source items) h.source)
 
 value-in : (text : List ℕ) (at : ℕ) (parts : List Entry) → AreEntriesIn text at parts → IsValueIn text (part_of (at, parts))
 value-in text at parts h =
@@ -373,9 +373,9 @@ pub IsContentIn-node : (text : List ℕ) (n : Node) → IsContentIn text n → I
 unfolding source_of
 IsContentIn-node text n h =
     let at : ℕ = n.start + width n.kind in
-    let whole : AreEntriesIn text at (entries n.content) = record { row = entries-at at n.content h.row; about = subst (λ t. About text at t) (entries-text n.content) h.about } in
+    let whole : AreEntriesIn text at (entries n.content) = record { placed = entries-at at n.content h.placed; about = subst (λ t. About text at t) (entries-text n.content) h.about } in
     record {
-      whole = About-IsPartAt text n.start (opening_braces n.kind ++ (row_source n.content ++ closing_braces n.kind)) h.node;
+      whole = About-IsPartAt text n.start (opening_braces n.kind ++ (content_source n.content ++ closing_braces n.kind)) h.node;
       values = values-in text (split_at_bars (entries n.content)).further (split_at_bars-in text at (entries n.content) whole).further;
     }
 

@@ -1,8 +1,8 @@
 -- Pieces: what text they stand for, what is always so of them, and their leftmost closing and last opening run.
 use Rattle.std.proofs.Common.{◌≡◌, ℕ, ◌≤◌, List, [], ◌∷◌, ◌++◌, map, replicate, flat_map, codes, Option, Some, None, option_map, refl, ap, sym, subst, arith}
 use Rattle.std.specs.List.{AllByRecursion}
-use Rattle.wk_tree_rules.specs.Reduction.{Run, Piece, entry, opening, closing, opening_mark, closing_mark, behind_piece, leftmost_closing, entries_of, AtOpening, last_opening_or, last_opening, most_height, closing_marks}
-use Rattle.wk_tree_rules.specs.Trees.{Entry, item, bar, equals, row, source_of, row_source, height, row_height, plain_entry}
+use Rattle.wk_tree_rules.specs.Reduction.{Run, Piece, entry, opening, closing, opening_delimiter, closing_delimiter, behind_piece, leftmost_closing, entries_of, AtOpening, last_opening_or, last_opening, most_height, closing_delimiters}
+use Rattle.wk_tree_rules.specs.Trees.{Entry, item, bar, equals, content_of, source_of, content_source, height, content_height, plain_entry}
 
 -- ---- lists of which each element is so
 
@@ -39,8 +39,8 @@ entry_source (equals start) = codes "="
 
 abbrev pub piece_source : Piece → List ℕ
 piece_source (entry e) = entry_source e
-piece_source (opening run) = replicate run.count (opening_mark run.marks)
-piece_source (closing run) = replicate run.count (closing_mark run.marks)
+piece_source (opening run) = replicate run.count (opening_delimiter run.delimiters)
+piece_source (closing run) = replicate run.count (closing_delimiter run.delimiters)
 
 abbrev pub pieces_source : List Piece → List ℕ
 pieces_source pieces = flat_map piece_source pieces
@@ -48,12 +48,12 @@ pieces_source pieces = flat_map piece_source pieces
 abbrev pub entries_source : List Entry → List ℕ
 entries_source parts = flat_map entry_source parts
 
-pub row-source : (parts : List Entry) → row_source (row parts) ≡ entries_source parts
-unfolding row_source source_of
-row-source [] = refl
-row-source (item i ∷ parts) = ap (λ t. source_of i ++ t) (row-source parts)
-row-source (bar start ∷ parts) = ap (λ t. codes "|" ++ t) (row-source parts)
-row-source (equals start ∷ parts) = ap (λ t. codes "=" ++ t) (row-source parts)
+pub content-source : (parts : List Entry) → content_source (content_of parts) ≡ entries_source parts
+unfolding content_source source_of
+content-source [] = refl
+content-source (item i ∷ parts) = ap (λ t. source_of i ++ t) (content-source parts)
+content-source (bar start ∷ parts) = ap (λ t. codes "|" ++ t) (content-source parts)
+content-source (equals start ∷ parts) = ap (λ t. codes "=" ++ t) (content-source parts)
 
 pub entries-source : (parts : List Entry) → pieces_source (map entry parts) ≡ entries_source parts
 entries-source [] = refl
@@ -72,7 +72,7 @@ entry_height (item i) = height i
 entry_height (bar start) = 0
 entry_height (equals start) = 0
 
--- an entry isn't higher than a tree may be, and a run has two or more marks
+-- an entry isn't higher than a tree may be, and a run has two or more delimiters
 abbrev pub IsSound : Piece → Type 0
 IsSound (entry e) = entry_height e ≤ most_height
 IsSound (opening run) = 2 ≤ run.count
@@ -81,12 +81,12 @@ IsSound (closing run) = 2 ≤ run.count
 abbrev pub AreSound : List Piece → Type 0
 AreSound pieces = AllByRecursion IsSound pieces
 
-pub row-height : (most : ℕ) (parts : List Entry) → AllByRecursion (λ e. entry_height e ≤ most) parts → row_height (row parts) ≤ most
-unfolding row_height height
-row-height most [] a = omega arith
-row-height most (item i ∷ parts) a = let later = row-height most parts a.1 in let now : height i ≤ most = a.0 in omega arith
-row-height most (bar start ∷ parts) a = row-height most parts a.1
-row-height most (equals start ∷ parts) a = row-height most parts a.1
+pub content-height : (most : ℕ) (parts : List Entry) → AllByRecursion (λ e. entry_height e ≤ most) parts → content_height (content_of parts) ≤ most
+unfolding content_height height
+content-height most [] a = omega arith
+content-height most (item i ∷ parts) a = let later = content-height most parts a.1 in let now : height i ≤ most = a.0 in omega arith
+content-height most (bar start ∷ parts) a = content-height most parts a.1
+content-height most (equals start ∷ parts) a = content-height most parts a.1
 
 -- ---- the leftmost closing run
 
@@ -158,13 +158,13 @@ by_opening (entry e ∷ pieces) a = by_opening-entry e (by_opening pieces a.1)
 by_opening (opening r ∷ pieces) a = by_opening-opening r (by_opening pieces a.1)
 by_opening (closing r ∷ pieces) a = absurd a.0
 
--- ---- closing marks
+-- ---- closing delimiters
 
-pub closing_marks-none : (pieces : List Piece) → HaveNoClosing pieces → closing_marks pieces ≡ 0
-closing_marks-none [] a = refl
-closing_marks-none (entry e ∷ pieces) a = closing_marks-none pieces a.1
-closing_marks-none (opening run ∷ pieces) a = closing_marks-none pieces a.1
-closing_marks-none (closing run ∷ pieces) a = absurd a.0
+pub closing_delimiters-none : (pieces : List Piece) → HaveNoClosing pieces → closing_delimiters pieces ≡ 0
+closing_delimiters-none [] a = refl
+closing_delimiters-none (entry e ∷ pieces) a = closing_delimiters-none pieces a.1
+closing_delimiters-none (opening run ∷ pieces) a = closing_delimiters-none pieces a.1
+closing_delimiters-none (closing run ∷ pieces) a = absurd a.0
 
 pub entries-no_closing : (parts : List Entry) → HaveNoClosing (map entry parts)
 entries-no_closing [] = tt

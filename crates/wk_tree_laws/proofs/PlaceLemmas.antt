@@ -2,12 +2,12 @@
 use Rattle.std.proofs.Common.{◌≡◌, ℕ, zero, suc, ◌+◌, ◌-◌, ◌≤◌, ◌==◌, true, false, if◌then◌else◌, List, [], ◌∷◌, ◌++◌, length, map, replicate, Option, Some, None, refl, ap, ap₂, sym, subst, ◌∙◌, arith, append-nil, length-append, add-zero}
 use Rattle.std.proofs.lemmas.Grind.{flat_map-append}
 use Rattle.std.proofs.lemmas.List.{length-replicate}
-use Rattle.wk_tree_laws.proofs.PieceLemmas.{entry_source, piece_source, pieces_source, entries_source, entries-source, row-source, plain_entry-source, AreSound, IsSound, HaveNoClosing, all-front, all-back, ByOpening, entries_alone, opened, by_opening, ByClosing, without, parted, by_closing}
+use Rattle.wk_tree_laws.proofs.PieceLemmas.{entry_source, piece_source, pieces_source, entries_source, entries-source, content-source, plain_entry-source, AreSound, IsSound, HaveNoClosing, all-front, all-back, ByOpening, entries_alone, opened, by_opening, ByClosing, without, parted, by_closing}
 use Rattle.wk_tree_laws.proofs.ReductionLemmas.{step-none, step-parted, step-keeps}
 use Rattle.wk_tree_laws.proofs.StepLemmas.{answered-keeps, width-by}
-use Rattle.wk_tree_laws.specs.Rows.{IsItemAt, IsRowAt}
-use Rattle.wk_tree_rules.specs.Reduction.{Marks, braces, brackets, Run, Piece, entry, opening, closing, opening_mark, closing_mark, plain_opening, plain_closing, first_marks, last_marks, left_opening, left_closing, AtOpening, most_height, node_width, kind_by_width, as_node, as_brackets, as_plain, matched, answered, step, steps, closing_marks, reduced}
-use Rattle.wk_tree_rules.specs.Trees.{Item, node, Entry, item, bar, equals, Row, row, row_height, source_of, row_source, plain_entry, NodeKind, width, opening_braces, closing_braces}
+use Rattle.wk_tree_laws.specs.Places.{IsItemAt, IsContentAt}
+use Rattle.wk_tree_rules.specs.Reduction.{Delimiter, braces, brackets, Run, Piece, entry, opening, closing, opening_delimiter, closing_delimiter, plain_opening, plain_closing, first_delimiters, last_delimiters, left_opening, left_closing, AtOpening, most_height, node_width, kind_by_width, as_node, as_brackets, as_plain, matched, answered, step, steps, closing_delimiters, reduced}
+use Rattle.wk_tree_rules.specs.Trees.{Item, node, Entry, item, bar, equals, Content, content_of, content_height, source_of, content_source, plain_entry, NodeKind, width, opening_braces, closing_braces}
 
 abbrev pub IsEntryAt : ℕ → Entry → Type 0
 IsEntryAt at (item i) = IsItemAt at i
@@ -51,11 +51,11 @@ at-back a b (piece ∷ xs) ys e h =
 
 -- ---- entries
 
-pub row-at : (at : ℕ) (parts : List Entry) → ArePiecesAt at (map entry parts) → IsRowAt at (row parts)
-row-at at [] h = tt
-row-at at (item i ∷ parts) h = (h.0, row-at (at + length (source_of i)) parts h.1)
-row-at at (bar start ∷ parts) h = (h.0, row-at (at + 1) parts h.1)
-row-at at (equals start ∷ parts) h = (h.0, row-at (at + 1) parts h.1)
+pub content-at : (at : ℕ) (parts : List Entry) → ArePiecesAt at (map entry parts) → IsContentAt at (content_of parts)
+content-at at [] h = tt
+content-at at (item i ∷ parts) h = (h.0, content-at (at + length (source_of i)) parts h.1)
+content-at at (bar start ∷ parts) h = (h.0, content-at (at + 1) parts h.1)
+content-at at (equals start ∷ parts) h = (h.0, content-at (at + 1) parts h.1)
 
 plain-at : (at : ℕ) (parts : List Entry) → ArePiecesAt at (map entry parts) → ArePiecesAt at (map (λ e. entry (item (plain_entry e))) parts)
 unfolding source_of
@@ -73,21 +73,21 @@ plain-long (e ∷ parts) =
 
 -- ---- what is left of a run
 
-left_opening-at : (marks : Marks) (start count : ℕ) → ArePiecesAt start (left_opening (record { marks = marks; start = start; count = count }))
-left_opening-at marks start zero = tt
-left_opening-at marks start (suc zero) = (refl, tt)
-left_opening-at marks start (suc (suc n)) = (refl, tt)
+left_opening-at : (delimiters : Delimiter) (start count : ℕ) → ArePiecesAt start (left_opening (record { delimiters = delimiters; start = start; count = count }))
+left_opening-at delimiters start zero = tt
+left_opening-at delimiters start (suc zero) = (refl, tt)
+left_opening-at delimiters start (suc (suc n)) = (refl, tt)
 
-left_closing-at : (marks : Marks) (start count : ℕ) → ArePiecesAt start (left_closing (record { marks = marks; start = start; count = count }))
-left_closing-at marks start zero = tt
-left_closing-at marks start (suc zero) = (refl, tt)
-left_closing-at marks start (suc (suc n)) = (refl, tt)
+left_closing-at : (delimiters : Delimiter) (start count : ℕ) → ArePiecesAt start (left_closing (record { delimiters = delimiters; start = start; count = count }))
+left_closing-at delimiters start zero = tt
+left_closing-at delimiters start (suc zero) = (refl, tt)
+left_closing-at delimiters start (suc (suc n)) = (refl, tt)
 
-left_opening-long : (marks : Marks) (start count : ℕ) → long (left_opening (record { marks = marks; start = start; count = count })) ≡ count
+left_opening-long : (delimiters : Delimiter) (start count : ℕ) → long (left_opening (record { delimiters = delimiters; start = start; count = count })) ≡ count
 unfolding source_of
-left_opening-long marks start zero = refl
-left_opening-long marks start (suc zero) = refl
-left_opening-long marks start (suc (suc n)) = ap length (append-nil (replicate (suc (suc n)) (opening_mark marks))) ∙ length-replicate (suc (suc n)) (opening_mark marks)
+left_opening-long delimiters start zero = refl
+left_opening-long delimiters start (suc zero) = refl
+left_opening-long delimiters start (suc (suc n)) = ap length (append-nil (replicate (suc (suc n)) (opening_delimiter delimiters))) ∙ length-replicate (suc (suc n)) (opening_delimiter delimiters)
 
 -- ---- an answer
 
@@ -96,11 +96,11 @@ answer-plain-at at before closer h =
     at-join at (at + long before) before (entry (item (plain_closing closer)) ∷ []) (at-front at before (closing closer ∷ []) h) refl
     ((at-back at (at + long before) before (closing closer ∷ []) refl h).0, tt)
 
-node-long : (kind : NodeKind) (start : ℕ) (content : Row) → length (source_of (node kind start content)) ≡ width kind + (length (row_source content) + width kind)
+node-long : (kind : NodeKind) (start : ℕ) (content : Content) → length (source_of (node kind start content)) ≡ width kind + (length (content_source content) + width kind)
 unfolding source_of
 node-long kind start content =
-    length-append (opening_braces kind) (row_source content ++ closing_braces kind)
-    ∙ ap₂ (λ x y. x + y) (length-replicate (width kind) 123) (length-append (row_source content) (closing_braces kind) ∙ ap (λ k. length (row_source content) + k) (length-replicate (width kind) 125))
+    length-append (opening_braces kind) (content_source content ++ closing_braces kind)
+    ∙ ap₂ (λ x y. x + y) (length-replicate (width kind) 123) (length-append (content_source content) (closing_braces kind) ∙ ap (λ k. length (content_source content) + k) (length-replicate (width kind) 125))
 
 module _ (at : ℕ) (left : List Piece) (run : Run) (parts : List Entry) (closer : Run) (two : 2 ≤ run.count) (two_closing : 2 ≤ closer.count) (h : ArePiecesAt at ((left ++ opening run ∷ map entry parts) ++ closing closer ∷ [])) where
   abbrev whole : List Piece
@@ -113,13 +113,13 @@ module _ (at : ℕ) (left : List Piece) (run : Run) (parts : List Entry) (closer
   stretch-at : ArePiecesAt (run.start + run.count) (map entry parts)
   stretch-at =
       let k = (at-back at (at + long left) left (opening run ∷ map entry parts) refl (at-front at whole (closing closer ∷ []) h)).1 in
-      let e : (at + long left) + length (replicate run.count (opening_mark run.marks)) ≡ run.start + run.count = omega (arith, run_start, length-replicate run.count (opening_mark run.marks)) in
+      let e : (at + long left) + length (replicate run.count (opening_delimiter run.delimiters)) ≡ run.start + run.count = omega (arith, run_start, length-replicate run.count (opening_delimiter run.delimiters)) in
       subst (λ n. ArePiecesAt n (map entry parts)) e k
 
   whole-long : long whole ≡ long left + (run.count + length (entries_source parts))
   whole-long =
       long-append left (opening run ∷ map entry parts)
-      ∙ ap (λ n. long left + n) (length-append (replicate run.count (opening_mark run.marks)) (pieces_source (map entry parts)) ∙ ap₂ (λ x y. x + y) (length-replicate run.count (opening_mark run.marks)) (ap length (entries-source parts)))
+      ∙ ap (λ n. long left + n) (length-append (replicate run.count (opening_delimiter run.delimiters)) (pieces_source (map entry parts)) ∙ ap₂ (λ x y. x + y) (length-replicate run.count (opening_delimiter run.delimiters)) (ap length (entries-source parts)))
 
   closer_start : closer.start ≡ run.start + (run.count + length (entries_source parts))
   closer_start =
@@ -130,27 +130,27 @@ module _ (at : ℕ) (left : List Piece) (run : Run) (parts : List Entry) (closer
   left-at = at-front at left (opening run ∷ map entry parts) (at-front at whole (closing closer ∷ []) h)
 
   -- what is left of the opening run, where it stood
-  front-at : (n : ℕ) → ArePiecesAt at (left ++ left_opening (first_marks n run))
+  front-at : (n : ℕ) → ArePiecesAt at (left ++ left_opening (first_delimiters n run))
   front-at n =
-      at-join at (at + long left) left (left_opening (first_marks n run)) left-at refl
-      (subst (λ a. ArePiecesAt a (left_opening (first_marks n run))) run_start (left_opening-at run.marks run.start n))
+      at-join at (at + long left) left (left_opening (first_delimiters n run)) left-at refl
+      (subst (λ a. ArePiecesAt a (left_opening (first_delimiters n run))) run_start (left_opening-at run.delimiters run.start n))
 
-  front-long : (n : ℕ) → at + long (left ++ left_opening (first_marks n run)) ≡ run.start + n
-  front-long n = omega (arith, long-append left (left_opening (first_marks n run)), left_opening-long run.marks run.start n, run_start)
+  front-long : (n : ℕ) → at + long (left ++ left_opening (first_delimiters n run)) ≡ run.start + n
+  front-long n = omega (arith, long-append left (left_opening (first_delimiters n run)), left_opening-long run.delimiters run.start n, run_start)
 
-  -- what is left of the closing run, behind the marks of it that were taken
-  behind-at : (n : ℕ) → n ≤ closer.count → ArePiecesAt (closer.start + n) (left_closing (last_marks (closer.count - n) closer))
+  -- what is left of the closing run, behind the delimiters of it that were taken
+  behind-at : (n : ℕ) → n ≤ closer.count → ArePiecesAt (closer.start + n) (left_closing (last_delimiters (closer.count - n) closer))
   behind-at n few =
       let e : closer.start + (closer.count - (closer.count - n)) ≡ closer.start + n = omega arith in
-      subst (λ a. ArePiecesAt a (left_closing (last_marks (closer.count - n) closer))) e (left_closing-at closer.marks (last_marks (closer.count - n) closer).start (closer.count - n))
+      subst (λ a. ArePiecesAt a (left_closing (last_delimiters (closer.count - n) closer))) e (left_closing-at closer.delimiters (last_delimiters (closer.count - n) closer).start (closer.count - n))
 
   answer-brackets-at : ArePiecesAt at (as_brackets (record { before = left; run = run; stretch = parts }) closer)
   unfolding source_of
   answer-brackets-at =
       let n : ℕ = run.count - 2 in
-      let front : List Piece = left ++ left_opening (first_marks n run) in
-      let middle : List Piece = entry (item (plain_opening (last_marks 2 run))) ∷ map (λ e. entry (item (plain_entry e))) parts in
-      let behind : List Piece = entry (item (plain_closing (first_marks 2 closer))) ∷ left_closing (last_marks (closer.count - 2) closer) in
+      let front : List Piece = left ++ left_opening (first_delimiters n run) in
+      let middle : List Piece = entry (item (plain_opening (last_delimiters 2 run))) ∷ map (λ e. entry (item (plain_entry e))) parts in
+      let behind : List Piece = entry (item (plain_closing (first_delimiters 2 closer))) ∷ left_closing (last_delimiters (closer.count - 2) closer) in
       let stretch : run.start + run.count ≡ (run.start + n) + 2 = omega arith in
       let middle_long : long middle ≡ suc (suc (length (entries_source parts))) = ap (λ k. suc (suc k)) (plain-long parts) in
       let joined : closer.start ≡ at + long (front ++ middle) = omega (arith, long-append front middle, front-long n, middle_long, closer_start) in
@@ -164,15 +164,15 @@ module _ (at : ℕ) (left : List Piece) (run : Run) (parts : List Entry) (closer
   answer-node-at =
       let c : ℕ = node_width run closer in
       let n : ℕ = run.count - c in
-      let front : List Piece = left ++ left_opening (first_marks n run) in
-      let made : Item = node (kind_by_width c) (last_marks c run).start (row parts) in
+      let front : List Piece = left ++ left_opening (first_delimiters n run) in
+      let made : Item = node (kind_by_width c) (last_delimiters c run).start (content_of parts) in
       let wide : width (kind_by_width c) ≡ c = width-by c (omega arith) (omega arith) in
       let stretch : run.start + run.count ≡ (run.start + n) + width (kind_by_width c) = omega arith in
-      let text : length (row_source (row parts)) ≡ length (entries_source parts) = ap length (row-source parts) in
-      let after : closer.start + c ≡ (run.start + n) + length (source_of made) = omega (arith, node-long (kind_by_width c) (last_marks c run).start (row parts), text, closer_start) in
-      at-join at (run.start + n) front (entry (item made) ∷ left_closing (last_marks (closer.count - c) closer)) (front-at n) (sym (front-long n)) (
-        (refl, subst (λ a. IsRowAt a (row parts)) stretch (row-at (run.start + run.count) parts stretch-at)),
-        subst (λ a. ArePiecesAt a (left_closing (last_marks (closer.count - c) closer))) after (behind-at c (omega arith)),
+      let text : length (content_source (content_of parts)) ≡ length (entries_source parts) = ap length (content-source parts) in
+      let after : closer.start + c ≡ (run.start + n) + length (source_of made) = omega (arith, node-long (kind_by_width c) (last_delimiters c run).start (content_of parts), text, closer_start) in
+      at-join at (run.start + n) front (entry (item made) ∷ left_closing (last_delimiters (closer.count - c) closer)) (front-at n) (sym (front-long n)) (
+        (refl, subst (λ a. IsContentAt a (content_of parts)) stretch (content-at (run.start + run.count) parts stretch-at)),
+        subst (λ a. ArePiecesAt a (left_closing (last_delimiters (closer.count - c) closer))) after (behind-at c (omega arith)),
       )
 
   answer-unmatched-at : ArePiecesAt at (as_plain whole closer)
@@ -181,9 +181,9 @@ module _ (at : ℕ) (left : List Piece) (run : Run) (parts : List Entry) (closer
   abbrev found : AtOpening
   found = record { before = left; run = run; stretch = parts }
 
-  matched-at : (m n : Marks) → ArePiecesAt at (matched m n whole found closer)
+  matched-at : (m n : Delimiter) → ArePiecesAt at (matched m n whole found closer)
   matched-at braces braces =
-      elim (row_height (row parts) == most_height) as (λ b. ArePiecesAt at (if b then as_plain whole closer else as_node found closer)) [
+      elim (content_height (content_of parts) == most_height) as (λ b. ArePiecesAt at (if b then as_plain whole closer else as_node found closer)) [
         | true ↦ answer-unmatched-at
         | false ↦ answer-node-at
       ]
@@ -192,10 +192,10 @@ module _ (at : ℕ) (left : List Piece) (run : Run) (parts : List Entry) (closer
   matched-at brackets braces = answer-unmatched-at
 
 by_opening-at : (at : ℕ) {before : List Piece} {found : Option AtOpening} (closer : Run) → ByOpening before found → AreSound before → 2 ≤ closer.count → ArePiecesAt at (before ++ closing closer ∷ [])
-    → ArePiecesAt at (elim found [ None ↦ as_plain before closer | Some o ↦ matched o.run.marks closer.marks before o closer ])
+    → ArePiecesAt at (elim found [ None ↦ as_plain before closer | Some o ↦ matched o.run.delimiters closer.delimiters before o closer ])
 by_opening-at at closer (entries_alone parts) sound two h = answer-plain-at at (map entry parts) closer h
 by_opening-at at closer (opened left run parts a) sound two h =
-    matched-at at left run parts closer (all-back IsSound left (opening run ∷ map entry parts) sound).0 two h run.marks closer.marks
+    matched-at at left run parts closer (all-back IsSound left (opening run ∷ map entry parts) sound).0 two h run.delimiters closer.delimiters
 
 answered-at : (at : ℕ) (before : List Piece) (closer : Run) → AreSound before → HaveNoClosing before → 2 ≤ closer.count → ArePiecesAt at (before ++ closing closer ∷ []) → ArePiecesAt at (answered before closer)
 answered-at at before closer sound none two h = by_opening-at at closer (by_opening before none) sound two h
@@ -212,12 +212,12 @@ module _ (at : ℕ) (before : List Piece) (run : Run) (behind : List Piece) (non
   parted-long : long (answered before run) ≡ long before + run.count
   parted-long =
       ap length (answered-keeps before run (all-front IsSound before (closing run ∷ behind) sound) none parted-two).source
-      ∙ length-append (pieces_source before) (replicate run.count (closing_mark run.marks))
-      ∙ ap (λ k. long before + k) (length-replicate run.count (closing_mark run.marks))
+      ∙ length-append (pieces_source before) (replicate run.count (closing_delimiter run.delimiters))
+      ∙ ap (λ k. long before + k) (length-replicate run.count (closing_delimiter run.delimiters))
 
   parted-at : ArePiecesAt at (step (before ++ closing run ∷ behind))
   parted-at =
-      let e : (at + long before) + length (replicate run.count (closing_mark run.marks)) ≡ at + long (answered before run) = omega (arith, parted-long, length-replicate run.count (closing_mark run.marks)) in
+      let e : (at + long before) + length (replicate run.count (closing_delimiter run.delimiters)) ≡ at + long (answered before run) = omega (arith, parted-long, length-replicate run.count (closing_delimiter run.delimiters)) in
       subst (λ t. ArePiecesAt at t) (sym (step-parted before run behind none))
       (at-join at (at + long (answered before run)) (answered before run) behind
       (answered-at at before run (all-front IsSound before (closing run ∷ behind) sound) none parted-two parted-front) refl
@@ -234,4 +234,4 @@ steps-at at (suc n) pieces sound h = steps-at at n (step pieces) (step-keeps pie
 
 pub reduced-at : (at : ℕ) (pieces : List Piece) → AreSound pieces → ArePiecesAt at pieces → ArePiecesAt at (reduced pieces)
 unfolding reduced
-reduced-at at pieces sound h = steps-at at (closing_marks pieces) pieces sound h
+reduced-at at pieces sound h = steps-at at (closing_delimiters pieces) pieces sound h

@@ -1,7 +1,7 @@
 -- What holds of the spans that a text is cut into, whatever begins them.
 use Rattle.std.proofs.Common.{◌≡◌, ℕ, zero, suc, ◌+◌, ◌-◌, ◌≤◌, min, List, [], ◌∷◌, ◌++◌, length, take, drop, flat_map, Option, Some, None, refl, ap, sym, ◌∙◌, arith, take-append-drop, length-take, add-zero, le_of_suc-le-suc}
 use Rattle.std.specs.List.{AllByRecursion}
-use Rattle.wk_tree_laws.specs.Rows.{IsRowOfSpans}
+use Rattle.wk_tree_laws.specs.Places.{AreSpansAt}
 use Rattle.wk_text_rules.specs.Shapes.{Span, spans_from, spans}
 
 module _ {K X : Type 0} (begins : Option X → List X → K × List X) where
@@ -20,18 +20,18 @@ module _ {K X : Type 0} (begins : Option X → List X → K × List X) where
   spans-source text = spans_from-source 0 None 0 text
 
   -- the spans stand in a row
-  pub spans_from_row : (place start : ℕ) (before : Option X) (skip : ℕ) (xs : List X) → place ≡ start + min skip (length xs) → IsRowOfSpans place (spans_from begins start before skip xs)
+  pub spans_from-at : (place start : ℕ) (before : Option X) (skip : ℕ) (xs : List X) → place ≡ start + min skip (length xs) → AreSpansAt place (spans_from begins start before skip xs)
   unfolding spans_from
-  spans_from_row place start before zero [] e = tt
-  spans_from_row place start before (suc skip) [] e = tt
-  spans_from_row place start before zero (x ∷ xs) e =
+  spans_from-at place start before zero [] e = tt
+  spans_from-at place start before (suc skip) [] e = tt
+  spans_from-at place start before zero (x ∷ xs) e =
       let more : ℕ = length xs - length (begins before (x ∷ xs)).1 in
       let long : length (take (suc more) (x ∷ xs)) ≡ suc (min more (length xs)) = ap suc (length-take more xs) in
-      (omega arith, omega arith, spans_from_row (place + length (take (suc more) (x ∷ xs))) (suc start) (Some x) more xs (omega arith))
-  spans_from_row place start before (suc skip) (x ∷ xs) e = spans_from_row place (suc start) (Some x) skip xs (omega arith)
+      (omega arith, omega arith, spans_from-at (place + length (take (suc more) (x ∷ xs))) (suc start) (Some x) more xs (omega arith))
+  spans_from-at place start before (suc skip) (x ∷ xs) e = spans_from-at place (suc start) (Some x) skip xs (omega arith)
 
-  pub spans-row : (text : List X) → IsRowOfSpans 0 (spans begins text)
-  spans-row text = spans_from_row 0 0 None 0 text (omega arith)
+  pub spans-at : (text : List X) → AreSpansAt 0 (spans begins text)
+  spans-at text = spans_from-at 0 0 None 0 text (omega arith)
 
   -- the element before a place, which is `before` at the start
   abbrev pub before_at : Option X → ℕ → List X → Option X

@@ -7,12 +7,12 @@ use Rattle.wk_tree_laws.proofs.ReductionLemmas.{step-none, step-parted}
 use Rattle.wk_tree_laws.proofs.ListLemmas.{entries-text, plain_entries-source}
 use Rattle.wk_tree_laws.proofs.TextAtomLemmas.{EndsUtf8, IsText, IsTextSource, atoms-texts}
 use Rattle.wk_tree_laws.proofs.TreeLemmas.{merged-source, tree-source}
-use Rattle.wk_tree_laws.specs.Rows.{AreNotBothPlain, IsMerged}
+use Rattle.wk_tree_laws.specs.Places.{AreNotBothPlain, IsMerged}
 use Rattle.wk_tree_rules.specs.Atoms.{Atom, atoms}
-use Rattle.wk_tree_rules.specs.Reduction.{Marks, braces, brackets, Run, Piece, entry, opening, closing, piece_by, piece_of, pieces_of, plain_opening, plain_closing, first_marks, last_marks, left_opening, left_closing, AtOpening, most_height, node_width, kind_by_width, as_node, as_brackets, as_plain, matched, answered, step, steps, closing_marks, reduced}
+use Rattle.wk_tree_rules.specs.Reduction.{Delimiter, braces, brackets, Run, Piece, entry, opening, closing, piece_by, piece_of, pieces_of, plain_opening, plain_closing, first_delimiters, last_delimiters, left_opening, left_closing, AtOpening, most_height, node_width, kind_by_width, as_node, as_brackets, as_plain, matched, answered, step, steps, closing_delimiters, reduced}
 use Rattle.wk_tree_rules.specs.Selection.{selected}
-use Rattle.wk_tree_rules.specs.Tree.{item_of, tree, Split, split_by, split_at_bars, name_by, split_at_equals, part_of, Node, nodes_of, row_nodes, nodes, part_lists, node_lists, lists}
-use Rattle.wk_tree_rules.specs.Trees.{Item, NodeKind, template, argument, Row, empty_row, item_then, bar_then, equals_then, Entry, item, bar, equals, entries, row, row_height, source_of, row_source, items_source, plain_entry, put_before, merged, plain_items}
+use Rattle.wk_tree_rules.specs.Tree.{item_of, tree, Split, split_by, split_at_bars, name_by, split_at_equals, part_of, Node, nodes_of, content_nodes, nodes, part_lists, node_lists, lists}
+use Rattle.wk_tree_rules.specs.Trees.{Item, NodeKind, template, argument, Content, empty_content, item_then, bar_then, equals_then, Entry, item, bar, equals, entries, content_of, content_height, source_of, content_source, items_source, plain_entry, put_before, merged, plain_items}
 use Rattle.wk_tree_rules.specs.declared.AtomKind.{AtomKind}
 use Rattle.wk_tree_rules.specs.declared.AtomKind.TheVariants.{LineComment, Comment, Sealed, Ignored, Tag, Open, Close, Bar, Equals, Byte}
 use Rattle.wk_tree_rules.specs.declared.Mode.{Mode}
@@ -24,13 +24,13 @@ abbrev mutual
   IsFineItem (Item.plain start source) = Unit {0}
   IsFineItem (Item.sealed start source) = IsText source
   IsFineItem (Item.nothing start source) = IsText source
-  IsFineItem (Item.node kind start content) = IsFineRow content
+  IsFineItem (Item.node kind start content) = IsFineContent content
 
-  pub IsFineRow : Row → Type 0
-  IsFineRow empty_row = Unit {0}
-  IsFineRow (item_then i rest) = IsFineItem i × IsFineRow rest
-  IsFineRow (bar_then start rest) = IsFineRow rest
-  IsFineRow (equals_then start rest) = IsFineRow rest
+  pub IsFineContent : Content → Type 0
+  IsFineContent empty_content = Unit {0}
+  IsFineContent (item_then i rest) = IsFineItem i × IsFineContent rest
+  IsFineContent (bar_then start rest) = IsFineContent rest
+  IsFineContent (equals_then start rest) = IsFineContent rest
 
 abbrev pub IsFineEntry : Entry → Type 0
 IsFineEntry (item i) = IsFineItem i
@@ -45,14 +45,14 @@ IsFinePiece (closing run) = Unit {0}
 abbrev pub AreFine : List Piece → Type 0
 AreFine pieces = AllByRecursion IsFinePiece pieces
 
-row-fine : (parts : List Entry) → AreFine (map entry parts) → IsFineRow (row parts)
-row-fine [] h = tt
-row-fine (item i ∷ parts) h = (h.0, row-fine parts h.1)
-row-fine (bar start ∷ parts) h = row-fine parts h.1
-row-fine (equals start ∷ parts) h = row-fine parts h.1
+content-fine : (parts : List Entry) → AreFine (map entry parts) → IsFineContent (content_of parts)
+content-fine [] h = tt
+content-fine (item i ∷ parts) h = (h.0, content-fine parts h.1)
+content-fine (bar start ∷ parts) h = content-fine parts h.1
+content-fine (equals start ∷ parts) h = content-fine parts h.1
 
-entries-fine : (content : Row) → IsFineRow content → AllByRecursion IsFineEntry (entries content)
-entries-fine empty_row h = tt
+entries-fine : (content : Content) → IsFineContent content → AllByRecursion IsFineEntry (entries content)
+entries-fine empty_content h = tt
 entries-fine (item_then i rest) h = (h.0, entries-fine rest h.1)
 entries-fine (bar_then start rest) h = (tt, entries-fine rest h)
 entries-fine (equals_then start rest) h = (tt, entries-fine rest h)
@@ -68,15 +68,15 @@ plain-fine (e ∷ parts) h = (plain_entry-fine e h.0, plain-fine parts h.1)
 
 -- ---- the rewriting keeps it
 
-left_opening-fine : (marks : Marks) (start count : ℕ) → AreFine (left_opening (record { marks = marks; start = start; count = count }))
-left_opening-fine marks start zero = tt
-left_opening-fine marks start (suc zero) = (tt, tt)
-left_opening-fine marks start (suc (suc n)) = (tt, tt)
+left_opening-fine : (delimiters : Delimiter) (start count : ℕ) → AreFine (left_opening (record { delimiters = delimiters; start = start; count = count }))
+left_opening-fine delimiters start zero = tt
+left_opening-fine delimiters start (suc zero) = (tt, tt)
+left_opening-fine delimiters start (suc (suc n)) = (tt, tt)
 
-left_closing-fine : (marks : Marks) (start count : ℕ) → AreFine (left_closing (record { marks = marks; start = start; count = count }))
-left_closing-fine marks start zero = tt
-left_closing-fine marks start (suc zero) = (tt, tt)
-left_closing-fine marks start (suc (suc n)) = (tt, tt)
+left_closing-fine : (delimiters : Delimiter) (start count : ℕ) → AreFine (left_closing (record { delimiters = delimiters; start = start; count = count }))
+left_closing-fine delimiters start zero = tt
+left_closing-fine delimiters start (suc zero) = (tt, tt)
+left_closing-fine delimiters start (suc (suc n)) = (tt, tt)
 
 answer-plain-fine : (before : List Piece) (closer : Run) → AreFine before → AreFine (as_plain before closer)
 answer-plain-fine before closer h = all-append IsFinePiece before (entry (item (plain_closing closer)) ∷ []) h (tt, tt)
@@ -91,30 +91,30 @@ module _ (left : List Piece) (run : Run) (parts : List Entry) (closer : Run) (h 
   stretch-fine : AreFine (map entry parts)
   stretch-fine = (all-back IsFinePiece left (opening run ∷ map entry parts) h).1
 
-  front-fine : (n : ℕ) → AreFine (left ++ left_opening (first_marks n run))
-  front-fine n = all-append IsFinePiece left (left_opening (first_marks n run)) left-fine (left_opening-fine run.marks run.start n)
+  front-fine : (n : ℕ) → AreFine (left ++ left_opening (first_delimiters n run))
+  front-fine n = all-append IsFinePiece left (left_opening (first_delimiters n run)) left-fine (left_opening-fine run.delimiters run.start n)
 
-  behind-fine : (n : ℕ) → AreFine (left_closing (last_marks n closer))
-  behind-fine n = left_closing-fine closer.marks (last_marks n closer).start n
+  behind-fine : (n : ℕ) → AreFine (left_closing (last_delimiters n closer))
+  behind-fine n = left_closing-fine closer.delimiters (last_delimiters n closer).start n
 
   node-fine : AreFine (as_node opener closer)
   node-fine =
       let c : ℕ = node_width run closer in
-      all-append IsFinePiece (left ++ left_opening (first_marks (run.count - c) run))
-      (entry (item (Item.node (kind_by_width c) (last_marks c run).start (row parts))) ∷ left_closing (last_marks (closer.count - c) closer))
-      (front-fine (run.count - c)) (row-fine parts stretch-fine, behind-fine (closer.count - c))
+      all-append IsFinePiece (left ++ left_opening (first_delimiters (run.count - c) run))
+      (entry (item (Item.node (kind_by_width c) (last_delimiters c run).start (content_of parts))) ∷ left_closing (last_delimiters (closer.count - c) closer))
+      (front-fine (run.count - c)) (content-fine parts stretch-fine, behind-fine (closer.count - c))
 
   brackets-fine : AreFine (as_brackets opener closer)
   brackets-fine =
-      let front : List Piece = left ++ left_opening (first_marks (run.count - 2) run) in
-      let middle : List Piece = entry (item (plain_opening (last_marks 2 run))) ∷ map (λ e. entry (item (plain_entry e))) parts in
-      all-append IsFinePiece (front ++ middle) (entry (item (plain_closing (first_marks 2 closer))) ∷ left_closing (last_marks (closer.count - 2) closer))
+      let front : List Piece = left ++ left_opening (first_delimiters (run.count - 2) run) in
+      let middle : List Piece = entry (item (plain_opening (last_delimiters 2 run))) ∷ map (λ e. entry (item (plain_entry e))) parts in
+      all-append IsFinePiece (front ++ middle) (entry (item (plain_closing (first_delimiters 2 closer))) ∷ left_closing (last_delimiters (closer.count - 2) closer))
       (all-append IsFinePiece front middle (front-fine (run.count - 2)) (tt, plain-fine parts stretch-fine))
       (tt, behind-fine (closer.count - 2))
 
-  matched-fine : (m n : Marks) → AreFine (matched m n (left ++ opening run ∷ map entry parts) opener closer)
+  matched-fine : (m n : Delimiter) → AreFine (matched m n (left ++ opening run ∷ map entry parts) opener closer)
   matched-fine braces braces =
-      elim (row_height (row parts) == most_height) as (λ b. AreFine (if b then as_plain (left ++ opening run ∷ map entry parts) closer else as_node opener closer)) [
+      elim (content_height (content_of parts) == most_height) as (λ b. AreFine (if b then as_plain (left ++ opening run ∷ map entry parts) closer else as_node opener closer)) [
         | true ↦ answer-plain-fine (left ++ opening run ∷ map entry parts) closer h
         | false ↦ node-fine
       ]
@@ -122,9 +122,9 @@ module _ (left : List Piece) (run : Run) (parts : List Entry) (closer : Run) (h 
   matched-fine braces brackets = answer-plain-fine (left ++ opening run ∷ map entry parts) closer h
   matched-fine brackets braces = answer-plain-fine (left ++ opening run ∷ map entry parts) closer h
 
-by_opening-fine : {before : List Piece} {at : Option AtOpening} (closer : Run) → ByOpening before at → AreFine before → AreFine (elim at [ None ↦ as_plain before closer | Some o ↦ matched o.run.marks closer.marks before o closer ])
+by_opening-fine : {before : List Piece} {at : Option AtOpening} (closer : Run) → ByOpening before at → AreFine before → AreFine (elim at [ None ↦ as_plain before closer | Some o ↦ matched o.run.delimiters closer.delimiters before o closer ])
 by_opening-fine closer (entries_alone parts) h = answer-plain-fine (map entry parts) closer h
-by_opening-fine closer (opened left run parts a) h = matched-fine left run parts closer h run.marks closer.marks
+by_opening-fine closer (opened left run parts a) h = matched-fine left run parts closer h run.delimiters closer.delimiters
 
 step-fine : {pieces : List Piece} → ByClosing pieces → AreFine pieces → AreFine (step pieces)
 step-fine {pieces = pieces} (without none) h = subst AreFine (sym (step-none pieces none)) h
@@ -141,7 +141,7 @@ steps-fine (suc n) pieces h = steps-fine n (step pieces) (step-fine (by_closing 
 
 reduced-fine : (pieces : List Piece) → AreFine pieces → AreFine (reduced pieces)
 unfolding reduced
-reduced-fine pieces h = steps-fine (closing_marks pieces) pieces h
+reduced-fine pieces h = steps-fine (closing_delimiters pieces) pieces h
 
 piece_by-fine : (kind : AtomKind) (atom : Atom) → IsTextSource kind atom.source → IsFinePiece (piece_by kind atom)
 piece_by-fine LineComment atom h = h
@@ -229,17 +229,17 @@ cut-between before content b behind ys low lows u =
       rest_utf8 = w;
     }
 
-cut-node : (kind : NodeKind) (start : ℕ) (content : Row) (ys : List ℕ) → IsUtf8 (source_of (Item.node kind start content) ++ ys) → IsCut (row_source content) (source_of (Item.node kind start content)) ys
+cut-node : (kind : NodeKind) (start : ℕ) (content : Content) (ys : List ℕ) → IsUtf8 (source_of (Item.node kind start content) ++ ys) → IsCut (content_source content) (source_of (Item.node kind start content)) ys
 unfolding source_of
-cut-node template start content ys u = cut-between (codes "{{") (row_source content) 125 (codes "}") ys (lit< tt, (lit< tt, tt)) (lit< tt, (lit< tt, tt)) u
-cut-node argument start content ys u = cut-between (codes "{{{") (row_source content) 125 (codes "}}") ys (lit< tt, (lit< tt, (lit< tt, tt))) (lit< tt, (lit< tt, (lit< tt, tt))) u
+cut-node template start content ys u = cut-between (codes "{{") (content_source content) 125 (codes "}") ys (lit< tt, (lit< tt, tt)) (lit< tt, (lit< tt, tt)) u
+cut-node argument start content ys u = cut-between (codes "{{{") (content_source content) 125 (codes "}}") ys (lit< tt, (lit< tt, (lit< tt, tt))) (lit< tt, (lit< tt, (lit< tt, tt))) u
 
-front-before_node : (xs : List ℕ) (kind : NodeKind) (start : ℕ) (content : Row) (ys : List ℕ) → IsUtf8 (xs ++ (source_of (Item.node kind start content) ++ ys)) → IsUtf8 xs × IsUtf8 (source_of (Item.node kind start content) ++ ys)
+front-before_node : (xs : List ℕ) (kind : NodeKind) (start : ℕ) (content : Content) (ys : List ℕ) → IsUtf8 (xs ++ (source_of (Item.node kind start content) ++ ys)) → IsUtf8 xs × IsUtf8 (source_of (Item.node kind start content) ++ ys)
 unfolding source_of
 front-before_node xs template start content ys u =
-    (front-before_ascii xs 123 (123 ∷ ((row_source content ++ codes "}}") ++ ys)) (lit< tt) u, back-at_ascii xs 123 (123 ∷ ((row_source content ++ codes "}}") ++ ys)) (lit< tt) u)
+    (front-before_ascii xs 123 (123 ∷ ((content_source content ++ codes "}}") ++ ys)) (lit< tt) u, back-at_ascii xs 123 (123 ∷ ((content_source content ++ codes "}}") ++ ys)) (lit< tt) u)
 front-before_node xs argument start content ys u =
-    (front-before_ascii xs 123 (123 ∷ 123 ∷ ((row_source content ++ codes "}}}") ++ ys)) (lit< tt) u, back-at_ascii xs 123 (123 ∷ 123 ∷ ((row_source content ++ codes "}}}") ++ ys)) (lit< tt) u)
+    (front-before_ascii xs 123 (123 ∷ 123 ∷ ((content_source content ++ codes "}}}") ++ ys)) (lit< tt) u, back-at_ascii xs 123 (123 ∷ 123 ∷ ((content_source content ++ codes "}}}") ++ ys)) (lit< tt) u)
 
 -- each item of a merged list that stands for UTF-8 is UTF-8
 abbrev pub IsTextItem : Item → Type 0
@@ -364,8 +364,8 @@ parts-texts ((at, parts) ∷ found) h = all-append AreTextItems (part_lists (par
 -- ---- nodes
 
 pub record IsTextContent (n : Node) : Type 0 where
-  pub fine : IsFineRow n.content
-  pub utf8 : IsUtf8 (row_source n.content)
+  pub fine : IsFineContent n.content
+  pub utf8 : IsUtf8 (content_source n.content)
 
 node_lists-texts : (n : Node) → IsTextContent n → AllByRecursion AreTextItems (node_lists n)
 node_lists-texts n h =
@@ -385,7 +385,7 @@ ends-of : (xs : List ℕ) → IsUtf8 xs → EndsUtf8 xs
 ends-of xs u = record { front = []; whole = u }
 
 mutual
-  unfolding nodes_of row_source source_of
+  unfolding nodes_of content_source source_of
 
   nodes_of-texts : (ys : List ℕ) (i : Item) → IsFineItem i → EndsUtf8 (source_of i ++ ys) → AllByRecursion IsTextContent (nodes_of i)
   nodes_of-texts ys (Item.plain start source) h u = tt
@@ -393,15 +393,15 @@ mutual
   nodes_of-texts ys (Item.nothing start source) h u = tt
   nodes_of-texts ys (Item.node kind start content) h u =
       let cut = cut-node kind start content ys (front-before_node u.front kind start content ys u.whole).1 in
-      (record { fine = h; utf8 = cut.content_utf8 }, row_nodes-texts [] content h (ends-of (row_source content ++ []) (subst IsUtf8 (sym (append-nil (row_source content))) cut.content_utf8)))
+      (record { fine = h; utf8 = cut.content_utf8 }, content_nodes-texts [] content h (ends-of (content_source content ++ []) (subst IsUtf8 (sym (append-nil (content_source content))) cut.content_utf8)))
 
-  row_nodes-texts : (ys : List ℕ) (content : Row) → IsFineRow content → EndsUtf8 (row_source content ++ ys) → AllByRecursion IsTextContent (row_nodes content)
-  row_nodes-texts ys empty_row h u = tt
-  row_nodes-texts ys (item_then i rest) h u =
-      let v : EndsUtf8 (source_of i ++ (row_source rest ++ ys)) = subst EndsUtf8 (append_assoc (source_of i) (row_source rest) ys) u in
-      all-append IsTextContent (nodes_of i) (row_nodes rest) (nodes_of-texts (row_source rest ++ ys) i h.0 v) (row_nodes-texts ys rest h.1 (ends-behind (source_of i) (row_source rest ++ ys) v))
-  row_nodes-texts ys (bar_then start rest) h u = row_nodes-texts ys rest h (ends-behind (codes "|") (row_source rest ++ ys) u)
-  row_nodes-texts ys (equals_then start rest) h u = row_nodes-texts ys rest h (ends-behind (codes "=") (row_source rest ++ ys) u)
+  content_nodes-texts : (ys : List ℕ) (content : Content) → IsFineContent content → EndsUtf8 (content_source content ++ ys) → AllByRecursion IsTextContent (content_nodes content)
+  content_nodes-texts ys empty_content h u = tt
+  content_nodes-texts ys (item_then i rest) h u =
+      let v : EndsUtf8 (source_of i ++ (content_source rest ++ ys)) = subst EndsUtf8 (append_assoc (source_of i) (content_source rest) ys) u in
+      all-append IsTextContent (nodes_of i) (content_nodes rest) (nodes_of-texts (content_source rest ++ ys) i h.0 v) (content_nodes-texts ys rest h.1 (ends-behind (source_of i) (content_source rest ++ ys) v))
+  content_nodes-texts ys (bar_then start rest) h u = content_nodes-texts ys rest h (ends-behind (codes "|") (content_source rest ++ ys) u)
+  content_nodes-texts ys (equals_then start rest) h u = content_nodes-texts ys rest h (ends-behind (codes "=") (content_source rest ++ ys) u)
 
 nodes-texts : (items : List Item) → AllByRecursion IsFineItem items → EndsUtf8 (items_source items) → AllByRecursion IsTextContent (nodes items)
 nodes-texts [] h u = tt

@@ -1,2 +1,2 @@
 pub mod OnePass
-pub mod Rows
+pub mod Places

@@ -1,6 +1,6 @@
 //! Laws of atoms.
 ghost use Rattle.std.specs.Prelude.{◌≡◌, ℕ, List, flat_map};
-ghost use Rattle.wk_tree_laws.specs.Rows.{IsRowOfSpans};
+ghost use Rattle.wk_tree_laws.specs.Places.{AreSpansAt};
 ghost use Rattle.wk_tree_rules.specs.Atoms.{Atom, atoms};
 ghost use Rattle.wk_tree_rules.specs.declared.Mode.{Mode};
 
@@ -11,5 +11,5 @@ pub fn atoms_cover_the_text()
 
 /// Each atom has a byte, and starts where the one before it ends; the first starts at the start of the text.
 pub fn atoms_stand_in_a_row()
-    ensures { (mode : Mode) (text : List ℕ) → IsRowOfSpans 0 (atoms mode text) }
+    ensures { (mode : Mode) (text : List ℕ) → AreSpansAt 0 (atoms mode text) }
 {}

@@ -2,6 +2,6 @@
 #![tactic(auto)]
 
 pub mod atoms;
-pub mod marks;
+pub mod delimiters;
 pub mod selection;
 pub mod trees;

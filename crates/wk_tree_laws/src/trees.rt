@@ -1,7 +1,7 @@
 //! Laws of trees.
 ghost use Rattle.std.specs.Prelude.{◌≡◌, ◌≤◌, ℕ, List, IsUtf8};
 ghost use Rattle.std.specs.List.{AllByRecursion};
-ghost use Rattle.wk_tree_laws.specs.Rows.{AreItemsIn, IsItemIn, IsMerged, IsNodeIn};
+ghost use Rattle.wk_tree_laws.specs.Places.{AreItemsIn, IsItemIn, IsMerged, IsNodeIn};
 ghost use Rattle.wk_tree_rules.specs.Selection.{selected};
 ghost use Rattle.wk_tree_rules.specs.Tree.{lists, nodes, tree};
 ghost use Rattle.wk_tree_rules.specs.Trees.{items_source, items_height, source_of};

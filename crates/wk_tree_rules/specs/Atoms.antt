@@ -29,9 +29,9 @@ abbrev pub silent_tag : Mode → Shape ℕ
 silent_tag View = any_tag (codes "noinclude") or_else any_tag (codes "onlyinclude")
 silent_tag Include = any_tag (codes "includeonly")
 
--- a longest run of two or more of a mark
-abbrev pub run_of_marks : ℕ → Shape ℕ
-run_of_marks mark = exactly (mark ∷ mark ∷ []) and_then run_of (λ b. b == mark)
+-- a longest run of two or more of a delimiter
+abbrev pub run_of_delimiters : ℕ → Shape ℕ
+run_of_delimiters delimiter = exactly (delimiter ∷ delimiter ∷ []) and_then run_of (λ b. b == delimiter)
 
 -- What an atom may be, by the byte before its place. The first that fits is taken, and else the atom is a byte.
 abbrev pub atom_shapes : Mode → Option ℕ → List (AtomKind × Shape ℕ)
@@ -41,8 +41,8 @@ atom_shapes mode before =
     ∷ (Sealed, sealed_element)
     ∷ (Ignored, ignored_element mode)
     ∷ (Tag, silent_tag mode)
-    ∷ (Open, run_of_marks 123 or_else run_of_marks 91)
-    ∷ (Close, run_of_marks 125 or_else run_of_marks 93)
+    ∷ (Open, run_of_delimiters 123 or_else run_of_delimiters 91)
+    ∷ (Close, run_of_delimiters 125 or_else run_of_delimiters 93)
     ∷ (Bar, exactly (codes "|"))
     ∷ (Equals, exactly (codes "="))
     ∷ []

@@ -4,9 +4,9 @@ use Rattle.wk_tree_rules.specs.Atoms.{atoms}
 use Rattle.wk_tree_rules.specs.Redirects.{redirect_target}
 use Rattle.wk_tree_rules.specs.Reduction.{step, steps, reduced}
 use Rattle.wk_tree_rules.specs.Selection.{selection}
-use Rattle.wk_tree_rules.specs.Tree.{tree, nodes_of, row_nodes}
-use Rattle.wk_tree_rules.specs.Trees.{source_of, row_source, height, row_height}
+use Rattle.wk_tree_rules.specs.Tree.{tree, nodes_of, content_nodes}
+use Rattle.wk_tree_rules.specs.Trees.{source_of, content_source, height, content_height}
 
 unfoldable pub computing : Unit {0}
-unfolding text_computing atoms redirect_target step steps reduced selection tree nodes_of row_nodes source_of row_source height row_height
+unfolding text_computing atoms redirect_target step steps reduced selection tree nodes_of content_nodes source_of content_source height content_height
 computing = tt

@@ -1,36 +1,36 @@
--- How marks are matched into nodes, as a rewriting of the whole list of atoms (MediaWiki's Preprocessor ABNF; all
+-- How delimiters are matched into nodes, as a rewriting of the whole list of atoms (MediaWiki's Preprocessor ABNF; all
 -- of how braces and brackets that cross are matched is own).
 use Rattle.std.specs.Prelude.{ℕ, zero, suc, ◌+◌, ◌-◌, ◌==◌, min, replicate, List, [], ◌∷◌, ◌++◌, length, map, filter_map, sum_by, Option, Some, None, option_map, if◌then◌else◌}
 use Rattle.wk_tree_rules.specs.Atoms.{Atom, atoms}
-use Rattle.wk_tree_rules.specs.Trees.{Item, plain, sealed, nothing, node, NodeKind, template, argument, Entry, item, bar, equals, row, row_height, plain_entry}
+use Rattle.wk_tree_rules.specs.Trees.{Item, plain, sealed, nothing, node, NodeKind, template, argument, Entry, item, bar, equals, content_of, content_height, plain_entry}
 use Rattle.wk_tree_rules.specs.declared.AtomKind.{AtomKind}
 use Rattle.wk_tree_rules.specs.declared.AtomKind.TheVariants.{LineComment, Comment, Sealed, Ignored, Tag, Open, Close, Bar, Equals, Byte}
 use Rattle.wk_tree_rules.specs.declared.Mode.{Mode}
 
 -- ---- what is rewritten
 
-pub data Marks : Type 0 where
-  braces : Marks
-  brackets : Marks
+pub data Delimiter : Type 0 where
+  braces : Delimiter
+  brackets : Delimiter
 
--- a run of marks: which, where the first stands, and how many
+-- a run of delimiters: which, where the first stands, and how many
 pub record Run : Type 0 where
-  pub marks : Marks
+  pub delimiters : Delimiter
   pub start : ℕ
   pub count : ℕ
 
--- an entry, or marks that aren't matched yet
+-- an entry, or delimiters that aren't matched yet
 pub data Piece : Type 0 where
   entry : Entry → Piece
   opening : Run → Piece
   closing : Run → Piece
 
-abbrev pub marks_of : List ℕ → Marks
-marks_of [] = brackets
-marks_of (b ∷ source) = if b == 123 then braces else if b == 125 then braces else brackets
+abbrev pub delimiters_of : List ℕ → Delimiter
+delimiters_of [] = brackets
+delimiters_of (b ∷ source) = if b == 123 then braces else if b == 125 then braces else brackets
 
 abbrev pub run_of_atom : Atom → Run
-run_of_atom atom = record { marks = marks_of atom.source; start = atom.start; count = length atom.source }
+run_of_atom atom = record { delimiters = delimiters_of atom.source; start = atom.start; count = length atom.source }
 
 -- what an atom of a kind is before any rewriting
 abbrev pub piece_by : AtomKind → Atom → Piece
@@ -54,29 +54,29 @@ pieces_of mode text = map piece_of (atoms mode text)
 
 -- ---- runs
 
-abbrev pub opening_mark : Marks → ℕ
-opening_mark braces = 123
-opening_mark brackets = 91
+abbrev pub opening_delimiter : Delimiter → ℕ
+opening_delimiter braces = 123
+opening_delimiter brackets = 91
 
-abbrev pub closing_mark : Marks → ℕ
-closing_mark braces = 125
-closing_mark brackets = 93
+abbrev pub closing_delimiter : Delimiter → ℕ
+closing_delimiter braces = 125
+closing_delimiter brackets = 93
 
--- a run's marks as plain bytes
+-- a run's delimiters as plain bytes
 abbrev pub plain_opening : Run → Item
-plain_opening run = plain run.start (replicate run.count (opening_mark run.marks))
+plain_opening run = plain run.start (replicate run.count (opening_delimiter run.delimiters))
 
 abbrev pub plain_closing : Run → Item
-plain_closing run = plain run.start (replicate run.count (closing_mark run.marks))
+plain_closing run = plain run.start (replicate run.count (closing_delimiter run.delimiters))
 
--- the first or the last marks of a run, so many of them
-abbrev pub first_marks : ℕ → Run → Run
-first_marks n run = record run { count = n }
+-- the first or the last delimiters of a run, so many of them
+abbrev pub first_delimiters : ℕ → Run → Run
+first_delimiters n run = record run { count = n }
 
-abbrev pub last_marks : ℕ → Run → Run
-last_marks n run = record run { start = run.start + (run.count - n); count = n }
+abbrev pub last_delimiters : ℕ → Run → Run
+last_delimiters n run = record run { start = run.start + (run.count - n); count = n }
 
--- What is left of a run, by how many marks it has: nothing; a single mark, which is a plain byte; or the run.
+-- What is left of a run, by how many delimiters it has: nothing; a single delimiter, which is a plain byte; or the run.
 abbrev pub left_over : ℕ → Item → Piece → List Piece
 left_over zero byte run = []
 left_over (suc zero) byte run = entry (item byte) ∷ []
@@ -146,28 +146,28 @@ abbrev pub as_node : AtOpening → Run → List Piece
 as_node at closer =
     let c = node_width at.run closer in
     at.before
-    ++ left_opening (first_marks (at.run.count - c) at.run)
-    ++ entry (item (node (kind_by_width c) (last_marks c at.run).start (row at.stretch)))
-    ∷ left_closing (last_marks (closer.count - c) closer)
+    ++ left_opening (first_delimiters (at.run.count - c) at.run)
+    ++ entry (item (node (kind_by_width c) (last_delimiters c at.run).start (content_of at.stretch)))
+    ∷ left_closing (last_delimiters (closer.count - c) closer)
 
 -- two brackets, a stretch and two brackets become plain items; nodes in the stretch stay nodes
 abbrev pub as_brackets : AtOpening → Run → List Piece
 as_brackets at closer =
     at.before
-    ++ left_opening (first_marks (at.run.count - 2) at.run)
-    ++ entry (item (plain_opening (last_marks 2 at.run)))
+    ++ left_opening (first_delimiters (at.run.count - 2) at.run)
+    ++ entry (item (plain_opening (last_delimiters 2 at.run)))
     ∷ map (λ e. entry (item (plain_entry e))) at.stretch
-    ++ entry (item (plain_closing (first_marks 2 closer)))
-    ∷ left_closing (last_marks (closer.count - 2) closer)
+    ++ entry (item (plain_closing (first_delimiters 2 closer)))
+    ∷ left_closing (last_delimiters (closer.count - 2) closer)
 
--- the closing marks become plain bytes
+-- the closing delimiters become plain bytes
 abbrev pub as_plain : List Piece → Run → List Piece
 as_plain before closer = before ++ entry (item (plain_closing closer)) ∷ []
 
--- by which marks the two runs have
-abbrev pub matched : Marks → Marks → List Piece → AtOpening → Run → List Piece
+-- by which delimiters the two runs have
+abbrev pub matched : Delimiter → Delimiter → List Piece → AtOpening → Run → List Piece
 matched braces braces before at closer =
-    if row_height (row at.stretch) == most_height then as_plain before closer else as_node at closer
+    if content_height (content_of at.stretch) == most_height then as_plain before closer else as_node at closer
 matched brackets brackets before at closer = as_brackets at closer
 matched braces brackets before at closer = as_plain before closer
 matched brackets braces before at closer = as_plain before closer
@@ -176,7 +176,7 @@ matched brackets braces before at closer = as_plain before closer
 abbrev pub answered : List Piece → Run → List Piece
 answered before closer = elim (last_opening before) [
   | None ↦ as_plain before closer
-  | Some at ↦ matched at.run.marks closer.marks before at closer
+  | Some at ↦ matched at.run.delimiters closer.delimiters before at closer
 ]
 
 -- the leftmost closing run is matched; with none nothing changes
@@ -192,15 +192,15 @@ unfoldable pub steps : ℕ → List Piece → List Piece
 steps zero pieces = pieces
 steps (suc n) pieces = steps n (step pieces)
 
--- how many marks a piece has that close
-abbrev pub closing_marks_of : Piece → ℕ
-closing_marks_of (entry e) = 0
-closing_marks_of (opening run) = 0
-closing_marks_of (closing run) = run.count
+-- how many delimiters a piece has that close
+abbrev pub closing_delimiters_of : Piece → ℕ
+closing_delimiters_of (entry e) = 0
+closing_delimiters_of (opening run) = 0
+closing_delimiters_of (closing run) = run.count
 
-abbrev pub closing_marks : List Piece → ℕ
-closing_marks pieces = sum_by closing_marks_of pieces
+abbrev pub closing_delimiters : List Piece → ℕ
+closing_delimiters pieces = sum_by closing_delimiters_of pieces
 
--- The rewriting, until no closing run is left. Each step spends a closing mark, so there are at most so many steps.
+-- The rewriting, until no closing run is left. Each step spends a closing delimiter, so there are at most so many steps.
 unfoldable pub reduced : List Piece → List Piece
-reduced pieces = steps (closing_marks pieces) pieces
+reduced pieces = steps (closing_delimiters pieces) pieces

@@ -2,12 +2,12 @@
 use Rattle.std.specs.Prelude.{ℕ, ◌+◌, ◌*◌, List, [], ◌∷◌, ◌++◌, length, map, flat_map, option_to_list, Option, Some, None, option_map}
 use Rattle.wk_tree_rules.specs.Reduction.{Piece, entry, opening, closing, pieces_of, plain_opening, plain_closing, reduced}
 use Rattle.wk_tree_rules.specs.Selection.{selected}
-use Rattle.wk_tree_rules.specs.Trees.{Item, plain, sealed, nothing, node, Row, empty_row, item_then, bar_then, equals_then, NodeKind, Entry, item, bar, equals, entries, width, row_source, items_source, plain_entry, merged, plain_items}
+use Rattle.wk_tree_rules.specs.Trees.{Item, plain, sealed, nothing, node, Content, empty_content, item_then, bar_then, equals_then, NodeKind, Entry, item, bar, equals, entries, width, content_source, items_source, plain_entry, merged, plain_items}
 use Rattle.wk_tree_rules.specs.declared.Mode.{Mode}
 
 -- ---- the tree
 
--- a piece outside nodes: all marks that are left are plain bytes there, and so are bars and equals signs
+-- a piece outside nodes: all delimiters that are left are plain bytes there, and so are bars and equals signs
 abbrev pub item_of : Piece → Item
 item_of (entry e) = plain_entry e
 item_of (opening run) = plain_opening run
@@ -34,7 +34,7 @@ split_at_bars [] = record { first = []; further = [] }
 split_at_bars (e ∷ parts) = split_by e (split_at_bars parts)
 
 -- the title part of a content; equals signs are plain there
-abbrev pub title_part : Row → List Item
+abbrev pub title_part : Content → List Item
 title_part content = plain_items (split_at_bars (entries content)).first
 
 -- a further part: its name, where it has an equals sign, its value, and the place at which the value starts
@@ -61,7 +61,7 @@ part_of (start, parts) = elim (split_at_equals parts) [
 ]
 
 -- the further parts of a content, in order
-abbrev pub further_parts : Row → List Part
+abbrev pub further_parts : Content → List Part
 further_parts content = map part_of (split_at_bars (entries content)).further
 
 -- how long the source of a part's value is
@@ -73,11 +73,11 @@ value_length part = length (items_source part.value)
 pub record Node : Type 0 where
   pub kind : NodeKind
   pub start : ℕ
-  pub content : Row
+  pub content : Content
 
 -- how long the source of a node is
 abbrev pub node_length : Node → ℕ
-node_length n = 2 * width n.kind + length (row_source n.content)
+node_length n = 2 * width n.kind + length (content_source n.content)
 
 unfoldable mutual
   -- a node, and then those that stand in it
@@ -85,13 +85,13 @@ unfoldable mutual
   nodes_of (plain start source) = []
   nodes_of (sealed start source) = []
   nodes_of (nothing start source) = []
-  nodes_of (node kind start content) = record { kind = kind; start = start; content = content } ∷ row_nodes content
+  nodes_of (node kind start content) = record { kind = kind; start = start; content = content } ∷ content_nodes content
 
-  pub row_nodes : Row → List Node
-  row_nodes empty_row = []
-  row_nodes (item_then i rest) = nodes_of i ++ row_nodes rest
-  row_nodes (bar_then start rest) = row_nodes rest
-  row_nodes (equals_then start rest) = row_nodes rest
+  pub content_nodes : Content → List Node
+  content_nodes empty_content = []
+  content_nodes (item_then i rest) = nodes_of i ++ content_nodes rest
+  content_nodes (bar_then start rest) = content_nodes rest
+  content_nodes (equals_then start rest) = content_nodes rest
 
 -- all nodes of a tree, each before those that stand in it, in the order of their sources
 abbrev pub nodes : List Item → List Node

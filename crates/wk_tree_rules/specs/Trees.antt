@@ -15,14 +15,14 @@ mutual
     plain : ℕ → List ℕ → Item
     sealed : ℕ → List ℕ → Item
     nothing : ℕ → List ℕ → Item
-    node : NodeKind → ℕ → Row → Item
+    node : NodeKind → ℕ → Content → Item
 
   -- the content of a node: items, and the places of bars and of equals signs
-  pub data Row : Type 0 where
-    empty_row : Row
-    item_then : Item → Row → Row
-    bar_then : ℕ → Row → Row
-    equals_then : ℕ → Row → Row
+  pub data Content : Type 0 where
+    empty_content : Content
+    item_then : Item → Content → Content
+    bar_then : ℕ → Content → Content
+    equals_then : ℕ → Content → Content
 
 -- one entry of a content
 pub data Entry : Type 0 where
@@ -31,19 +31,19 @@ pub data Entry : Type 0 where
   equals : ℕ → Entry
 
 -- a content as the list of its entries, and back
-abbrev pub entries : Row → List Entry
-entries empty_row = []
+abbrev pub entries : Content → List Entry
+entries empty_content = []
 entries (item_then i rest) = item i ∷ entries rest
 entries (bar_then start rest) = bar start ∷ entries rest
 entries (equals_then start rest) = equals start ∷ entries rest
 
-abbrev pub row : List Entry → Row
-row [] = empty_row
-row (item i ∷ rest) = item_then i (row rest)
-row (bar start ∷ rest) = bar_then start (row rest)
-row (equals start ∷ rest) = equals_then start (row rest)
+abbrev pub content_of : List Entry → Content
+content_of [] = empty_content
+content_of (item i ∷ rest) = item_then i (content_of rest)
+content_of (bar start ∷ rest) = bar_then start (content_of rest)
+content_of (equals start ∷ rest) = equals_then start (content_of rest)
 
--- ---- marks
+-- ---- delimiters
 
 -- how many braces a node has on each side
 abbrev pub width : NodeKind → ℕ
@@ -64,13 +64,13 @@ unfoldable mutual
   source_of (plain start source) = source
   source_of (sealed start source) = source
   source_of (nothing start source) = source
-  source_of (node kind start content) = opening_braces kind ++ (row_source content ++ closing_braces kind)
+  source_of (node kind start content) = opening_braces kind ++ (content_source content ++ closing_braces kind)
 
-  pub row_source : Row → List ℕ
-  row_source empty_row = []
-  row_source (item_then i rest) = source_of i ++ row_source rest
-  row_source (bar_then start rest) = codes "|" ++ row_source rest
-  row_source (equals_then start rest) = codes "=" ++ row_source rest
+  pub content_source : Content → List ℕ
+  content_source empty_content = []
+  content_source (item_then i rest) = source_of i ++ content_source rest
+  content_source (bar_then start rest) = codes "|" ++ content_source rest
+  content_source (equals_then start rest) = codes "=" ++ content_source rest
 
 -- the text that a list of items stands for
 abbrev pub items_source : List Item → List ℕ
@@ -82,14 +82,14 @@ unfoldable mutual
   height (plain start source) = 0
   height (sealed start source) = 0
   height (nothing start source) = 0
-  height (node kind start content) = suc (row_height content)
+  height (node kind start content) = suc (content_height content)
 
   -- the height of the highest item
-  pub row_height : Row → ℕ
-  row_height empty_row = 0
-  row_height (item_then i rest) = max (height i) (row_height rest)
-  row_height (bar_then start rest) = row_height rest
-  row_height (equals_then start rest) = row_height rest
+  pub content_height : Content → ℕ
+  content_height empty_content = 0
+  content_height (item_then i rest) = max (height i) (content_height rest)
+  content_height (bar_then start rest) = content_height rest
+  content_height (equals_then start rest) = content_height rest
 
 -- the height of the highest item of a list
 abbrev pub items_height : List Item → ℕ

@@ -1,4 +1,4 @@
-//! The rules of trees, as definitions: what is selected for inclusion, what atoms a text has, how marks are
+//! The rules of trees, as definitions: what is selected for inclusion, what atoms a text has, how delimiters are
 //! matched into nodes, what parts a node has, and what a redirect's target is.
 //! Nothing here runs. The contracts of the crates above cite `specs/`.
 #![tactic(auto)]

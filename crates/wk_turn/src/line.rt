@@ -63,7 +63,9 @@ pub(crate) fn merge_seats<S: Storied>(top: &Top<S>, place: &mut Place<S>, other:
     top.load::<Tell>(place, SEATS);
 }
 
-// Lets another thread go first. A short wait spins or yields, and a long one sleeps until a number is served.
+// Lets another thread go first. A short wait spins or yields, and a long one sleeps until a number is served. It leaves
+// the table and each seat as they were, since it has no seat: without one no word can be written. How long it rests no
+// clause says; nothing depends on it but time, since the caller looks again at once.
 fn rest<S: Storied, R: Wait>(rt: &R, top: &Top<S>, backoff: &Backoff, serving: u64)
     requires { top.now.table_id.words ≡ 4 }
 {
@@ -96,7 +98,9 @@ pub(crate) fn take_turn<S: Storied, R: Wait>(rt: &R, top: &Top<S>, place: &mut P
     unreachable!()
 }
 
-// Wakes those who sleep, if anybody is in line. Who draws after this look finds the number served, and doesn't sleep.
+// Wakes those who sleep, if anybody is in line. Who draws after this look finds the number served, and doesn't sleep. It
+// leaves the table and each seat as they were, since it has no seat. That it wakes them no clause can say: the runs on
+// several threads show it.
 fn wake<S: Storied>(top: &Top<S>, serving: u64)
     requires { top.now.table_id.words ≡ 4 }
 {

@@ -6,7 +6,7 @@ use Rattle.std.specs.List.{list_any}
 use Rattle.std.proofs.lemmas.Bool.{cases_Bool}
 use Rattle.wk_text_rules.specs.Titles.{PageTitle, title_eq, is_virtual}
 use Rattle.wk_tree_rules.specs.Tree.{Part, title_part}
-use Rattle.wk_tree_rules.specs.Trees.{Item, plain, sealed, nothing, node, Row, NodeKind, template, argument}
+use Rattle.wk_tree_rules.specs.Trees.{Item, plain, sealed, nothing, node, Content, NodeKind, template, argument}
 use Rattle.wk_view_rules.specs.Expand.{item_output, items_output, Search, trimmed_items, whole_part, operand, written_parts, argument_value, argument_default, argument_output, with_bindings, included, redirected, included_text, inclusion, template_as_written, page_output, by_existence, existence_output, without_result, behind_bare_item, behind_named_item, switch_output, function_output, template_output, kind_output, node_output, expand}
 use Rattle.wk_view_rules.specs.Expansions.{Expansion, Output, Progress, give, most_tests, most_depth, with_test}
 use Rattle.wk_view_rules.specs.Frames.{Frame, Binding, binding_length, is_within}
@@ -26,13 +26,13 @@ use borrow.Author.Tests.{ltb-true}
 
 -- ---- lists of items
 
-pays-item : (visit : NodeKind → Row → Expansion Output) → ((kind : NodeKind) (content : Row) → Pays 0 (visit kind content)) → (i : Item) → Pays 0 (item_output visit i)
+pays-item : (visit : NodeKind → Content → Expansion Output) → ((kind : NodeKind) (content : Content) → Pays 0 (visit kind content)) → (i : Item) → Pays 0 (item_output visit i)
 pays-item visit h (plain start source) = pays-give _
 pays-item visit h (sealed start source) = pays-give _
 pays-item visit h (nothing start source) = pays-give _
 pays-item visit h (node kind start content) = h kind content
 
-pays-items : (visit : NodeKind → Row → Expansion Output) → ((kind : NodeKind) (content : Row) → Pays 0 (visit kind content)) → (items : List Item) → Pays 0 (items_output visit items)
+pays-items : (visit : NodeKind → Content → Expansion Output) → ((kind : NodeKind) (content : Content) → Pays 0 (visit kind content)) → (items : List Item) → Pays 0 (items_output visit items)
 unfolding items_output
 pays-items visit h [] = pays-give _
 pays-items visit h (i ∷ items) = pays-bind (pays-item visit h i) (λ first. pays-bind (pays-items visit h items) (λ later. pays-give _))
@@ -194,7 +194,7 @@ module _ (inner : Frame → List Item → Expansion Output) (inner-pays : (frame
   pays-kind argument name parts = pays-more (pays-argument_node name parts)
   pays-kind template name parts = pays-template name parts
 
-  pays-node : (kind : NodeKind) (content : Row) → Pays 1 (node_output inner viewed frame kind content)
+  pays-node : (kind : NodeKind) (content : Content) → Pays 1 (node_output inner viewed frame kind content)
   unfolding node_output
   pays-node kind content = pays-bind (inner-pays frame (title_part content)) (λ name. pays-kind kind name _)
 

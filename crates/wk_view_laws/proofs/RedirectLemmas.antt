@@ -7,7 +7,7 @@ use borrow.Author.Tests.{ltb-true}
 use Rattle.wk_text_rules.specs.Marked.{all_plain, all_sealed}
 use Rattle.wk_text_rules.specs.Titles.{PageTitle}
 use Rattle.wk_tree_rules.specs.Tree.{Part, tree, nodes, nodes_of}
-use Rattle.wk_tree_rules.specs.Trees.{Item, plain, sealed, nothing, node, NodeKind, Row}
+use Rattle.wk_tree_rules.specs.Trees.{Item, plain, sealed, nothing, node, NodeKind, Content}
 use Rattle.wk_tree_rules.specs.declared.Mode.TheVariants as mode
 use Rattle.wk_view_rules.specs.Expand.{items_output, with_bindings, included, redirected, included_text, inclusion, expand}
 use Rattle.wk_view_rules.specs.Expansions.{Expansion, Output, Progress, with_nodes, most_nodes, most_bytes, most_depth}
@@ -35,7 +35,7 @@ run-redirect pages inner viewed frame title target text target_text parts progre
     rw (h.real, h.closed, not-le (length frame) most_depth h.shallow, h.there, h.redirects, not-lt (progress.counters.nodes + (1 + length text.text / 64)) most_nodes h.affordable, h.target_closed, h.target_there) refl
 
 -- items without nodes ask nothing and count nothing
-items-quiet : (visit : NodeKind → Row → Expansion Output) (items : List Item) → nodes items ≡ [] → (progress : Progress) → (out : Output) × (items_output visit items progress ≡ gives (out, progress))
+items-quiet : (visit : NodeKind → Content → Expansion Output) (items : List Item) → nodes items ≡ [] → (progress : Progress) → (out : Output) × (items_output visit items progress ≡ gives (out, progress))
 unfolding items_output nodes_of
 items-quiet visit [] h progress = ([], refl)
 items-quiet visit (plain start source ∷ items) h progress =

@@ -6,7 +6,8 @@ use Rattle.std.specs.Option.{is_some, option_and_then}
 use Rattle.std.proofs.lemmas.Bool.{cases_Bool}
 use Rattle.wk_text_rules.specs.Marked.{plain_text_of, trimmed_output}
 use Rattle.wk_text_rules.specs.Titles.{PageTitle, normal, is_virtual}
-use Rattle.wk_tree_rules.specs.Redirects.{redirect_start, redirect_target, is_target_byte, target_end, target_title}
+use Rattle.wk_text_rules.specs.Targets.{is_target_byte, page_named}
+use Rattle.wk_tree_rules.specs.Redirects.{redirect_start, redirect_target, target_end}
 use Rattle.wk_view_rules.specs.Expand.{called_title, tested_title}
 use Rattle.wk_view_rules.specs.Expansions.{Output}
 use Rattle.wk_view_laws.specs.Titles.{IsPageTitle}
@@ -40,7 +41,7 @@ pub page-redirect_target : (text : List ℕ) (title : PageTitle) → redirect_ta
 unfolding redirect_target
 page-redirect_target text title e = go (redirect_start text) e
   where
-    go : (o : Option (List ℕ)) → option_and_then (λ inside. if is_some (target_end (drop (length (take_while is_target_byte inside)) inside)) then target_title (take_while is_target_byte inside) else None) o ≡ Some title → IsPageTitle title
+    go : (o : Option (List ℕ)) → option_and_then (λ inside. if is_some (target_end (drop (length (take_while is_target_byte inside)) inside)) then page_named (take_while is_target_byte inside) else None) o ≡ Some title → IsPageTitle title
     go None found = cc
     go (Some inside) found = elim (cases_Bool (is_some (target_end (drop (length (take_while is_target_byte inside)) inside)))) [
       | inl ends ↦ page_by_test (take_while is_target_byte inside) (normal (take_while is_target_byte inside) (pos 0)) title refl (rw ends at found)

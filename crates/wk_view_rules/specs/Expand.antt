@@ -8,7 +8,7 @@ use Rattle.wk_text_rules.specs.Numerals.{same_output}
 use Rattle.wk_text_rules.specs.Titles.{PageTitle, normal, title_eq, is_virtual}
 use Rattle.wk_tree_rules.specs.Redirects.{redirect_target}
 use Rattle.wk_tree_rules.specs.Tree.{tree, title_part, further_parts, Part}
-use Rattle.wk_tree_rules.specs.Trees.{Item, plain, sealed, nothing, node, Row, NodeKind, template, argument}
+use Rattle.wk_tree_rules.specs.Trees.{Item, plain, sealed, nothing, node, Content, NodeKind, template, argument}
 use Rattle.wk_tree_rules.specs.declared.Mode.TheVariants as mode
 use Rattle.wk_view_rules.specs.Expansions.{Expansion, Output, give, answer_to, ◌>>=◌, charged, argument_within_limit, inclusion_within_limit, with_test, most_tests, most_depth}
 use Rattle.wk_view_rules.specs.Frames.{Frame, Binding, binding_length, bound_to, caller, is_within}
@@ -23,19 +23,19 @@ use Rattle.wk_view_rules.specs.declared.Word.TheVariants.{Variable, Function, Pa
 
 -- ---- lists of items
 
--- An item gives its text with its mark, nothing, or what its node gives.
-abbrev pub item_output : (NodeKind → Row → Expansion Output) → Item → Expansion Output
-item_output node_output (plain start source) = give (all_plain source)
-item_output node_output (sealed start source) = give (all_sealed source)
-item_output node_output (nothing start source) = give []
-item_output node_output (node kind start content) = node_output kind content
+-- An item gives its text, plain or sealed, nothing, or what its node gives.
+abbrev pub item_output : (NodeKind → Content → Expansion Output) → Item → Expansion Output
+item_output of_node (plain start source) = give (all_plain source)
+item_output of_node (sealed start source) = give (all_sealed source)
+item_output of_node (nothing start source) = give []
+item_output of_node (node kind start content) = of_node kind content
 
 -- the items from the left, their outputs joined
-unfoldable pub items_output : (NodeKind → Row → Expansion Output) → List Item → Expansion Output
-items_output node_output [] = give []
-items_output node_output (i ∷ items) = do
-  first ← item_output node_output i
-  later ← items_output node_output items
+unfoldable pub items_output : (NodeKind → Content → Expansion Output) → List Item → Expansion Output
+items_output of_node [] = give []
+items_output of_node (i ∷ items) = do
+  first ← item_output of_node i
+  later ← items_output of_node items
   give (first ++ later)
 
 -- ---- what a name calls and tests
@@ -285,7 +285,7 @@ module _ (inner : Frame → List Item → Expansion Output) (viewed : PageTitle)
   kind_output template name parts = template_output name parts
 
   -- a node: its title part is expanded first
-  unfoldable pub node_output : NodeKind → Row → Expansion Output
+  unfoldable pub node_output : NodeKind → Content → Expansion Output
   node_output kind content = do
     name ← inner frame (title_part content)
     kind_output kind name (further_parts content)

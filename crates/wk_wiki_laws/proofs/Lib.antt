@@ -1,4 +1,15 @@
 pub mod Parts
 pub mod TicketsOut
 pub mod Room
-
+pub mod Tickets
+pub mod TicketSteps
+pub mod JobOrder
+pub mod JobChanges
+pub mod JobsMade
+pub mod LinksMade
+pub mod SavedTitles
+pub mod ChangesMade
+pub mod ParamsBack
+pub mod PagesSorted
+pub mod StoresOpened
+pub mod KeptCalls

@@ -1,12 +1,12 @@
 -- The journal that calls make and the tickets that are out stay within the limit.
-use Rattle.std.proofs.Common.{◌≡◌, ℕ, ◌+◌, ◌≤◌, Bool, true, false, eqb, ltb, leb, ◌||◌, List, [], ◌∷◌, ◌++◌, length, Option, Some, None, refl, sym, ap, ◌∙◌, inl, inr, subst, arith}
+use Rattle.std.proofs.Common.{◌≡◌, ℕ, ◌+◌, ◌≤◌, Bool, true, false, eqb, ltb, leb, ◌||◌, List, [], ◌∷◌, length, Option, Some, None, refl, sym, ap, ◌∙◌, inl, inr, subst, arith}
 use Rattle.std.specs.Prelude.{option_map, is_some}
-use Rattle.std.proofs.lemmas.Bool.{cases_Bool, or_parts, ltb-false, leb-false, leb-true, eq-eqb, ne_eqb, le-leb, lt-leb}
+use Rattle.std.proofs.lemmas.Bool.{cases_Bool, or_parts, ltb-false, leb-false, leb-true, eq-eqb, ne_eqb}
 use Rattle.std.proofs.lemmas.List.{length-append}
 use Rattle.wk_text_rules.specs.Titles.{PageTitle}
 use Rattle.wk_page_rules.specs.History.{can_save, page_exists, page_to_save}
 use Rattle.wk_page_rules.specs.Verdict.{MostHeld, Verdict, refuse, no_change, accept, with_room, judged, journal_full, is_journal_full, max_job}
-use Rattle.wk_job_rules.specs.Jobs.{FanEntry, JobLists, first_queued, first_fan, page_held_by, claimed_by, given_back, refresh_dropped, refresh_queued}
+use Rattle.wk_job_rules.specs.Jobs.{FanEntry, first_queued, first_fan, page_held_by, claimed_by, given_back}
 use Rattle.wk_job_rules.specs.Steps.{after_serving, by_number, next_served, reach_of_save}
 use Rattle.wk_state_rules.specs.States.{State}
 use Rattle.wk_state_rules.specs.Events.{Event, Save, Claim, Done, Back, Fan, stored_with, with_saved, with_refreshed, with_jobs, step_by}

@@ -1,13 +1,13 @@
 -- How many tickets are out after each event.
 use Rattle.std.proofs.Common.{◌≡◌, ℕ, ◌+◌, ◌≤◌, Bool, true, false, cond, eqb, not, List, [], ◌∷◌, ◌++◌, map, Option, Some, None, refl, ap, ◌∙◌, inl, inr, subst, arith}
-use Rattle.std.specs.Prelude.{find, filter, count_by, option_map, is_some, is_none}
+use Rattle.std.specs.Prelude.{find, filter, count_by, option_map, is_some}
 use Rattle.std.proofs.lemmas.Bool.{cases_Bool, cond_both, eqb-true, eq-eqb}
 use Rattle.std.proofs.lemmas.List.Sums.{sum_by-cons, sum_by-append}
 use Rattle.wk_text_rules.specs.Titles.{PageTitle}
 use Rattle.wk_row_rules.specs.declared.Reach.{Reach}
 use Rattle.wk_row_rules.specs.PageRows.{PageRows}
 use Rattle.wk_job_rules.specs.Jobs.{RefreshEntry, FanEntry, JobLists, is_queued, is_claimed, is_held_by, has_refresh, has_fan, first_claimed, jobs_of, jobs_of_others, queued_again, refresh_queued, refresh_dropped, given_back, fan_set, page_held_by}
-use Rattle.wk_job_rules.specs.Steps.{all_queued, after_save, after_serving, by_number, next_served}
+use Rattle.wk_job_rules.specs.Steps.{all_queued, after_save, after_serving, next_served}
 
 abbrev pub out : List RefreshEntry → ℕ
 out jobs = count_by is_claimed jobs
@@ -101,7 +101,7 @@ out-others ticket job (first ∷ jobs) found =
           let has = held-ticket ticket first held in
           let claimed : is_claimed first ≡ true = ap (λ o. is_some o) has in
           let rest = out-filter (λ (j : RefreshEntry). not (eqb j.page job.page)) jobs in
-          let one : cond (is_claimed first) 1 0 ≡ 1 = ap (λ b. cond b 1 0) claimed in
+          let one : cond {A = ℕ} (is_claimed first) 1 0 ≡ 1 = ap (λ (b : Bool). cond {A = ℕ} b 1 0) claimed in
           rw own (omega (arith, now, one, rest))
       | inr other ↦
           let later = out-others ticket job jobs (rw other at found) in

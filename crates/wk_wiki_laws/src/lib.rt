@@ -3,3 +3,5 @@
 #![tactic(auto)]
 
 pub mod journals;
+pub mod kept;
+pub mod tables;

@@ -9,7 +9,7 @@ use Rattle.wk_row_rules.specs.declared.Reach.{Reach}
 use Rattle.wk_table_rules.specs.Rows.{PageColumns, RevisionColumns, JobColumns, StoreTables, newest_version}
 use Rattle.wk_table_rules.specs.Changes.{TableEdit, add_revision, set_page, set_rows, add_job, set_job, drop_job, set_version}
 use Rattle.wk_table_rules.specs.JobTable.{refresh_row, fan_row}
-use Rattle.wk_job_rules.specs.Jobs.{RefreshEntry, FanEntry, JobLists, has_refresh, refresh_queued, set_anew}
+use Rattle.wk_job_rules.specs.Jobs.{RefreshEntry, FanEntry, JobLists, has_refresh, is_held_by, refresh_queued, set_anew}
 use Rattle.wk_job_rules.specs.Steps.{reach_of_save, next_served, cursor_behind}
 use Rattle.wk_job_rules.specs.Users.{some_page_names, users}
 use Rattle.wk_state_rules.specs.States.{State, title_at}
@@ -77,6 +77,10 @@ save_change state title text moment =
     ++ fan_edits (stored_with state title) (refresh_queued state.jobs page) title reach
 
 -- ---- a refresh
+
+-- the job that is claimed by this ticket
+abbrev pub job_held_by : JobLists → ℕ → Option RefreshEntry
+job_held_by lists ticket = find (is_held_by ticket) lists.refreshes
 
 -- the page of the job has these rows from now on, and the job goes
 abbrev pub refresh_change : RefreshEntry → PageRows → List TableEdit

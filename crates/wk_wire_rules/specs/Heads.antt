@@ -1,7 +1,7 @@
 -- What a request's head says, and the checks that a whole head must pass (RFC 9110 and RFC 9112; the limits, the
 -- checks and their order are own). A head is one of `httparse`'s default grammar for requests.
-use Rattle.std.specs.Prelude.{ℕ, Bool, true, false, ◌&&◌, ◌||◌, ◌==◌, not, nat_lt, List, [], ◌∷◌, length, take, map, filter, codes, bytes_eq, Option, Some, None, if◌then◌else◌}
-use Rattle.std.specs.List.{list_all, list_any, before_first, after_first}
+use Rattle.std.specs.Prelude.{ℕ, Bool, true, false, ◌&&◌, ◌||◌, ◌==◌, not, nat_lt, List, [], ◌∷◌, length, map, filter, codes, bytes_eq, Option, Some, None, if◌then◌else◌}
+use Rattle.std.specs.List.{list_all, list_any, before_first, after_first, starts_with}
 use Rattle.std.specs.Str.{str_eq_ignore_ascii_case}
 use Rattle.httparse.specs.Grammar.{RequestHead}
 use Rattle.httparse.specs.Spans.{name_and_value}
@@ -32,7 +32,7 @@ is_sent name fields = nat_lt 0 (length (values_of name fields))
 
 -- the text begins with these words, in just this case
 abbrev pub begins_with : List ℕ → List ℕ → Bool
-begins_with words text = bytes_eq (take (length words) text) words
+begins_with words text = starts_with (λ a b. a == b) text words
 
 -- ---- the length of the body
 

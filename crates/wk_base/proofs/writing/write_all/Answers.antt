@@ -1,5 +1,5 @@
 -- What a write took follows what was taken before it.
-use Rattle.std.proofs.Common.{arith}
+use Rattle.std.proofs.Common.{◌∙◌, arith}
 use Rattle.wk_base.proofs.TakenBytes.{Appends-more}
 use Rattle.wk_base.proofs.writing.write_all.Goals as goal
 
@@ -7,5 +7,5 @@ pub writes-preserved : goal.writes-preserved
 writes-preserved g c = record {
   in_range = omega (arith, c.in_ok-at.ensures.count.1);
   taken = Appends-more _ _ _ _ _ _ c.writes.invariant.taken c.in_ok-at.ensures.bytes;
-  never_falls = omega (arith, c.write.ensures.never_falls);
+  no_fault = c.in_ok-at.ensures.no_fault ∙ c.writes.invariant.no_fault;
 }

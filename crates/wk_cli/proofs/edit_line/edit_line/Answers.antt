@@ -11,4 +11,4 @@ returns-in_err-cut_line c =
 
 pub returns : goal.returns
 unfolding edit_whole
-returns c = rw (sym c.cut_line.ensures ∙ ap (option_map cut_parts) c.in_ok-cut_line.was) c.checked.ensures
+returns c = rw (sym c.cut_line.ensures ∙ ap (option_map cut_parts) c.in_ok-cut_line.was) c.parts_if_legal.ensures

@@ -1,5 +1,5 @@
 use Rattle.std.proofs.Common.{◌∷◌, ◌++◌, map, List, append_assoc, append-nil, ap, ap₂, sym, ◌∙◌}
-use Rattle.wk_expand.specs.Drafts.{marked}
+use Rattle.wk_expand.specs.Drafts.{with_mark}
 use Rattle.wk_expand.specs.Entries.{entry_reads}
 use Rattle.wk_expand.specs.declared.answer.Answer.{Answer}
 use Rattle.wk_expand.specs.declared.answer.Read.{Read}
@@ -7,7 +7,7 @@ use Rattle.wk_expand.specs.declared.seen.Asked.{Asked}
 use Rattle.wk_expand.proofs.seen.marks.Goals as goal
 
 abbrev marks : List (Asked × Answer) → List Read
-marks entries = map marked (entry_reads entries)
+marks entries = map with_mark (entry_reads entries)
 
 pub entries-init : goal.entries-init
 entries-init c = ap₂ (λ xs ys. xs ++ marks ys) c.new-reads.ensures.items (c.into_iter-asked-iterator.ensures.into_iter_gives ∙ c.iter-asked-items.ensures.rest)

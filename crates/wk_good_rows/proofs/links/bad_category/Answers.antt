@@ -3,7 +3,8 @@ use Rattle.std.specs.List.{list_all}
 use Rattle.std.proofs.lemmas.Bool.{and_parts}
 use Rattle.wk_table_rules.specs.Rows.{CategoryColumns, category_title}
 use Rattle.wk_table_rules.specs.Changes.{has_page}
-use Rattle.wk_table_rules.specs.GoodStore.{is_good_category, is_normal, row_lt}
+use Rattle.wk_text_rules.specs.Titles.{is_normal}
+use Rattle.wk_table_rules.specs.GoodStore.{is_good_category, row_lt}
 use Rattle.wk_good_rows.proofs.Judging.{Judged-bad, Judged-more, item-at}
 use Rattle.wk_good_rows.proofs.Orders.{IsInOrder-more}
 use Rattle.wk_good_rows.proofs.links.bad_category.Goals as goal

@@ -2,7 +2,8 @@ use Rattle.std.proofs.Common.{◌∙◌, ◌&&◌, take, Some, ap, sym, arith}
 use Rattle.std.specs.List.{list_all}
 use Rattle.std.proofs.lemmas.Bool.{and_parts}
 use Rattle.wk_table_rules.specs.Rows.{LinkColumns}
-use Rattle.wk_table_rules.specs.GoodStore.{is_good_link, is_real, row_lt}
+use Rattle.wk_text_rules.specs.Titles.{is_page_title}
+use Rattle.wk_table_rules.specs.GoodStore.{is_good_link, row_lt}
 use Rattle.wk_good_rows.specs.FromPage.{is_from_page}
 use Rattle.wk_good_rows.proofs.Judging.{Judged-bad, Judged-more, item-at}
 use Rattle.wk_good_rows.proofs.Orders.{IsInOrder-more}
@@ -25,5 +26,5 @@ loop-i-preserved c =
     let item = item-at rows i (omega arith) in
     let row = item.0 in
     let good = sym (c.in_ok-is_good_link.ensures row item.1) ∙ c.if-not-branch.false in
-    let parts = and_parts (is_from_page tables row && is_real row.target) (list_all (λ earlier. row_lt earlier.from earlier.target row.from row.target) (take i rows)) good in
+    let parts = and_parts (is_from_page tables row && is_page_title row.target) (list_all (λ earlier. row_lt earlier.from earlier.target row.from row.target) (take i rows)) good in
     (Judged-more (is_good_link tables) rows i row (omega arith) item.1 good c.loop-i.invariant.0, IsInOrder-more (λ (a b : LinkColumns). row_lt a.from a.target b.from b.target) rows i row item.1 parts.1 (omega arith))

@@ -1,5 +1,6 @@
 use Rattle.std.proofs.Common.{◌≡◌, ◌≤◌, take}
-use Rattle.wk_table_rules.specs.GoodStore.{is_good_revision, max_texts, texts_len}
+use Rattle.wk_page_rules.specs.Verdict.{max_texts}
+use Rattle.wk_table_rules.specs.GoodStore.{is_good_revision, texts_len}
 use Rattle.wk_good_rows.specs.Judged.{Judged}
 use Rattle.wk_good_rows.proofs.revisions.bad_revision.Given as goal
 

@@ -15,4 +15,4 @@ returns-clause-atom c =
 pub returns-then-is_plain-clause-atom : goal.returns-then-is_plain-clause-atom
 returns-then-is_plain-clause-atom c =
     plain-seen c.args.mode c.tags.inside.text.now c.args.tags.now c.args.at c.tags.view_is
-    (subst (λ t. c.args.at < length t) (sym c.tags.view_is) c.requires) c.in_default.ensures c.if-is_plain.ensures
+    (subst (λ t. c.args.at < length t) (sym c.tags.view_is) c.requires) c.in_default.ensures c.if-is_plain.ensures.plain

@@ -1,5 +1,5 @@
 use Rattle.std.proofs.Common.{◌+◌, subst, sym}
-use Rattle.wk_lex.specs.Ahead.{AreBytes}
+use Rattle.wk_lex.specs.Ahead.{AreBytes, IsLongest}
 use Rattle.wk_lex.specs.Spans.{IsAtomAt}
 use Rattle.wk_tree_rules.specs.declared.AtomKind.TheVariants.{Byte}
 use Rattle.wk_lex.proofs.LexerLemmas.{byte-here, next-bytes, next-other}
@@ -10,7 +10,8 @@ returns-in-Byte-clause-next c =
     let here = byte-here c.args.mode c.args.tags.now c.args.at c.atom_at-kind.result.0 c.atom_at-kind.result.1 c.in-Byte.is c.atom_at-kind.ensures.atom in
     next-bytes c.args.mode c.args.tags.now c.args.at c.atom_at-kind.result.0 c.behind_bytes.result c.in-Byte.is
     (subst (λ t. AreBytes c.args.mode t c.args.at c.behind_bytes.result) c.tags.view_is
-    (c.behind_bytes.ensures c.args.mode (subst (λ t. IsAtomAt c.args.mode t c.args.at (Byte, c.args.at + 1)) (sym c.tags.view_is) here)))
+    (c.behind_bytes.ensures.bytes c.args.mode (subst (λ t. IsAtomAt c.args.mode t c.args.at (Byte, c.args.at + 1)) (sym c.tags.view_is) here)))
+    (subst (λ t. IsLongest t c.args.at c.behind_bytes.result) c.tags.view_is c.behind_bytes.ensures.longest)
 
 pub returns-in_default : goal.returns-in_default
 returns-in_default c = record {

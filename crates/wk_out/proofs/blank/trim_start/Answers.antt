@@ -1,16 +1,8 @@
-use Rattle.std.proofs.Common.{◌≡◌, ℕ, ◌<◌, true, sym, arith}
-use Rattle.std.proofs.lemmas.Bool.Decides.{nat_tests}
-use Rattle.std.proofs.lemmas.Str.{IsCharBoundary-start, IsCharBoundary-after_ascii}
-use Rattle.std.proofs.lemmas.Grind.{common_steps}
-use Rattle.wk_text_rules.specs.Blank.{is_blank_byte}
+use Rattle.std.proofs.Common.{ap, ◌∙◌}
+use Rattle.wk_text_rules.specs.Blank.{trimmed_start}
+use Rattle.wk_out.proofs.BlankLemmas.{front_is_boundary}
 use Rattle.wk_out.proofs.blank.trim_start.Goals as goal
 
-blank_is_ascii : (b : ℕ) → is_blank_byte b ≡ true → b < 128
-blank_is_ascii b h = grind (arith, nat_tests)
-
-pub loop-start-init : goal.loop-start-init
-loop-start-init c = (omega arith, IsCharBoundary-start _ c.as_bytes-bytes.ensures.utf8)
-
-pub loop-start-preserved : goal.loop-start-preserved
-loop-start-preserved c =
-    (grind (arith, common_steps), IsCharBoundary-after_ascii _ _ c.as_bytes-bytes.ensures.utf8 c.loop-start-test.true (blank_is_ascii _ (sym c.if-is_blank_byte.ensures)))
+pub range_from-requires : goal.range_from-requires
+range_from-requires c _ =
+    front_is_boundary c.args.text.now c.trim_start-rest.result.now (c.trim_start-rest.ensures ∙ ap trimmed_start c.as_bytes.ensures.value) c.utf8.text

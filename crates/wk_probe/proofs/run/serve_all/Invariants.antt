@@ -1,5 +1,5 @@
-use Rattle.std.proofs.Common.{◌-◌, ◌^◌}
+use Rattle.wk_lines.specs.Reading.{lines_left}
 use Rattle.wk_probe.proofs.run.serve_all.Given as goal
 
-abbrev pub decreases-reads : goal.decreases-reads
-decreases-reads g l = 2 ^ 40 - l.total
+abbrev pub decreases-lines : goal.decreases-lines
+decreases-lines g l = lines_left l.reader

@@ -1,6 +1,7 @@
 use Rattle.std.proofs.Common.{◌+◌, ◌<◌, ◌∷◌, [], ◌++◌, option_map, sym, ap, ◌∙◌, arith, vec_len}
 use Rattle.wk_page_rules.specs.History.{page_number}
-use Rattle.wk_revs.specs.Revs.{max_pages, of_pages}
+use Rattle.wk_page_rules.specs.Verdict.{max_pages}
+use Rattle.wk_revs.specs.Revs.{of_pages}
 use Rattle.wk_revs.proofs.PageLaws.{with_current-found, with_current-absent}
 use Rattle.wk_revs.proofs.pages.put_current.Goals as goal
 

@@ -1,5 +1,6 @@
 use Rattle.std.proofs.Common.{◌≡◌, ◌++◌, map}
-use Rattle.wk_rows.specs.Members.{kept_member, member_of}
+use Rattle.wk_table_rows.specs.Members.{member_of}
+use Rattle.wk_rows.specs.Members.{kept_member}
 use Rattle.wk_rows.proofs.members.listed.Given as goal
 
 abbrev pub invariant-loop-category : goal.invariant-loop-category

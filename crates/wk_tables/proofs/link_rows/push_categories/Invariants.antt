@@ -1,6 +1,6 @@
 use Rattle.std.proofs.Common.{◌≡◌, ◌+◌, ◌++◌, map, length, vec_len, vec_capacity}
 use Rattle.wk_table_rules.specs.Changes.{category_row}
-use Rattle.wk_tables.specs.Members.{member_of}
+use Rattle.wk_table_rows.specs.Members.{member_of}
 use Rattle.wk_tables.proofs.link_rows.push_categories.Given as goal
 
 abbrev pub invariant-loop-category : goal.invariant-loop-category

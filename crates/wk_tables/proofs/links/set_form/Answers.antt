@@ -2,7 +2,7 @@ use Rattle.std.proofs.Common.{◌≡◌, ◌∙◌, true, eqb, ap, sym, subst, r
 use Rattle.std.specs.Prelude.{IfSome, Some}
 use Rattle.std.specs.List.{list_any}
 use Rattle.wk_tables.specs.LinkForms.{KeepsLinks, Sets, pages_held, rows_held}
-use Rattle.wk_tables.specs.LinkLists.{rows_of_lists, with_page_rows}
+use Rattle.wk_tables.specs.LinkLists.{rows_of_lists, with_rows_of_page}
 use Rattle.wk_tables.specs.Room.{lists_room}
 use Rattle.wk_tables.proofs.LinkLaws.{AreOf-lists, IsByPage-set, joined-set, list_any-map, pages-set}
 use Rattle.wk_tables.proofs.links.set_form.Goals as goal
@@ -18,7 +18,7 @@ returns-in-ByPage-clause-rows c =
     let rows = rows_of_lists c.args.page c.args.namespace c.args.lists in
     let sets : Sets c.in-ByPage.slots.items c.set_slot.new.slots.items c.args.page rows = search rules in
     joined-set c.in-ByPage.slots.items c.set_slot.new.slots.items c.args.page rows sets kept.1
-    ∙ ap (λ f. with_page_rows (rows_held f) c.args.page rows) (sym c.in-ByPage.is)
+    ∙ ap (λ f. with_rows_of_page (rows_held f) c.args.page rows) (sym c.in-ByPage.is)
 
 pub returns-in-ByPage-clause-pages : goal.returns-in-ByPage-clause-pages
 returns-in-ByPage-clause-pages c =

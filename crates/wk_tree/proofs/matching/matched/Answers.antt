@@ -7,7 +7,7 @@ pub loop-atom-init : goal.loop-atom-init
 loop-atom-init c = record {
   text = c.requires.whole;
   matched =
-      matched-begins c.args.atoms.atoms (record { tokens = c.in_ok-with_capacity.field-0; bars = c.new.result; levels = c.new-2.result })
+      matched-begins c.args.atoms.atoms (record { tokens = c.in_ok-with_capacity.field-0; bars = c.new.result; openers = c.new-2.result })
       c.in_ok-with_capacity.ensures.items c.new.ensures.items c.new-2.ensures.items;
 }
 

@@ -1,65 +1,56 @@
-use Rattle.std.proofs.Common.{◌≡◌, ◌++◌, [], ℕ, length, take, ap, subst, arith, length-take}
-use Rattle.std.proofs.KnownBytes.{Consumes-nil}
-use Rattle.std.specs.Io.KnownBytes.{Consumes}
+use Rattle.std.proofs.Common.{◌++◌, subst}
 use Rattle.wk_bytes.specs.Line.{line_in}
-use Rattle.wk_cli.proofs.Reading.{consumes_nothing, cut_between, cut_last, cut_within, goes_on, long_enough, not_the_bound, nothing_read, whole_run}
+use Rattle.wk_lines.specs.Reading.{Gives}
+use Rattle.wk_cli.proofs.Reading.{cut_between, cut_last, cut_within, goes_on, is_the_stop, last_stops, long_enough, none_read, not_the_bound, on_ok_more, whole_run}
 use Rattle.wk_cli.proofs.run.Run.serve_all.Goals as goal
 
-pub reads-init : goal.reads-init
-reads-init g c = nothing_read _ _ _ _ _ _ _ _ c.requires.empty c.requires.none c.new-cutter.ensures
+pub lines-init : goal.lines-init
+lines-init g c = none_read _ _ _ _ _ _ c.requires.empty c.requires.none c.new-reader.ensures
 
--- the read failed
+-- the reading stopped
 pub returns-in-Err-clause-err : goal.returns-in-Err-clause-err
 returns-in-Err-clause-err g c =
-    let h = c.reads.invariant in
-    (h.read ++ [], cut_between _ _ _ _ _ _ _ _ _ _ _ _ _ _ _ [] h (consumes_nothing _ _ c.in-Err.ensures.bytes), λ is. absurd (cc is))
+    let h = c.lines.invariant in
+    let read = c.in-Err.ensures.err in (
+      h.read ++ read.read,
+      cut_between _ _ _ _ _ _ _ _ _ _ _ _ c.in-Err.stop h read,
+      λ is. long_enough h.read read.read _ _ _ h.counted read.counted (read.bound (is_the_stop _ _ is)),
+    )
 
--- the last line couldn't be answered
+-- a line couldn't be answered
 pub returns-in-Err-serve_line-clause-err : goal.returns-in-Err-serve_line-clause-err
 returns-in-Err-serve_line-clause-err g c =
-    let h = c.reads.invariant in
-    let nothing : take c.in-Ok.n c.read.new.room ≡ [] = ap (λ (n : ℕ). take n c.read.new.room) c.if-n-eq0.true in
-    let consumed = subst (Consumes (g.I.Source.rest c.reads.input) (g.I.Source.rest c.read.new.self)) nothing c.in-Ok.ensures.bytes.0 in (
-      h.read ++ [],
-      cut_last _ _ _ _ _ _ _ _ _ _ _ _ _ _ _ _ _ (line_in c.end-line.result) h consumed (c.in-Ok.ensures.bytes.1 c.if-n-eq0.true (omega arith))
-          c.end-line.ensures.line c.in-Err-serve_line.ensures.err,
+    let h = c.lines.invariant in
+    let read = subst (Gives c.lines.reader c.next.new.self (g.I.Source.rest c.lines.input) (g.I.Source.rest c.next.new.input)) c.in-Inner.is c.in-Ok.ensures.ok in (
+      h.read ++ read.0.read,
+      cut_within _ _ _ _ _ _ _ _ _ _ _ _ _ _ (line_in c.in-Inner.line) h read.0 c.in-Err-serve_line.ensures.err,
       not_the_bound c.in-Err-serve_line.stop _ c.in-Err-serve_line.ensures.stops,
     )
 
+pub lines-preserved-in_default : goal.lines-preserved-in_default
+lines-preserved-in_default g c =
+    let read = subst (Gives c.lines.reader c.next.new.self (g.I.Source.rest c.lines.input) (g.I.Source.rest c.next.new.input)) c.in-Inner.is c.in-Ok.ensures.ok in
+    goes_on _ _ _ _ _ _ _ _ _ _ _ _ _ _ _ _ _ (line_in c.in-Inner.line) c.lines.invariant read.0 c.in_default.ensures.ok
+    c.next.ensures.never_falls c.serve_line.ensures.never_falls
+
+pub lines-preserved : goal.lines-preserved
+lines-preserved g c =
+    let read = subst (Gives c.lines.reader c.next.new.self (g.I.Source.rest c.lines.input) (g.I.Source.rest c.next.new.input)) c.in-Inner.is c.in-Ok.ensures.ok in
+    goes_on _ _ _ _ _ _ _ _ _ _ _ _ _ _ _ _ _ (line_in c.in-Inner.line) c.lines.invariant read.0 c.in_default.ensures.ok
+    c.next.ensures.never_falls c.serve_line.ensures.never_falls
+
 -- all lines are answered
-pub returns-then-n-eq0-clause-ok : goal.returns-then-n-eq0-clause-ok
-returns-then-n-eq0-clause-ok g c =
-    let nothing : take c.in-Ok.n c.read.new.room ≡ [] = ap (λ (n : ℕ). take n c.read.new.room) c.if-n-eq0.true in
-    let consumed = subst (Consumes (g.I.Source.rest c.reads.input) (g.I.Source.rest c.read.new.self)) nothing c.in-Ok.ensures.bytes.0 in
-    whole_run _ _ _ _ _ _ _ _ _ _ _ _ _ _ _ _ _ _ _ (line_in c.end-line.result) c.reads.invariant consumed
-    (c.in-Ok.ensures.bytes.1 c.if-n-eq0.true (omega arith)) c.end-line.ensures.line c.in_default.ensures.ok
+pub returns-in-Last-clause-ok : goal.returns-in-Last-clause-ok
+returns-in-Last-clause-ok g c =
+    let read = subst (Gives c.lines.reader c.next.new.self (g.I.Source.rest c.lines.input) (g.I.Source.rest c.next.new.input)) c.in-Last.is c.in-Ok.ensures.ok in
+    on_ok_more c.serve_line-in-Last.result _ _ (λ answers. whole_run _ _ _ _ _ _ _ _ _ _ _ _ _ _ _ (line_in c.in-Last.line) c.lines.invariant read answers)
+    c.serve_line-in-Last.ensures.ok
 
--- no memory for the piece
-pub returns-in-Err-push-clause-err : goal.returns-in-Err-push-clause-err
-returns-in-Err-push-clause-err g c =
-    let h = c.reads.invariant in
-    (h.read ++ take c.in-Ok.n c.read.new.room, cut_between _ _ _ _ _ _ _ _ _ _ _ _ _ _ _ (take c.in-Ok.n c.read.new.room) h c.in-Ok.ensures.bytes.0, λ is. absurd (cc is))
-
--- a whole line couldn't be answered
-pub returns-in-Err-serve_whole-clause-err : goal.returns-in-Err-serve_whole-clause-err
-returns-in-Err-serve_whole-clause-err g c =
-    let h = c.reads.invariant in (
-      h.read ++ take c.in-Ok.n c.read.new.room,
-      cut_within _ _ _ _ _ _ _ _ _ _ _ _ _ _ _ _ _ _ (take c.in-Ok.n c.read.new.room) h c.in-Ok.ensures.bytes.0
-          c.in_default-push.ensures.lines c.in-Err-serve_whole.ensures.err,
-      not_the_bound c.in-Err-serve_whole.stop _ c.in-Err-serve_whole.ensures.stops,
-    )
-
-pub reads-preserved : goal.reads-preserved
-reads-preserved g c =
-    let piece = take c.in-Ok.n c.read.new.room in
-    let count : length piece ≡ c.in-Ok.n = omega (arith, length-take c.in-Ok.n c.read.new.room, c.in-Ok.ensures.count) in
-    goes_on _ _ _ _ _ _ _ _ _ _ _ _ _ _ c.push.new.self _ _ c.in-Ok.n _ _ _ _ _ _ piece c.reads.invariant c.in-Ok.ensures.bytes.0 count (omega arith) (omega (arith, c.in-Ok.ensures.count))
-    c.in_default-push.ensures.lines c.in_default-serve_whole.ensures.emptied c.in_default-serve_whole.ensures.ok
-    c.read.ensures.never_falls c.serve_whole.ensures.never_falls
-
--- so many bytes were read
-pub returns-clause-err : goal.returns-clause-err
-returns-clause-err g c =
-    let h = c.reads.invariant in
-    (h.read ++ [], cut_between _ _ _ _ _ _ _ _ _ _ _ _ _ _ _ [] h (Consumes-nil _), λ _. long_enough h.read _ _ h.counted (omega arith))
+-- the last line couldn't be answered
+pub returns-in-Last-clause-err : goal.returns-in-Last-clause-err
+returns-in-Last-clause-err g c =
+    let h = c.lines.invariant in
+    let read = subst (Gives c.lines.reader c.next.new.self (g.I.Source.rest c.lines.input) (g.I.Source.rest c.next.new.input)) c.in-Last.is c.in-Ok.ensures.ok in
+    last_stops c.serve_line-in-Last.result _ _
+    (λ first. (h.read ++ read.read, cut_last _ _ _ _ _ _ _ _ _ _ _ _ _ _ (line_in c.in-Last.line) h read first))
+    c.serve_line-in-Last.ensures.err c.serve_line-in-Last.ensures.stops

@@ -1,0 +1,7 @@
+pub mod Values
+pub mod ApiErrors
+pub mod Pages
+pub mod Lists
+pub mod Saves
+pub mod Answers
+pub mod Computing

@@ -1,0 +1,81 @@
+-- What is told of a save (MediaWiki's API:Edit and API:Delete; that the revision before is told of both is own).
+use Rattle.std.specs.Prelude.{ℕ, ◌+◌, true, List, [], ◌∷◌, codes, Option, Some, None}
+use Rattle.serde_json.specs.Data.{boolean, string}
+use Rattle.wk_text_rules.specs.Titles.{PageTitle, shown}
+use Rattle.wk_page_rules.specs.Verdict.{EditAsked, MostHeld, Verdict, refuse, no_change, accept}
+use Rattle.wk_state_rules.specs.States.{State}
+use Rattle.wk_state_rules.specs.Events.{Event}
+use Rattle.wk_state_rules.specs.Verdicts.{verdict_in, event_of}
+use Rattle.wk_wiki_rules.specs.SaveOutcomes.{SaveNumbers, SaveOutcome, created, changed, unchanged, save_outcome, deletion}
+use Rattle.wk_answer_rules.specs.Values.{ApiReply, whole, Entries, object_of, reply_beside}
+use Rattle.wk_answer_rules.specs.ApiErrors.{ApiError, save_error, api_error}
+
+-- a reply, and the event that the request makes, if it makes one
+pub record Answered : Type 0 where
+  pub reply : ApiReply
+  pub event : Option Event
+
+-- a reply without an event, at the point that the journal has
+abbrev pub shown_at : ℕ → Entries → Answered
+shown_at point entries = record { reply = reply_beside entries point; event = None }
+
+abbrev pub failed_at : ℕ → ApiError → Answered
+failed_at point error = record { reply = api_error error point; event = None }
+
+-- ---- the values
+
+-- the page, and that all went well
+abbrev pub saved_entries : PageTitle → ℕ → Entries
+saved_entries title page =
+    (codes "pageid", whole page) ∷ (codes "result", string (codes "Success")) ∷ (codes "title", string (shown title)) ∷ []
+
+abbrev pub changed_entries : PageTitle → SaveNumbers → Entries
+changed_entries title numbers =
+    (codes "newrevid", whole numbers.new) ∷ (codes "oldrevid", whole numbers.old) ∷ saved_entries title numbers.page
+
+-- `new` stands only where the page was missing, `nochange` only where it has the text already
+abbrev pub edit_members : SaveOutcome → Entries
+edit_members (created title numbers) = (codes "new", boolean true) ∷ changed_entries title numbers
+edit_members (changed title numbers) = changed_entries title numbers
+edit_members (unchanged title page) = (codes "nochange", boolean true) ∷ saved_entries title page
+
+abbrev pub edit_entries : SaveOutcome → Entries
+edit_entries outcome = (codes "edit", object_of (edit_members outcome)) ∷ []
+
+abbrev pub deleted_members : PageTitle → SaveNumbers → Entries
+deleted_members title numbers =
+    (codes "oldrevid", whole numbers.old) ∷ (codes "revid", whole numbers.new) ∷ (codes "title", string (shown title)) ∷ []
+
+-- a deletion always changes a page that exists, so of the three only the second is met
+abbrev pub delete_members : SaveOutcome → Entries
+delete_members (created title numbers) = deleted_members title numbers
+delete_members (changed title numbers) = deleted_members title numbers
+delete_members (unchanged title page) = saved_entries title page
+
+abbrev pub delete_entries : SaveOutcome → Entries
+delete_entries outcome = (codes "delete", object_of (delete_members outcome)) ∷ []
+
+-- ---- the answers
+
+-- what is told of an outcome, where there is one
+abbrev pub outcome_entries : (SaveOutcome → Entries) → Option SaveOutcome → Entries
+outcome_entries told None = []
+outcome_entries told (Some outcome) = told outcome
+
+-- By the verdict: a refusal, or that nothing changes; or the save's event, which is in the journal when it is told.
+abbrev pub save_answer : (SaveOutcome → Entries) → State → ℕ → ℕ → Verdict → Answered
+save_answer told state journal moment (refuse refusal) = failed_at journal (save_error refusal)
+save_answer told state journal moment (no_change title) =
+    shown_at journal (outcome_entries told (save_outcome state.history (no_change title)))
+save_answer told state journal moment (accept title text) = record {
+  reply = reply_beside (outcome_entries told (save_outcome state.history (accept title text))) (journal + 1);
+  event = event_of (accept title text) moment;
+}
+
+abbrev pub edit_answer : MostHeld → State → ℕ → ℕ → EditAsked → Answered
+edit_answer most state journal moment edit =
+    save_answer edit_entries state journal moment (verdict_in most state journal edit)
+
+abbrev pub delete_answer : MostHeld → State → ℕ → ℕ → List ℕ → Option ℕ → Answered
+delete_answer most state journal moment title base =
+    save_answer delete_entries state journal moment (verdict_in most state journal (deletion title base))

@@ -1,0 +1,55 @@
+-- One read after others.
+use Rattle.std.proofs.Common.{◌≡◌, ℕ, ◌+◌, List, [], ◌++◌, ◌≤◌, false, length, refl, sym, ◌∙◌, ap, subst, append_assoc, length-append, arith}
+use Rattle.std.proofs.KnownBytes.{Consumes-trans}
+use Rattle.std.specs.Prelude.{Bool, Option}
+use Rattle.wk_bytes.specs.Line.{line_in}
+use Rattle.wk_bytes.specs.LineCutter.{Cutting, lines_to_come}
+use Rattle.wk_bytes.specs.declared.lines.Line.{Line}
+use Rattle.wk_bytes.specs.declared.lines.Line.TheVariants.{More}
+use Rattle.wk_lines.specs.Reading.{Fills, Reading, Reads, StopsReading, lines_left}
+use Rattle.wk_lines.specs.declared.stop.Stop.{Stop}
+
+counted_on : (a b c : ℕ) (read more : List ℕ) → b ≡ a + length read → c ≡ b + length more → c ≡ a + length (read ++ more)
+counted_on a b c read more first second = omega (arith, length-append read more, first, second)
+
+reads_on : (a b c : Reading) (x y z : Option (List ℕ)) → Reads a b x y [] → Reads b c y z [] → Reads a c x z []
+reads_on a b c x y z first second = record {
+  read = first.read ++ second.read;
+  consumed = Consumes-trans x y z first.read second.read first.consumed second.consumed;
+  counted = counted_on a.total b.total c.total first.read second.read first.counted second.counted;
+  come = λ more.
+      ap (lines_to_come a.cutter) (append_assoc first.read second.read more) ∙ first.come (second.read ++ more) ∙ second.come more;
+}
+
+stops_after : (a b c : Reading) (x y z : Option (List ℕ)) (stop : Stop) → Reads a b x y [] → StopsReading b c y z stop → StopsReading a c x z stop
+stops_after a b c x y z stop first second = record {
+  read = first.read ++ second.read;
+  consumed = Consumes-trans x y z first.read second.read first.consumed second.consumed;
+  counted = counted_on a.total b.total c.total first.read second.read first.counted second.counted;
+  bound = second.bound;
+  is_reading = second.is_reading;
+}
+
+-- where no line was given, the cutter is as before
+none_given : (old new : Cutting) (line : Line) → old ≡ record new { whole = line_in line ++ new.whole } → line ≡ More → old ≡ new
+none_given old new line is more = is ∙ ap (λ l. record new { whole = line_in l ++ new.whole }) more
+
+-- a read behind others, after the cutter had no line, gave bytes
+pub fills_on : (a : Reading) (k m : Cutting) (t : ℕ) (c : Reading) (x y z : Option (List ℕ)) (line : Line) (ended : Bool) →
+    Reads a (record { cutter = k; total = t }) x y [] → k ≡ record m { whole = line_in line ++ m.whole } → line ≡ More →
+    Fills (record { cutter = m; total = t }) c y z ended → ended ≡ false →
+    Reads a c x z [] × (lines_left c ≤ lines_left (record { cutter = k; total = t }))
+fills_on a k m t c x y z line ended reads is more fills goes =
+    let same : m ≡ k = sym (none_given k m line is more) in
+    let more = subst (λ b. Fills (record { cutter = m; total = t }) c y z b) goes fills in
+    let again = subst (λ n. Fills (record { cutter = n; total = t }) c y z false) same more in
+    (reads_on a (record { cutter = k; total = t }) c x y z reads again.0, again.2)
+
+-- a read behind others, after the cutter had no line, stopped
+pub stops_on : (a : Reading) (k m : Cutting) (t : ℕ) (c : Reading) (x y z : Option (List ℕ)) (line : Line) (stop : Stop) →
+    Reads a (record { cutter = k; total = t }) x y [] → k ≡ record m { whole = line_in line ++ m.whole } → line ≡ More →
+    StopsReading (record { cutter = m; total = t }) c y z stop → StopsReading a c x z stop
+stops_on a k m t c x y z line stop reads is more stops =
+    let same : m ≡ k = sym (none_given k m line is more) in
+    stops_after a (record { cutter = k; total = t }) c x y z stop reads
+    (subst (λ n. StopsReading (record { cutter = n; total = t }) c y z stop) same stops)

@@ -1,0 +1,13 @@
+use Rattle.std.proofs.Common.{arith}
+use Rattle.wk_lines.proofs.Joined.{fills_on, stops_on}
+use Rattle.wk_lines.proofs.reading.next_line.Goals as goal
+
+pub returns-in-Err-clause-err : goal.returns-in-Err-clause-err
+returns-in-Err-clause-err g c =
+    stops_on _ _ _ _ _ _ _ _ c.next.result c.in-Err.stop c.reads.invariant.0 c.next.ensures.line c.in-More.is c.in-Err.ensures.err
+
+pub reads-preserved : goal.reads-preserved
+reads-preserved g c =
+    let before = c.reads.invariant in
+    let on = fills_on _ _ _ _ _ _ _ _ c.next.result c.in-Ok.ended before.0 c.next.ensures.line c.in-More.is c.in-Ok.ensures.ok c.if-ended.false in
+    (on.0, c.fill.ensures.few before.1, omega (arith, before.2, on.1), omega (arith, before.3, c.fill.ensures.never_falls))

@@ -1,0 +1,4 @@
+pub mod Requests
+pub mod Modules
+pub mod Reading
+pub mod Computing

@@ -1,0 +1,27 @@
+//! Laws of a script's runs over the whole wiki. Each is the contract of a function with an empty body.
+#![tactic(auto)]
+
+ghost use Rattle.std.specs.Prelude.{◌≡◌, ℕ, List, ◌++◌, Option};
+ghost use Rattle.std.specs.List.{AllByRecursion};
+ghost use Rattle.wk_page_rules.specs.Verdict.{MostHeld};
+ghost use Rattle.wk_answer_rules.specs.Values.{ApiReply};
+ghost use Rattle.wk_script_rules.specs.WikiScripts.{WikiScript};
+ghost use Rattle.wk_script_rules.specs.Runs.{IsUntroubled, WikiScriptRun, script_told, wiki_script_replies};
+
+/// A run goes on: one over some lines, and one over more lines from where it ended, are a run over all of them.
+pub fn wiki_script_runs_join()
+    ensures { (most : MostHeld) (s t u : WikiScript) (lines more_lines : List (Option (List ℕ))) (moments more_moments : List ℕ) (replies more_replies : List ApiReply)
+        → WikiScriptRun most s lines moments replies t → WikiScriptRun most t more_lines more_moments more_replies u
+        → WikiScriptRun most s (lines ++ more_lines) (moments ++ more_moments) (replies ++ more_replies) u }
+{}
+
+/// Where no reply tells of want of memory or of a fault of the store, a run's replies are the stated function of its lines
+/// and of the moments that it took, and so is what stands behind it.
+pub fn an_untroubled_run_is_the_function()
+    ensures replies { (most : MostHeld) (s t : WikiScript) (lines : List (Option (List ℕ))) (moments : List ℕ) (replies : List ApiReply)
+        → WikiScriptRun most s lines moments replies t → AllByRecursion IsUntroubled replies
+        → replies ≡ wiki_script_replies most s lines moments }
+    ensures after { (most : MostHeld) (s t : WikiScript) (lines : List (Option (List ℕ))) (moments : List ℕ) (replies : List ApiReply)
+        → WikiScriptRun most s lines moments replies t → AllByRecursion IsUntroubled replies
+        → t ≡ (script_told most s lines moments).after }
+{}

@@ -1,0 +1,4 @@
+pub mod Checks
+pub mod Generator
+pub mod Saving
+pub mod Computing
