@@ -4,8 +4,10 @@
 ghost use Rattle.std.specs.Prelude.{◌≡◌, ℕ, List, ◌++◌, Option};
 ghost use Rattle.std.specs.List.{AllByRecursion};
 ghost use Rattle.wk_page_rules.specs.Verdict.{MostHeld};
+ghost use Rattle.wk_state_rules.specs.Soundness.{IsSound};
+ghost use Rattle.wk_state_laws.specs.WellFormed.{IsWellFormed};
 ghost use Rattle.wk_answer_rules.specs.Values.{ApiReply};
-ghost use Rattle.wk_script_rules.specs.WikiScripts.{WikiScript};
+ghost use Rattle.wk_script_rules.specs.WikiScripts.{WikiScript, all_given_back};
 ghost use Rattle.wk_script_rules.specs.Runs.{IsUntroubled, WikiScriptRun, script_told, wiki_script_replies};
 
 /// A run goes on: one over some lines, and one over more lines from where it ended, are a run over all of them.
@@ -24,4 +26,14 @@ pub fn an_untroubled_run_is_the_function()
     ensures after { (most : MostHeld) (s t : WikiScript) (lines : List (Option (List ℕ))) (moments : List ℕ) (replies : List ApiReply)
         → WikiScriptRun most s lines moments replies t → AllByRecursion IsUntroubled replies
         → t ≡ (script_told most s lines moments).after }
+{}
+
+/// Whatever its lines are answered, a script keeps a wiki sound and well formed, and so does the end of the input, at which
+/// the tickets that are out are given back.
+pub fn a_script_keeps_a_wiki_sound()
+    ensures formed { (most : MostHeld) (s t : WikiScript) (lines : List (Option (List ℕ))) (moments : List ℕ) (replies : List ApiReply)
+        → WikiScriptRun most s lines moments replies t → IsWellFormed s.state → IsSound s.state → IsWellFormed t.state }
+    ensures sound { (most : MostHeld) (s t : WikiScript) (lines : List (Option (List ℕ))) (moments : List ℕ) (replies : List ApiReply)
+        → WikiScriptRun most s lines moments replies t → IsWellFormed s.state → IsSound s.state → IsSound t.state }
+    ensures ended { (s : WikiScript) → IsWellFormed s.state → IsSound s.state → IsSound (all_given_back s).state }
 {}

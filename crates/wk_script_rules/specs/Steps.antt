@@ -71,11 +71,14 @@ abbrev pub present_read : State → PageTitle → Kind → Read
 present_read state title kind = record { title = title; kind = kind; answer = answer_in (world_of state) title kind }
 
 -- the pair that the draft needs is read
+abbrev pub read_by_need : WikiScript → TicketDraft → PageTitle → Kind → LineStep
+read_by_need s draft title kind =
+    let read = present_read s.state title kind in told (with_read s draft.ticket read) (read_entries read)
+
 abbrev pub read_step : WikiScript → TicketDraft → LineStep
 read_step s draft = elim (drafted draft) [
   | done expanded reads ↦ refused_line s noread
-  | need title kind reads ↦
-      let read = present_read s.state title kind in told (with_read s draft.ticket read) (read_entries read)
+  | need title kind reads ↦ read_by_need s draft title kind
 ]
 
 -- ---- `finish`
