@@ -5,3 +5,5 @@ pub mod EntriesBack
 pub mod Accepted
 pub mod Returns
 pub mod KeptAgain
+pub mod CacheEntries
+pub mod LastingEntries

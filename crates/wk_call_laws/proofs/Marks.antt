@@ -90,10 +90,10 @@ module _ {X Y : Type 0} (p : X → Bool) (f : X → Y) where
   found-none [] all = refl
   found-none (x ∷ xs) all = rw all.0 (found-none xs all.1)
 
-abbrev Answered : World → Read → Type 0
+abbrev pub Answered : World → Read → Type 0
 Answered pages r = ask (of_world pages) r.title r.kind ≡ Some r.answer
 
-answered : (pages : World) (r : Read) → Answered pages r → answer_in pages r.title r.kind ≡ r.answer
+pub answered : (pages : World) (r : Read) → Answered pages r → answer_in pages r.title r.kind ≡ r.answer
 answered pages r agrees = let e : Some (answer_in pages r.title r.kind) ≡ Some r.answer = agrees in cc
 
 agrees-by : (h : History) (seen : List Read) → AllByRecursion (λ (r : Read). HasItsText (text_of_revision h) (page_of r.answer)) seen → AllByRecursion (λ (r : Read). fits_kind r.kind r.answer ≡ true) seen

@@ -2,6 +2,7 @@
 //! told, the numbers of jobs, and soundness. Nothing here runs.
 #![tactic(auto)]
 
+pub mod caches;
 pub mod refreshes;
 pub mod saves;
 pub mod soundness;

@@ -9,3 +9,4 @@ pub mod Answers
 pub mod Edits
 pub mod Listings
 pub mod Scripts
+pub mod Cached

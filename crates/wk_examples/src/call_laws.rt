@@ -1,22 +1,26 @@
 //! Runs that meet the premises of the laws of what calls rest on.
-ghost use Rattle.std.specs.Prelude.{◌≡◌, ◌≤◌, All, length, drop, take, codes, ◌∷◌, [], Some};
+ghost use Rattle.std.specs.Prelude.{◌≡◌, ◌≤◌, All, IsTrue, length, drop, take, codes, ◌∷◌, [], Some};
 ghost use Rattle.wk_page_rules.specs.History.{text_of_revision};
 ghost use Rattle.wk_page_rules.specs.Verdict.{accept, judged};
 ghost use Rattle.wk_job_rules.specs.Jobs.{page_held_by};
 ghost use Rattle.wk_job_rules.specs.Steps.{fan_pages};
 ghost use Rattle.wk_row_rules.specs.PageRows.{no_rows};
-ghost use Rattle.wk_view_rules.specs.Views.{reads};
-ghost use Rattle.wk_view_rules.specs.Worlds.{Agrees, IsHonest, of_world};
+ghost use Rattle.wk_view_rules.specs.Plans.{done};
+ghost use Rattle.wk_view_rules.specs.Views.{reads, view};
+ghost use Rattle.wk_view_rules.specs.Worlds.{Agrees, IsHonest, Read, fits_kind, of_world};
 ghost use Rattle.wk_state_rules.specs.States.{page_at, world_of};
 ghost use Rattle.wk_state_rules.specs.Events.{Claim, Done, step};
 ghost use Rattle.wk_state_rules.specs.Lives.{Lives, replay_from};
 ghost use Rattle.wk_state_rules.specs.Soundness.{IsSound};
 ghost use Rattle.wk_state_laws.specs.WellFormed.{IsWellFormed};
 ghost use Rattle.wk_wiki_rules.specs.Entries.{entries_from};
+ghost use Rattle.wk_wiki_rules.specs.Passes.{IsHonestEntry, state_seen};
 ghost use Rattle.wk_wiki_rules.specs.Staleness.{first_stale};
 ghost use Rattle.wk_wiki_rules.specs.Starts.{kept_of};
+ghost use Rattle.wk_call_laws.specs.Caches.{IsLastingEntry};
 ghost use Rattle.wk_call_laws.specs.Sound.{IsSoundSince};
 ghost use Rattle.wk_call_laws.specs.Standing.{EntryStands};
+ghost use Rattle.wk_examples.specs.Cached.{cached, whole_race};
 ghost use Rattle.wk_examples.specs.Queues.{waiting};
 ghost use Rattle.wk_examples.specs.Stores.{title_a};
 ghost use Rattle.wk_examples.specs.Wikis.{title_p, at, jobs, race, race_4, race_5, race_6, race_11, race_12, includes_both, edit_of_a, restart_1, small};
@@ -30,6 +34,17 @@ pub fn a_refresh_that_is_current()
     ensures held { page_held_by race_11.jobs 11 ≡ Some 1 }
     ensures page { page_at race_11.history 1 ≡ Some (at title_p 1) }
     ensures done { step race_11 11 (Done 11) ≡ Some race_12 }
+{}
+
+/// P was read behind six events, and is still so at the end of the journal.
+pub fn a_cached_read_that_is_current()
+    ensures made { IsLastingEntry race_6 cached }
+    ensures seen { state_seen whole_race (length whole_race.journal) ≡ Some race_12 }
+    ensures formed { IsWellFormed race_12 }
+    ensures honest { IsHonestEntry race_12 cached }
+    ensures drafted { view (of_world (world_of race_6)) cached.reading.page ≡ done cached.reading.expanded cached.reading.reads }
+    ensures answers { All (λ (r : Read). IsTrue (fits_kind r.kind r.answer)) cached.reading.reads }
+    ensures none_stale { first_stale (world_of race_12) cached.reading.reads ≡ None }
 {}
 
 /// An edit that is accepted.

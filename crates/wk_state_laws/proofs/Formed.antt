@@ -151,7 +151,7 @@ module _ (title : PageTitle) (number : ℕ) where
     ])
   ]
 
-  numbered : (pages : List Page) → is_some (option_map (λ place. place + 1) (position is_it pages)) ≡ list_any is_it pages
+  pub numbered : (pages : List Page) → is_some (option_map (λ place. place + 1) (position is_it pages)) ≡ list_any is_it pages
   numbered pages = elim (cases_Bool (ltb (position_or_len is_it pages) (length pages))) [
     | inl within ↦ rw within (sym within ∙ placed-in pages)
     | inr past ↦ rw past (sym past ∙ placed-in pages)
