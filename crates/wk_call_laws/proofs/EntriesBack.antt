@@ -1,5 +1,5 @@
 -- Events that are read back from the entries that stand for them.
-use Rattle.std.proofs.Common.{◌≡◌, ℕ, zero, suc, ◌+◌, ◌-◌, ◌≤◌, ◌<◌, false, cond, eqb, List, [], ◌∷◌, ◌++◌, length, Option, Some, None, refl, sym, ap, ap₂, ◌∙◌, inl, inr, subst, arith}
+use Rattle.std.proofs.Common.{◌≡◌, ℕ, zero, suc, ◌+◌, ◌-◌, ◌≤◌, ◌<◌, true, false, cond, eqb, List, [], ◌∷◌, ◌++◌, length, Option, Some, None, refl, sym, ap, ap₂, ◌∙◌, inl, inr, subst, arith}
 use Rattle.std.specs.Prelude.{All, IsSome, is_some, option_map, slice_get, unwrap_or}
 use Rattle.std.specs.List.{AllByRecursion, cons_option}
 use Rattle.std.proofs.lemmas.Bool.{cases_Bool, ne_eqb}
@@ -267,3 +267,16 @@ told-one h e stands = let read = event-told h e stands in subst IsSome (sym read
 
 pub all-told : (state : State) (entries : List Entry) → All (EntryStands state.history) entries → All (IsTold state.history) entries
 all-told state entries = All-weaker (EntryStands state.history) (IsTold state.history) (told-one state.history) entries
+
+-- ---- as many events as entries
+
+counted : (o : Option Event) (events : List Event) (n : ℕ) → IsSome o → length events ≡ n → length (cons_option o events) ≡ suc n
+counted None events n some same = absurd (let e : false ≡ true = some in cc)
+counted (Some event) events n some same = ap suc same
+
+count-told : (h : History) (entries : List Entry) → AllByRecursion (IsTold h) entries → length (events_of h entries) ≡ length entries
+count-told h [] all = refl
+count-told h (entry ∷ entries) all = counted (event_of_entry h entry) (events_of h entries) (length entries) all.0 (count-told h entries all.1)
+
+pub count-standing : (state : State) (entries : List Entry) → All (EntryStands state.history) entries → length (events_of state.history entries) ≡ length entries
+count-standing state entries stand = count-told state.history entries (recursion_from_All (IsTold state.history) entries (all-told state entries stand))

@@ -74,6 +74,16 @@ number-stays most state next journal (Done ticket) other stepped some = number-s
 number-stays most state next journal (Back ticket) other stepped some = number-same state.history next.history other (history-given_back most state next journal ticket stepped)
 number-stays most state next journal Fan other stepped some = number-same state.history next.history other (history-fanned most state next journal stepped)
 
+pub number-kept : (most : ℕ) (state next : State) (journal : ℕ) (event : Event) (title : PageTitle) (page : ℕ) → step_by most state journal event ≡ Some next → page_number state.history title ≡ Some page → page_number next.history title ≡ Some page
+number-kept most state next journal event title page stepped is = number-stays most state next journal event title stepped (ap (λ o. is_some o) is) ∙ is
+
+pub number-replayed : (most : ℕ) (start last : State) (journal : ℕ) (events : List Event) (title : PageTitle) (page : ℕ) → replay_from most start journal events ≡ Some last → page_number start.history title ≡ Some page → page_number last.history title ≡ Some page
+number-replayed most start last journal [] title page replayed is =
+    let same : start ≡ last = cc in subst (λ (s : State). page_number s.history title ≡ Some page) same is
+number-replayed most start last journal (event ∷ events) title page replayed is =
+    option_and_then_some (λ next. replay_from most next (journal + 1) events) (step_by most start journal event) last replayed
+    (λ next stepped later. number-replayed most next last (journal + 1) events title page later (number-kept most start next journal event title page stepped is))
+
 -- ---- entries
 
 abbrev number_of : History → PageTitle → Option PageText → ℕ

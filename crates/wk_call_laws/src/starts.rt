@@ -24,7 +24,8 @@ pub fn a_start_is_told_by_the_present()
 {}
 
 /// The events that are read back from the entries of a journal are those that were made, and stay so whatever comes behind
-/// them. An event is read back behind those that stood, and the entries that stood are read back as before.
+/// them. An event is read back behind those that stood, and the entries that stood are read back as before. There are as
+/// many events as entries.
 pub fn events_are_read_back()
     ensures made { (most : ℕ) (start last : State) (journal : ℕ) (events : List Event)
         → replay_from most start journal events ≡ Some last
@@ -41,4 +42,6 @@ pub fn events_are_read_back()
         → All (EntryStands next.history) (entries ++ entries_from (next_revision state.history) (event ∷ [])) }
     ensures told { (state : State) (entries : List Entry)
         → All (EntryStands state.history) entries → All (IsTold state.history) entries }
+    ensures count { (state : State) (entries : List Entry)
+        → All (EntryStands state.history) entries → length (events_of state.history entries) ≡ length entries }
 {}

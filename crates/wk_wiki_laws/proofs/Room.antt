@@ -75,7 +75,7 @@ out-step-fan served state next journal done =
 
 -- ---- room
 
-room-step : (most : MostHeld) (served : ℕ) (state next : State) (journal : ℕ) (event : Event) → IsMade most state journal event → step_by served state journal event ≡ Some next → HasRoom most state journal → HasRoom most next (journal + 1)
+pub room-step : (most : MostHeld) (served : ℕ) (state next : State) (journal : ℕ) (event : Event) → IsMade most state journal event → step_by served state journal event ≡ Some next → HasRoom most state journal → HasRoom most next (journal + 1)
 room-step most served state next journal (Save title text moment) (by_save edit is) done room =
     let free = not-full most state journal (accept-room (is_journal_full most (journal_use state journal)) (judged state.history most edit) title text is) in
     let same = out-step-save served state next journal title text moment done in

@@ -49,3 +49,8 @@ drop-more (suc point) (event ∷ before) more one two = drop-more point before m
 pub seal-longer : (sealed : Option ℕ) (before more : List Event) → KeepsSeal sealed before → list_any is_save more ≡ false → KeepsSeal sealed (before ++ more)
 seal-longer None before more keeps none = tt
 seal-longer (Some point) before more keeps none = drop-more point before more keeps none
+
+-- no event stands behind the end of a journal
+pub sealed-now : (journal : List Event) → list_any is_save (drop (length journal) journal) ≡ false
+sealed-now [] = refl
+sealed-now (event ∷ journal) = sealed-now journal

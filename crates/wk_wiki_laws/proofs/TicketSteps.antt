@@ -1,9 +1,10 @@
 -- Which tickets are out after each event, and over a journal.
 use Rattle.std.proofs.Common.{◌≡◌, ◌≢◌, ℕ, ◌+◌, true, eqb, not, List, [], ◌∷◌, ◌++◌, length, map, Option, Some, None, refl, sym, ap, ◌∙◌, inl, inr, subst, arith}
-use Rattle.std.specs.Prelude.{find, option_map, option_and_then, is_some, nat_eq, IsSome}
+use Rattle.std.specs.Prelude.{find, option_map, option_and_then, is_some, nat_eq, slice_get, IsSome}
 use Rattle.std.specs.List.{AllByRecursion, IsDistinct, cons_option}
 use Rattle.std.proofs.lemmas.Bool.{cases_Bool, ne_eqb}
 use Rattle.std.proofs.lemmas.List.{length-append, append-nil, append_assoc}
+use Rattle.std.proofs.lemmas.Option.{option_and_then_some}
 use Rattle.wk_text_rules.specs.Titles.{PageTitle}
 use Rattle.wk_page_rules.specs.History.{can_save, page_exists, page_to_save}
 use Rattle.wk_job_rules.specs.Jobs.{RefreshEntry, FanEntry, IsOneAPage, is_queued, is_held_by, first_queued, first_fan, jobs_of, jobs_of_others, queued_again, refresh_queued, claimed_by, given_back, page_held_by}
@@ -12,9 +13,10 @@ use Rattle.wk_job_rules.proofs.JobLemmas.{IsOneAPage-claimed, IsOneAPage-given_b
 use Rattle.wk_state_rules.specs.States.{State}
 use Rattle.wk_state_rules.specs.Events.{Event, Save, Claim, Done, Back, Fan, stored_with, with_saved, with_refreshed, with_jobs, step_by}
 use Rattle.wk_state_rules.specs.Lives.{replay_from, replay_by, reopened}
+use Rattle.wk_wiki_rules.specs.Entries.{closes}
 use Rattle.wk_wiki_rules.specs.Room.{tickets_out}
 use Rattle.wk_wiki_laws.specs.Tickets.{tickets_of, IsOpenClaim}
-use Rattle.wk_wiki_laws.proofs.Parts.{replay-last}
+use Rattle.wk_wiki_laws.proofs.Parts.{replay-append, replay-last}
 use Rattle.wk_wiki_laws.proofs.Room.{given}
 use Rattle.wk_wiki_laws.proofs.TicketsOut.{held-ticket, held-job, refreshes-saved, refreshes-served}
 use Rattle.wk_wiki_laws.proofs.Tickets.{within-claim, pages-differ, find-claimed, find-all_queued, find-queued, find-filter, find-front, tickets-again, tickets-queued, tickets-all_queued, tickets_in, AreTickets, AreTickets-none, AreTickets-other, AreTickets-claim, AreTickets-closed}
@@ -214,6 +216,29 @@ ticket-stays served start state next events event ticket page one none before af
     let job = held-job state.jobs ticket page holds in
     let found = find-step served events state next event ticket job.0 stepped were.0 were.1 not_done not_back job.1.0 in
     ap (λ o. option_map (λ (j : RefreshEntry). j.page) o) found ∙ ap (λ n. Some n) job.1.1
+
+-- ---- many events
+
+get-at : (xs : List Event) (y : Event) (ys : List Event) → slice_get (xs ++ y ∷ ys) (length xs) ≡ Some y
+get-at [] y ys = refl
+get-at (x ∷ xs) y ys = get-at xs y ys
+
+pub ticket-held : (served : ℕ) (start state next : State) (events more : List Event) (ticket page : ℕ) → IsOneAPage start.jobs → tickets_out start ≡ 0 → replay_by served start events ≡ Some state → replay_by served start (events ++ more) ≡ Some next
+    → page_held_by state.jobs ticket ≡ Some page → IsOpenClaim (events ++ more) ticket → page_held_by next.jobs ticket ≡ Some page
+ticket-held served start state next events [] ticket page one none here there holds is_open =
+    let same : Some state ≡ Some next = sym here ∙ ap (replay_by served start) (sym (append-nil events)) ∙ there in
+    let at : state ≡ next = cc in
+    subst (λ (s : State). page_held_by s.jobs ticket ≡ Some page) at holds
+ticket-held served start state next events (event ∷ more) ticket page one none here there holds is_open =
+    let joins = append_assoc events (event ∷ []) more in
+    let whole : replay_by served start ((events ++ event ∷ []) ++ more) ≡ Some next = ap (replay_by served start) joins ∙ there in
+    let parts = replay-append served start 0 (events ++ event ∷ []) more in
+    option_and_then_some (λ middle. replay_from served middle (0 + length (events ++ event ∷ [])) more) (replay_from served start 0 (events ++ event ∷ [])) next (sym parts ∙ whole)
+    (λ middle first later.
+    let held_here = out-is-open served start state events ticket page one none here holds in
+    let apart = is_open.unclosed (length events) event (within-claim events ticket held_here) (get-at events event more) in
+    let stays = ticket-stays served start state middle events event ticket page one none here first holds (λ e. apart (ap closes e)) (λ e. apart (ap closes e)) in
+    ticket-held served start middle next (events ++ event ∷ []) more ticket page one none first whole stays (subst (λ (l : List Event). IsOpenClaim l ticket) (sym joins) is_open))
 
 -- ---- a restart
 

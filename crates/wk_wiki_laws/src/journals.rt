@@ -4,10 +4,10 @@ ghost use Rattle.std.specs.List.{IsDistinct};
 ghost use Rattle.wk_page_rules.specs.Verdict.{MostHeld, is_journal_full, max_job};
 ghost use Rattle.wk_job_rules.specs.Jobs.{IsOneAPage, page_held_by};
 ghost use Rattle.wk_state_rules.specs.States.{State};
-ghost use Rattle.wk_state_rules.specs.Events.{Event, Done, Back};
+ghost use Rattle.wk_state_rules.specs.Events.{Event, Done, Back, step_by};
 ghost use Rattle.wk_state_rules.specs.Lives.{replay_from, replay_by, reopened};
 ghost use Rattle.wk_state_rules.specs.Verdicts.{journal_use};
-ghost use Rattle.wk_wiki_rules.specs.Calls.{CallsMake};
+ghost use Rattle.wk_wiki_rules.specs.Calls.{CallsMake, IsMade};
 ghost use Rattle.wk_wiki_rules.specs.Room.{tickets_out, HasRoom};
 ghost use Rattle.wk_wiki_laws.specs.Tickets.{tickets_of, IsOpenClaim};
 
@@ -29,6 +29,9 @@ pub fn calls_make_a_journal()
 /// don't where no ticket is out at the start, as after a restart. The journal is full where they reach the limit, and
 /// never beyond it. While a ticket is out there is room for the event by which it comes in again.
 pub fn calls_leave_room()
+    ensures stepped { (served : ℕ) (most : MostHeld) (state next : State) (journal : ℕ) (event : Event)
+        → IsMade most state journal event → step_by served state journal event ≡ Some next
+        → HasRoom most state journal → HasRoom most next (journal + 1) }
     ensures room { (served : ℕ) (most : MostHeld) (start last : State) (events : List Event)
         → HasRoom most start 0 → CallsMake served most start events last → HasRoom most last (length events) }
     ensures full { (served : ℕ) (most : MostHeld) (start last : State) (events : List Event)
@@ -43,7 +46,8 @@ pub fn calls_leave_room()
 
 /// From a start at which no ticket is out, a ticket is out exactly where it is that of a claim in the journal that no
 /// later event closes. No two jobs have one ticket. A ticket stays out over each event that doesn't bring it in, and its
-/// job keeps its page. After a restart no ticket is out.
+/// job keeps its page; so a ticket that no event of a whole journal closes is still of the page that it was of. After a
+/// restart no ticket is out.
 pub fn tickets_are_open_claims()
     ensures out { (served : ℕ) (start last : State) (events : List Event) (ticket page : ℕ)
         → IsOneAPage start.jobs → tickets_out start ≡ 0 → replay_by served start events ≡ Some last
@@ -58,6 +62,11 @@ pub fn tickets_are_open_claims()
         → IsOneAPage start.jobs → tickets_out start ≡ 0 → replay_by served start events ≡ Some state
         → replay_by served start (events ++ event ∷ []) ≡ Some next
         → page_held_by state.jobs ticket ≡ Some page → event ≢ Done ticket → event ≢ Back ticket
+        → page_held_by next.jobs ticket ≡ Some page }
+    ensures held { (served : ℕ) (start state next : State) (events more : List Event) (ticket page : ℕ)
+        → IsOneAPage start.jobs → tickets_out start ≡ 0 → replay_by served start events ≡ Some state
+        → replay_by served start (events ++ more) ≡ Some next
+        → page_held_by state.jobs ticket ≡ Some page → IsOpenClaim (events ++ more) ticket
         → page_held_by next.jobs ticket ≡ Some page }
     ensures reopened { (state : State) (ticket : ℕ) → page_held_by (reopened state).jobs ticket ≡ None }
 {}

@@ -1,4 +1,4 @@
-use Rattle.wk_call_laws.proofs.EntriesBack.{all-stand, all-told, events-made, events-stay, events-stepped}
+use Rattle.wk_call_laws.proofs.EntriesBack.{all-stand, all-told, count-standing, events-made, events-stay, events-stepped}
 use Rattle.wk_call_laws.proofs.starts.events_are_read_back.Goals as goal
 
 pub returns-clause-made : goal.returns-clause-made
@@ -15,3 +15,6 @@ returns-clause-stand c = all-stand
 
 pub returns-clause-told : goal.returns-clause-told
 returns-clause-told c = all-told
+
+pub returns-clause-count : goal.returns-clause-count
+returns-clause-count c = count-standing

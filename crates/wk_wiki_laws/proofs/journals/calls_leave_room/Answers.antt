@@ -1,4 +1,4 @@
-use Rattle.wk_wiki_laws.proofs.Room.{room-calls, full-calls, back-calls, out-reopened}
+use Rattle.wk_wiki_laws.proofs.Room.{room-step, room-calls, full-calls, back-calls, out-reopened}
 use Rattle.wk_wiki_laws.proofs.journals.calls_leave_room.Goals as goal
 
 pub returns-clause-room : goal.returns-clause-room
@@ -12,3 +12,6 @@ returns-clause-give_back c = back-calls
 
 pub returns-clause-reopened : goal.returns-clause-reopened
 returns-clause-reopened c = out-reopened
+
+pub returns-clause-stepped : goal.returns-clause-stepped
+returns-clause-stepped c = λ served most. room-step most served

@@ -1,4 +1,4 @@
-use Rattle.wk_wiki_laws.proofs.TicketSteps.{out-is-open, open-is-out, tickets-differ, ticket-stays, none-reopened}
+use Rattle.wk_wiki_laws.proofs.TicketSteps.{out-is-open, open-is-out, tickets-differ, ticket-stays, ticket-held, none-reopened}
 use Rattle.wk_wiki_laws.proofs.journals.tickets_are_open_claims.Goals as goal
 
 pub returns-clause-out : goal.returns-clause-out
@@ -15,3 +15,6 @@ returns-clause-kept c = ticket-stays
 
 pub returns-clause-reopened : goal.returns-clause-reopened
 returns-clause-reopened c = none-reopened
+
+pub returns-clause-held : goal.returns-clause-held
+returns-clause-held c = ticket-held
