@@ -1,3 +1,4 @@
 pub mod Order
 pub mod RoundTrip
 pub mod FanOrder
+pub mod ClaimOrder

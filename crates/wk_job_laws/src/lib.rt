@@ -2,6 +2,8 @@
 //! Nothing here runs.
 #![tactic(auto)]
 
+mod claims;
+
 ghost use Rattle.std.specs.Prelude.{◌≡◌, List, ℕ};
 ghost use Rattle.wk_text_rules.specs.Titles.{PageTitle};
 ghost use Rattle.wk_row_rules.specs.declared.Reach.{Reach};
@@ -10,6 +12,8 @@ ghost use Rattle.wk_row_rules.specs.PageRows.{PageRows};
 ghost use Rattle.wk_job_rules.specs.Jobs.{FanEntry, JobLists, IsNumbered, no_jobs, refresh_queued, claimed_by, given_back, refresh_dropped, fan_set, fan_moved, fan_dropped};
 ghost use Rattle.wk_job_rules.specs.Steps.{after_save, after_serving, jobs_of_tables, rows_of_jobs, reopened_jobs};
 ghost use Rattle.wk_job_laws.specs.InOrder.{CanStand, IsInOrder};
+
+pub use claims::{claimed_jobs_stand_first, claims_stand_in_order};
 
 /// The job table that is written of the lists stands for the lists as a restart has them, where the fan jobs stand in
 /// the order of their numbers.

@@ -1,0 +1,6 @@
+pub mod Entries
+pub mod FanLists
+pub mod Numbered
+pub mod Places
+pub mod Sorting
+pub mod Written

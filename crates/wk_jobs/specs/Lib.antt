@@ -1,0 +1,10 @@
+pub mod Entries
+pub mod Fans
+pub mod Held
+pub mod HeldFans
+pub mod HeldJobs
+pub mod HeldRefreshes
+pub mod Refreshes
+pub mod Unclaimed
+pub use Rattle.wk_job_rules.specs.Jobs
+pub use Rattle.wk_job_rules.specs.Steps

@@ -1,0 +1,14 @@
+//! The jobs of a wiki: which pages are to be refreshed, which titles' users are to be, and in which order.
+#![tactic(auto)]
+
+mod fans;
+mod jobs;
+mod numbers;
+mod refreshes;
+#[cfg(test)]
+mod tests;
+
+pub use fans::FanJob;
+pub use jobs::Jobs;
+pub use refreshes::RefreshJob;
+pub use wk_job_rules::Left;
