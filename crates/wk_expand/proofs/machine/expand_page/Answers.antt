@@ -1,33 +1,38 @@
 use Rattle.std.proofs.Common.{◌≡◌, [], Some, None, option_map, refl, ap, sym, subst, ◌∙◌}
 use Rattle.std.specs.Option.{option_copied}
+use Rattle.wk_text_rules.specs.Titles.{PageTitle}
 use Rattle.wk_view_rules.specs.Expansions.{no_counters}
 use Rattle.wk_view_rules.specs.Plans.{done, noted}
 use Rattle.wk_view_rules.specs.Views.{view_plan}
-use Rattle.wk_view_rules.specs.Worlds.{ask, of_seen}
+use Rattle.wk_view_rules.specs.Worlds.{Agrees, ask, of_seen}
 use Rattle.wk_view_rules.specs.declared.Kind.TheVariants.{View}
 use Rattle.wk_expand.specs.Answers.{answer_of, read_with}
 use Rattle.wk_expand.specs.Drafts.{DraftShown, drafted}
 use Rattle.wk_expand.specs.Running.{needed}
-use Rattle.wk_expand.proofs.DraftLaws.{missing-done, view-answered, view-missing}
-use Rattle.wk_expand.proofs.drafting.draft_page.Goals as goal
+use Rattle.wk_expand.proofs.DraftLaws.{first-agrees, first-answer, missing-done, nothing-agrees, view-answered, view-missing}
+use Rattle.wk_expand.proofs.machine.expand_page.Goals as goal
 
 pub returns-in_default : goal.returns-in_default
 returns-in_default c =
     let missing : ask (of_seen c.args.seen.now) c.args.page.now View ≡ None =
     sym c.in_ok-answer.ensures.answer ∙ ap (λ o. option_map answer_of (option_copied o)) c.in_default.is
-    in
-    subst (λ t. needed (drafted (of_seen c.args.seen.now) c.args.page.now None) ≡ Some (t, View)) (sym c.in_ok-share.ensures)
-    (view-missing c.args.seen.now c.args.page.now missing)
+    in (
+      subst (λ (t : PageTitle). needed (drafted (of_seen c.args.seen.now) c.args.page.now None) ≡ Some (t, View)) (sym c.in_ok-share.ensures)
+          (view-missing c.args.seen.now c.args.page.now missing),
+      nothing-agrees c.args.seen.now,
+      tt,
+    )
 
-pub draft_behind-requires : goal.draft_behind-requires
-draft_behind-requires c =
-    view-answered c.args.seen.now c.args.page.now (answer_of c.in-Some.answer.now) (Some c.in-Some-text.text.now) c.note.new.self
-    (sym c.in_ok-answer.ensures.answer ∙ ap (λ o. option_map answer_of (option_copied o)) c.in-Some.is)
-    (sym c.text.ensures ∙ ap option_copied c.in-Some-text.is)
-    (c.in_ok-note.ensures ∙ ap (λ rs. noted rs (read_with c.args.page.now View (answer_of c.in-Some.answer.now))) c.new-reads.ensures)
+pub expand_text-requires-clause-left : goal.expand_text-requires-clause-left
+expand_text-requires-clause-left c =
+    let answer = answer_of c.in-Some.answer.now in
+    let reads = c.note.new.self in
+    let are : reads ≡ noted [] (read_with c.args.page.now View answer) = c.in_ok-note.ensures ∙ ap (λ rs. noted rs (read_with c.args.page.now View answer)) c.new-reads.ensures in
+    λ later h. view-answered later c.args.page.now answer (Some c.in-Some-text.text.now) reads (first-answer later c.args.page.now answer reads are h)
+    (sym c.text.ensures ∙ ap option_copied c.in-Some-text.is) are
 
-pub draft_missing-requires : goal.draft_missing-requires
-draft_missing-requires c =
+pub made-requires : goal.made-requires
+made-requires c =
     let ends =
     view-answered c.args.seen.now c.args.page.now (answer_of c.in-Some.answer.now) None c.note.new.self
     (sym c.in_ok-answer.ensures.answer ∙ ap (λ o. option_map answer_of (option_copied o)) c.in-Some.is)
@@ -37,8 +42,8 @@ draft_missing-requires c =
     in
     record { everywhere = λ source agrees. c.done_by_the_reads_alone.ensures.plan (of_seen c.args.seen.now) source (view_plan c.args.page.now) (record { out = []; counters = no_counters }) c.note.new.self ends agrees }
 
-pub returns-in_ok-draft_missing-in-None : goal.returns-in_ok-draft_missing-in-None
-returns-in_ok-draft_missing-in-None c =
+pub returns-in_ok-draft-in-None : goal.returns-in_ok-draft-in-None
+returns-in_ok-draft-in-None c =
     let ends =
     view-answered c.args.seen.now c.args.page.now (answer_of c.in-Some.answer.now) None c.note.new.self
     (sym c.in_ok-answer.ensures.answer ∙ ap (λ o. option_map answer_of (option_copied o)) c.in-Some.is)
@@ -46,5 +51,5 @@ returns-in_ok-draft_missing-in-None c =
     (c.in_ok-note.ensures ∙ ap (λ rs. noted rs (read_with c.args.page.now View (answer_of c.in-Some.answer.now))) c.new-reads.ensures)
     ∙ missing-done c.args.seen.now c.args.page.now c.note.new.self
     in
-    subst (λ (d : DraftShown). (d.page ≡ c.args.page.now) × (d.given ≡ None) × (drafted (of_seen c.args.seen.now) c.args.page.now None ≡ done d.expanded d.reads)) (sym c.in_ok-draft_missing-in-None.ensures)
+    subst (λ (d : DraftShown). (d.page ≡ c.args.page.now) × (d.given ≡ None) × (drafted (of_seen c.args.seen.now) c.args.page.now None ≡ done d.expanded d.reads)) (sym c.in_ok-draft-in-None.ensures)
     (refl, refl, ends)
