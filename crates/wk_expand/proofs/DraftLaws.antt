@@ -164,6 +164,7 @@ LeftBy seen page given (NeedsTurn title kind next) u =
     (needed (drafted (of_seen seen) page given) ≡ Some (title, kind)) × IsLeft page given u next × Agrees (of_seen seen) u.expander.reads
 
 pub turn-left : (seen : Seen) (page : PageTitle) (given : Option (List ℕ)) (w u : Work) (now : Now) (turn : Turn) → (h : IsLeft page given w now) → Agrees (of_seen seen) w.expander.reads → IsTurn seen h.rest w.expander turn u → LeftBy seen page given turn u
+unfolding left-on
 turn-left seen page given w u now (On next) h agrees k = (left-on seen page given w u now next h k.0 agrees k.1 k.2, (k.2 agrees).answered)
 turn-left seen page given w u now (Done out) h agrees k = left-done seen page given w u now h out agrees k
 turn-left seen page given w u now (NeedsTurn title kind next) h agrees k =

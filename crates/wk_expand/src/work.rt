@@ -118,16 +118,14 @@ impl Work {
         ensures { IfOk result (λ turn. (seen : Answers) (e : Expansion Output)
             → IsEnded self.old out e → IsTurn seen e self.old.expander turn self.new) }
     {
-        let Some(
-            Opened {
-                node,
-                behind,
-                waiting,
-            },
-        ) = self.opened.pop()
-        else {
+        let Some(top) = self.opened.pop() else {
             return Ok(Turn::Done(out));
         };
+        let Opened {
+            node,
+            behind,
+            waiting,
+        } = top;
         let next = self.expander.finished(node, waiting, out)?;
         Ok(self.follow(node, behind, next)?)
     }

@@ -1,7 +1,9 @@
 use Rattle.std.proofs.Common.{◌≡◌, [], Some, None, option_map, refl, ap, sym, subst, ◌∙◌}
 use Rattle.std.specs.Option.{option_copied}
 use Rattle.wk_text_rules.specs.Titles.{PageTitle}
-use Rattle.wk_view_rules.specs.Expansions.{no_counters}
+use Rattle.wk_view_rules.specs.Expansions.{Output}
+use Rattle.wk_expand.specs.Kept.{expanded_with}
+use Rattle.wk_expand.specs.declared.answer.Counts.{Counts}
 use Rattle.wk_view_rules.specs.Plans.{done, noted}
 use Rattle.wk_view_rules.specs.Views.{view_plan}
 use Rattle.wk_view_rules.specs.Worlds.{Agrees, ask, of_seen}
@@ -33,23 +35,37 @@ expand_text-requires-clause-left c =
 
 pub made-requires : goal.made-requires
 made-requires c =
+    let seen = c.args.seen.now in
+    let page = c.args.page.now in
+    let reads = c.note.new.self in
+    let none : Counts = record { nodes = 0; include = 0; argument = 0; exists = 0 } in
     let ends =
-    view-answered c.args.seen.now c.args.page.now (answer_of c.in-Some.answer.now) None c.note.new.self
+    view-answered seen page (answer_of c.in-Some.answer.now) None reads
     (sym c.in_ok-answer.ensures.answer ∙ ap (λ o. option_map answer_of (option_copied o)) c.in-Some.is)
     (sym c.text.ensures ∙ ap option_copied c.in-None.is)
-    (c.in_ok-note.ensures ∙ ap (λ rs. noted rs (read_with c.args.page.now View (answer_of c.in-Some.answer.now))) c.new-reads.ensures)
-    ∙ missing-done c.args.seen.now c.args.page.now c.note.new.self
+    (c.in_ok-note.ensures ∙ ap (λ rs. noted rs (read_with page View (answer_of c.in-Some.answer.now))) c.new-reads.ensures)
+    ∙ missing-done seen page reads
     in
-    record { everywhere = λ source agrees. c.done_by_the_reads_alone.ensures.plan (of_seen c.args.seen.now) source (view_plan c.args.page.now) (record { out = []; counters = no_counters }) c.note.new.self ends agrees }
+    let drafts : drafted (of_seen seen) page None ≡ done (expanded_with c.new.result none) reads =
+    subst (λ (o : Output). drafted (of_seen seen) page None ≡ done (expanded_with o none) reads) (sym c.new.ensures) ends
+    in
+    record { everywhere = λ source agrees. c.done_by_the_reads_alone.ensures.plan (of_seen seen) source (view_plan page) (expanded_with c.new.result none) reads drafts agrees }
 
 pub returns-in_ok-draft-in-None : goal.returns-in_ok-draft-in-None
 returns-in_ok-draft-in-None c =
+    let seen = c.args.seen.now in
+    let page = c.args.page.now in
+    let reads = c.note.new.self in
+    let none : Counts = record { nodes = 0; include = 0; argument = 0; exists = 0 } in
     let ends =
-    view-answered c.args.seen.now c.args.page.now (answer_of c.in-Some.answer.now) None c.note.new.self
+    view-answered seen page (answer_of c.in-Some.answer.now) None reads
     (sym c.in_ok-answer.ensures.answer ∙ ap (λ o. option_map answer_of (option_copied o)) c.in-Some.is)
     (sym c.text.ensures ∙ ap option_copied c.in-None.is)
-    (c.in_ok-note.ensures ∙ ap (λ rs. noted rs (read_with c.args.page.now View (answer_of c.in-Some.answer.now))) c.new-reads.ensures)
-    ∙ missing-done c.args.seen.now c.args.page.now c.note.new.self
+    (c.in_ok-note.ensures ∙ ap (λ rs. noted rs (read_with page View (answer_of c.in-Some.answer.now))) c.new-reads.ensures)
+    ∙ missing-done seen page reads
     in
-    subst (λ (d : DraftShown). (d.page ≡ c.args.page.now) × (d.given ≡ None) × (drafted (of_seen c.args.seen.now) c.args.page.now None ≡ done d.expanded d.reads)) (sym c.in_ok-draft-in-None.ensures)
-    (refl, refl, ends)
+    let drafts : drafted (of_seen seen) page None ≡ done (expanded_with c.new.result none) reads =
+    subst (λ (o : Output). drafted (of_seen seen) page None ≡ done (expanded_with o none) reads) (sym c.new.ensures) ends
+    in
+    subst (λ (d : DraftShown). (d.page ≡ page) × (d.given ≡ None) × (drafted (of_seen seen) page None ≡ done d.expanded d.reads)) (sym c.in_ok-draft-in-None.ensures)
+    (refl, refl, drafts)

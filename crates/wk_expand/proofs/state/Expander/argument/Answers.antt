@@ -1,9 +1,9 @@
-use Rattle.std.proofs.Common.{◌≡◌, ◌<◌, ◌++◌, [], None, Some, length, codes, refl, sym, ap, arith, ◌∙◌}
+use Rattle.std.proofs.Common.{◌≡◌, ◌++◌, None, Some, length, codes, refl, sym, ap, arith, ◌∙◌}
 use Rattle.wk_text_rules.specs.Marked.{all_plain, trimmed_output}
 use Rattle.wk_view_rules.specs.Expand.{argument_output, argument_value, whole_part}
-use Rattle.wk_view_rules.specs.Expansions.{Expansion, Output, give, ◌>>=◌}
+use Rattle.wk_view_rules.specs.Expansions.{Output, give}
 use Rattle.wk_view_rules.specs.Frames.{bound_to}
-use Rattle.wk_expand.specs.Stack.{Place, parts_at, whole_behind}
+use Rattle.wk_expand.specs.Stack.{parts_at, whole_behind}
 use Rattle.wk_expand.specs.State.{caller_tree}
 use Rattle.wk_expand.proofs.ArgumentLaws.{argument-bound, argument-default, argument-written, binding-none, binding-some}
 use Rattle.wk_expand.proofs.LeadLaws.{count-here, frame-here, leads-give, leads-in, part-requires, part-within}

@@ -2,10 +2,8 @@ use Rattle.std.proofs.Common.{drop, sym, ap, ◌∙◌}
 use Rattle.wk_text_rules.specs.Marked.{trimmed_output}
 use Rattle.wk_view_rules.specs.Expand.{Search as Rule, behind_bare_item, switch_output}
 use Rattle.wk_expand.specs.Searches.{search_of}
-use Rattle.wk_expand.specs.State.{current}
 use Rattle.wk_expand.specs.Stack.{parts_at, text_at}
 use Rattle.wk_expand.proofs.LeadLaws.{leads-in}
-use Rattle.wk_expand.proofs.SwitchLaws.{default-kept}
 use Rattle.wk_expand.proofs.state.Expander.bare_item.Goals as goal
 
 pub returns : goal.returns

@@ -1,16 +1,14 @@
-use Rattle.std.proofs.Common.{◌≡◌, ◌++◌, ◌+◌, ◌≤◌, ◌∷◌, List, Some, IsSome, suc, drop, false, true, refl, sym, ap, subst, arith, ◌∙◌}
+use Rattle.std.proofs.Common.{◌≡◌, ◌++◌, ◌+◌, ◌∷◌, List, IsSome, suc, drop, false, refl, sym, ap, subst, arith, ◌∙◌}
 use Rattle.std.specs.Prelude.{decimal, is_some}
 use Rattle.std.proofs.lemmas.List.{drop_all}
 use Rattle.wk_text_rules.specs.Marked.{plain_text_of, trimmed_output}
 use Rattle.wk_tree.specs.Parsed.{part_with}
-use Rattle.wk_tree_rules.specs.Tree.{Part}
 use Rattle.wk_view_rules.specs.Expand.{with_bindings}
 use Rattle.wk_view_rules.specs.Expansions.{Expansion, Output, ◌>>=◌}
 use Rattle.wk_view_rules.specs.Frames.{Binding}
-use Rattle.wk_expand.specs.Bindings.{named_binding}
 use Rattle.wk_expand.specs.Levels.{HasLists}
 use Rattle.wk_expand.specs.Stack.{included_with, parts_at, text_at}
-use Rattle.wk_expand.specs.State.{IsBinding, ShowsBindings, current}
+use Rattle.wk_expand.specs.State.{IsBinding, ShowsBindings}
 use Rattle.wk_expand.specs.declared.levels.Bound.{Bound}
 use Rattle.wk_expand.specs.declared.stack.Binder.{Binder}
 use Rattle.wk_expand.specs.declared.stack.Waiting.TheVariants.{Binding as BindingOf}

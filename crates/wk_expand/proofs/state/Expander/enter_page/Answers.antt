@@ -1,9 +1,9 @@
-use Rattle.std.proofs.Common.{◌≡◌, ◌++◌, Some, ◌∷◌, [], refl, sym, ap, subst, ◌∙◌}
+use Rattle.std.proofs.Common.{◌++◌, Some, ◌∷◌, refl, sym, ap, subst, ◌∙◌}
 use Rattle.wk_tree.specs.Parsed.{ParsedText, tree_of}
 use Rattle.wk_tree_rules.specs.Tree.{tree}
 use Rattle.wk_tree_rules.specs.declared.Mode.TheVariants as mode
 use Rattle.wk_view_rules.specs.Expansions.{Expansion, Output, inclusion_within_limit, ◌>>=◌}
-use Rattle.wk_expand.specs.Stack.{included_with, text_at}
+use Rattle.wk_expand.specs.Stack.{included_with}
 use Rattle.wk_expand.specs.State.{ShowsBindings, progress_of}
 use Rattle.wk_expand.specs.declared.levels.Level.{Level}
 use Rattle.wk_expand.proofs.LeadLaws.{frame-here, text-here}

@@ -1,7 +1,7 @@
-use Rattle.std.proofs.Common.{◌≡◌, ◌<◌, ◌++◌, [], None, Some, refl, sym, ap, arith, ◌∙◌}
+use Rattle.std.proofs.Common.{◌++◌, None, Some, refl, sym, ap, arith, ◌∙◌}
 use Rattle.std.proofs.lemmas.Option.{slice_get_past}
 use Rattle.wk_text_rules.specs.Marked.{trimmed_output}
-use Rattle.wk_view_rules.specs.Expand.{function_output, operand, whole_part}
+use Rattle.wk_view_rules.specs.Expand.{function_output, whole_part}
 use Rattle.wk_view_rules.specs.Expansions.{Expansion, Output, ◌>>=◌}
 use Rattle.wk_view_rules.specs.declared.Func.TheVariants.{IfEq}
 use Rattle.wk_expand.specs.Stack.{parts_at, whole_behind}

@@ -1,6 +1,6 @@
-use Rattle.std.proofs.Common.{◌≡◌, ◌+◌, subst, sym}
+use Rattle.std.proofs.Common.{◌+◌}
 use Rattle.wk_expand.specs.State.{current}
-use Rattle.wk_expand.proofs.ListLaws.{IsAdded, added-as, added-nothing, added-plain, added-sealed, filled-end, filled-node}
+use Rattle.wk_expand.proofs.ListLaws.{added-as, added-nothing, added-plain, added-sealed, filled-end, filled-node}
 use Rattle.wk_expand.proofs.state.Expander.fill.Goals.{in-Plain+in_ok-push_source-in-Plain, in-Sealed+in_ok-push_source-in-Sealed, in-Nothing}
 use Rattle.wk_expand.proofs.state.Expander.fill.Goals as goal
 

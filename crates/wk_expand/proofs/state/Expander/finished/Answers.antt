@@ -1,25 +1,22 @@
-use Rattle.std.proofs.Common.{◌≡◌, ◌<◌, ◌++◌, ◌∷◌, ◌+◌, codes, drop, Some, IsSome, length, refl, sym, ap, ap₂, subst, arith, ◌∙◌}
-use Rattle.std.specs.Bool.{if◌then◌else◌}
-use Rattle.wk_text_rules.specs.Marked.{all_plain, plain_text_of, trimmed_output}
+use Rattle.std.proofs.Common.{◌≡◌, ◌++◌, codes, drop, IsSome, refl, sym, ap, ap₂, subst, ◌∙◌}
+use Rattle.wk_text_rules.specs.Marked.{plain_text_of, trimmed_output}
 use Rattle.wk_tree.specs.Parsed.{list_with, node_with}
 use Rattle.wk_tree.specs.declared.item.NodeId.{NodeId}
 use Rattle.wk_view_rules.specs.Expand.{behind_bare_item, switch_output}
-use Rattle.wk_view_rules.specs.Expansions.{Expansion, Output, argument_within_limit, give, inclusion_within_limit, ◌>>=◌}
+use Rattle.wk_view_rules.specs.Expansions.{Output, argument_within_limit, give, inclusion_within_limit, ◌>>=◌}
 use Rattle.wk_view_rules.specs.Words.{named_item}
-use Rattle.wk_view_rules.specs.Worlds.{Seen}
 use Rattle.wk_expand.specs.Bindings.{named_binding}
-use Rattle.wk_expand.specs.Levels.{HasLists, LevelsShown, tree_in}
-use Rattle.wk_expand.specs.Searches.{HasDefault, behind_turned, search_of}
-use Rattle.wk_expand.specs.Stack.{AreWithin, IsHere, IsRest, LeadsTo, Place, Waits, parts_at, searched, text_at}
+use Rattle.wk_expand.specs.Levels.{HasLists, LevelsShown}
+use Rattle.wk_expand.specs.Searches.{behind_turned, search_of}
+use Rattle.wk_expand.specs.Stack.{AreWithin, IsHere, IsRest, Place, Waits, parts_at, searched, text_at}
 use Rattle.wk_expand.specs.State.{ShowsBindings, current}
 use Rattle.wk_expand.specs.declared.stack.Waiting.{Waiting}
 use Rattle.wk_expand.specs.declared.stack.Waiting.TheVariants.{Part as PartOf}
 use Rattle.wk_expand.specs.declared.state.Expander.{Expander}
 use Rattle.wk_expand.proofs.BindLaws.{has-named, shows-named}
-use Rattle.wk_expand.proofs.LeadLaws.{leads-in, leads-list, node-here, text-here, waits-here}
+use Rattle.wk_expand.proofs.LeadLaws.{leads-in, leads-list, node-here, waits-here}
 use Rattle.wk_expand.proofs.PartLaws.{some_of}
 use Rattle.wk_expand.proofs.RunLaws.{passes-as, passes-in, passes-levels}
-use Rattle.wk_expand.proofs.WrittenLaws.{bind-same}
 use Rattle.wk_expand.proofs.state.Expander.finished.Goals as goal
 
 -- where the node stands, and what it does, by what it waits for

@@ -1,13 +1,11 @@
 use Rattle.std.proofs.Common.{[], ◌≡◌, Some, None, sym, ap, subst, refl, ◌∙◌}
-use Rattle.std.proofs.lemmas.Result.{on_ok_weaker}
 use Rattle.wk_tree_rules.specs.Redirects.{redirect_target}
 use Rattle.wk_view_rules.specs.Expand.{included_text, included, redirected}
 use Rattle.wk_view_rules.specs.Expansions.{give}
 use Rattle.wk_view_rules.specs.Texts.{node_error}
-use Rattle.wk_expand.specs.Inclusions.{found_rest}
-use Rattle.wk_expand.specs.Running.{ComesTo, IsSame}
+use Rattle.wk_expand.specs.Running.{ComesTo}
 use Rattle.wk_expand.specs.State.{progress_of}
-use Rattle.wk_expand.proofs.RunLaws.{comes-as, gives-then, leads-on, frame-same, same-on}
+use Rattle.wk_expand.proofs.RunLaws.{comes-as, gives-then}
 use Rattle.wk_expand.proofs.InclusionLaws.{included_text-by, redirect-comes}
 use Rattle.wk_expand.proofs.state.Expander.included_text.Goals as goal
 

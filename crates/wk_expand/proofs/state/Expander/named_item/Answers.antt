@@ -1,10 +1,9 @@
-use Rattle.std.proofs.Common.{◌≡◌, drop, sym, ap, subst, refl, ◌∙◌}
+use Rattle.std.proofs.Common.{drop, sym, ap, ◌∙◌}
 use Rattle.wk_text_rules.specs.Marked.{trimmed_output}
-use Rattle.wk_view_rules.specs.Expand.{switch_output, trimmed_items}
+use Rattle.wk_view_rules.specs.Expand.{switch_output}
 use Rattle.wk_view_rules.specs.Expansions.{Output}
 use Rattle.wk_view_rules.specs.Words.{named_item}
 use Rattle.wk_expand.specs.Searches.{behind_turned, search_of}
-use Rattle.wk_expand.specs.State.{current}
 use Rattle.wk_expand.specs.Stack.{parts_at, searched, text_at}
 use Rattle.wk_expand.proofs.LeadLaws.{leads-in, leads-trimmed}
 use Rattle.wk_expand.proofs.state.Expander.named_item.Goals as goal

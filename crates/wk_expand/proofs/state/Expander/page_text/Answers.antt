@@ -1,6 +1,6 @@
-use Rattle.std.proofs.Common.{◌≡◌, ◌/◌, ◌+◌, [], refl, sym, ap, subst, ◌∙◌, arith, length}
-use Rattle.wk_view_rules.specs.Expand.{included, with_bindings}
-use Rattle.wk_view_rules.specs.Expansions.{Expansion, Output, charged, give}
+use Rattle.std.proofs.Common.{◌/◌, [], refl, sym, subst, arith, length}
+use Rattle.wk_view_rules.specs.Expand.{included}
+use Rattle.wk_view_rules.specs.Expansions.{charged, give}
 use Rattle.wk_view_rules.specs.Texts.{node_error}
 use Rattle.wk_expand.specs.Running.{ComesTo}
 use Rattle.wk_expand.specs.Stack.{parts_at, text_at}

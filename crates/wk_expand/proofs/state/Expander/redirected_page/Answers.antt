@@ -1,4 +1,4 @@
-use Rattle.std.proofs.Common.{◌≡◌, refl, sym, ap, subst, ◌∙◌}
+use Rattle.std.proofs.Common.{sym, ap, subst}
 use Rattle.std.proofs.lemmas.Result.{err_from_is_err_and}
 use Rattle.wk_text_rules.specs.Titles.{PageTitle}
 use Rattle.wk_view_rules.specs.Expand.{included, redirected}
@@ -8,7 +8,6 @@ use Rattle.wk_expand.specs.Stack.{parts_at}
 use Rattle.wk_expand.specs.declared.inclusion.Found.{Found}
 use Rattle.wk_expand.specs.declared.stack.Pending.TheVariants.{Target}
 use Rattle.wk_expand.proofs.LeadLaws.{frame-here, here-later, leads-behind, leads-comes, leads-goes, leads-stop}
-use Rattle.wk_expand.proofs.NodeLaws.{node-there}
 use Rattle.wk_expand.proofs.state.Expander.redirected_page.Goals as goal
 
 pub returns-in_err-out-clause-leads : goal.returns-in_err-out-clause-leads

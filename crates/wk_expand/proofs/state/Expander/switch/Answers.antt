@@ -1,4 +1,4 @@
-use Rattle.std.proofs.Common.{◌≡◌, ◌++◌, ◌+◌, ◌∷◌, drop, refl, sym, ap, subst, arith, IsSome, ◌∙◌}
+use Rattle.std.proofs.Common.{◌++◌, ◌+◌, drop, refl, sym, ap, subst, arith, IsSome, ◌∙◌}
 use Rattle.std.proofs.lemmas.List.{drop_all}
 use Rattle.wk_text_rules.specs.Marked.{trimmed_output}
 use Rattle.wk_tree.specs.Parsed.{part_with}

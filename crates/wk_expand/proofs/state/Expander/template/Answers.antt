@@ -1,19 +1,14 @@
-use Rattle.std.proofs.Common.{◌≡◌, length, sym, ap, subst, refl, Ok, Err, ◌∙◌}
+use Rattle.std.proofs.Common.{◌≡◌, length, sym, ap, refl}
 use Rattle.std.proofs.lemmas.Result.{err_from_is_err_and}
-use Rattle.wk_tree.specs.Parsed.{node_with}
-use Rattle.wk_view_rules.specs.Expand.{included, switch_output, template_output}
+use Rattle.wk_view_rules.specs.Expand.{switch_output, template_output}
 use Rattle.wk_expand.specs.Searches.{search_of}
 use Rattle.wk_expand.specs.declared.search.Search.{Search}
-use Rattle.wk_view_rules.specs.Expansions.{Expansion, Output, give}
-use Rattle.wk_expand.specs.Decisions.{Further, decision_rest}
-use Rattle.wk_expand.specs.Running.{ComesTo}
-use Rattle.wk_expand.specs.Stack.{IsHere, Place, parts_at, text_at}
+use Rattle.wk_expand.specs.Decisions.{decision_rest}
+use Rattle.wk_expand.specs.Stack.{parts_at, text_at}
 use Rattle.wk_expand.specs.declared.decide.Decision.{Decision}
 use Rattle.wk_expand.specs.declared.decide.Decision.TheVariants.{Gives, Operand, Equality, Switch, Written, Includes, Redirects}
-use Rattle.wk_expand.specs.declared.stack.Next.TheVariants.{Goes}
 use Rattle.wk_expand.specs.declared.stack.Pending.TheVariants.{Target}
 use Rattle.wk_expand.proofs.LeadLaws.{count-here, frame-here, here-later, leads-behind, leads-comes, leads-goes, leads-in, leads-stop}
-use Rattle.wk_expand.proofs.NodeLaws.{node-there}
 use Rattle.wk_expand.proofs.TemplateLaws.{decided-comes}
 use Rattle.wk_expand.proofs.state.Expander.template.Goals as goal
 

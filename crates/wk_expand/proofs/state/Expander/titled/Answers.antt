@@ -1,9 +1,9 @@
 use Rattle.std.proofs.Common.{◌≡◌, sym, ◌∙◌}
 use Rattle.wk_tree.specs.Tokens.{is_argument}
-use Rattle.wk_view_rules.specs.Expand.{argument_output, kind_output, template_output}
+use Rattle.wk_view_rules.specs.Expand.{argument_output, kind_output}
 use Rattle.wk_expand.specs.Stack.{parts_at, text_at}
-use Rattle.wk_expand.proofs.LeadLaws.{leads-in, leads-other, text-here}
-use Rattle.wk_expand.proofs.NodeLaws.{kind-argument, kind-is, kind-template}
+use Rattle.wk_expand.proofs.LeadLaws.{leads-in, text-here}
+use Rattle.wk_expand.proofs.NodeLaws.{kind-argument, kind-is}
 use Rattle.wk_expand.proofs.state.Expander.titled.Goals as goal
 
 pub returns-then-argument-clause-leads : goal.returns-then-argument-clause-leads

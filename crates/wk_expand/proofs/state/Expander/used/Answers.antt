@@ -1,5 +1,4 @@
-use Rattle.std.proofs.Common.{◌≡◌, drop, refl, sym, ap, subst, ◌∙◌}
-use Rattle.wk_view_rules.specs.Expansions.{Expansion, Output}
+use Rattle.std.proofs.Common.{drop, refl, sym, ap, subst, ◌∙◌}
 use Rattle.wk_text_rules.specs.Marked.{trimmed_output}
 use Rattle.wk_expand.specs.Nodes.{rest_written}
 use Rattle.wk_expand.specs.Stack.{IsUse, parts_at}

@@ -1,16 +1,13 @@
-use Rattle.std.proofs.Common.{◌≡◌, ◌/◌, ◌++◌, [], ◌∷◌, refl, sym, ap, subst, ◌∙◌}
-use Rattle.std.specs.Bool.{if◌then◌else◌}
-use Rattle.wk_text_rules.specs.Marked.{trimmed_output}
+use Rattle.std.proofs.Common.{◌≡◌, ◌/◌, ◌++◌, [], ◌∷◌, refl, sym, ap, ◌∙◌}
 use Rattle.wk_view_rules.specs.Expand.{argument_value}
-use Rattle.wk_view_rules.specs.Expansions.{Expansion, Output, argument_within_limit, charged, give, ◌>>=◌}
+use Rattle.wk_view_rules.specs.Expansions.{Expansion, Output, charged, give, ◌>>=◌}
 use Rattle.wk_view_rules.specs.Frames.{binding_length, caller}
 use Rattle.wk_view_rules.specs.Texts.{node_error}
-use Rattle.wk_expand.specs.Levels.{HasLists, LevelsShown, tree_in}
 use Rattle.wk_expand.specs.Running.{ComesTo}
 use Rattle.wk_expand.specs.State.{progress_of}
 use Rattle.wk_expand.proofs.LeadLaws.{frame-here, here-later, leads-comes}
 use Rattle.wk_expand.proofs.PageLaws.{behind_value, charged-as, frame-left, list-left, run_value, value-is, within-same}
-use Rattle.wk_expand.proofs.RunLaws.{comes-in, gives-then, passes-at, passes-on, passes-out}
+use Rattle.wk_expand.proofs.RunLaws.{comes-in, gives-then, passes-at, passes-on}
 use Rattle.wk_expand.proofs.WrittenLaws.{bind-same}
 use Rattle.wk_expand.proofs.state.Expander.value.Goals as goal
 

@@ -1,6 +1,6 @@
 use Rattle.std.proofs.Common.{refl}
 use Rattle.wk_view_rules.specs.Expand.{whole_part}
-use Rattle.wk_view_rules.specs.Expansions.{Output, Expansion, ◌>>=◌}
+use Rattle.wk_view_rules.specs.Expansions.{◌>>=◌}
 use Rattle.std.proofs.Common.{◌++◌}
 use Rattle.wk_expand.specs.Stack.{text_at}
 use Rattle.wk_expand.specs.declared.stack.Waiting.TheVariants.{Name, Part as PartOf}

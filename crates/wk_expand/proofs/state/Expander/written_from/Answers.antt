@@ -1,4 +1,4 @@
-use Rattle.std.proofs.Common.{◌≡◌, ◌++◌, ◌+◌, codes, drop, length, refl, sym, ap, arith, ◌∙◌, append_assoc}
+use Rattle.std.proofs.Common.{◌++◌, ◌+◌, codes, drop, refl, sym, ap, arith, ◌∙◌}
 use Rattle.std.proofs.lemmas.List.{drop_all}
 use Rattle.wk_text_rules.specs.Marked.{all_plain}
 use Rattle.wk_view_rules.specs.Expand.{whole_part}

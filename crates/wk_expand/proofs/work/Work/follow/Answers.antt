@@ -1,6 +1,4 @@
 use Rattle.std.proofs.Common.{◌++◌, refl, sym, subst}
-use Rattle.std.proofs.Common.{reverse}
-use Rattle.wk_view_rules.specs.Expansions.{Expansion, Output}
 use Rattle.wk_expand.specs.Stack.{IsNext}
 use Rattle.wk_expand.specs.Work.{IsGoing, IsTurn}
 use Rattle.wk_expand.specs.declared.stack.Listing.{Listing}

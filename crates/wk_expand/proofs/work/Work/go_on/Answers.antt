@@ -1,9 +1,9 @@
-use Rattle.std.proofs.Common.{◌≡◌, Ok, Err, Result, IsSome, refl, sym, ap, subst}
+use Rattle.std.proofs.Common.{◌≡◌, Err, Result, IsSome, refl, ap, subst}
 use Rattle.wk_tree.specs.Parsed.{node_with}
 use Rattle.wk_view_rules.specs.Expand.{kind_output, redirected}
 use Rattle.wk_view_rules.specs.Expansions.{Expansion, Output}
 use Rattle.wk_expand.specs.Running.{Keeps}
-use Rattle.wk_expand.specs.Stack.{IsHere, IsNext, LeadsOn, Place, parts_at}
+use Rattle.wk_expand.specs.Stack.{IsNext, LeadsOn, Place, parts_at}
 use Rattle.wk_expand.specs.State.{current}
 use Rattle.wk_expand.specs.Work.{IsGoing, place_of}
 use Rattle.wk_expand.specs.declared.stack.Listing.{Listing}
@@ -13,7 +13,6 @@ use Rattle.wk_expand.specs.declared.stack.Pending.{Pending}
 use Rattle.wk_expand.specs.declared.stack.Pending.TheVariants.{Named, Target, Binds}
 use Rattle.wk_expand.specs.declared.state.Expander.{Expander}
 use Rattle.wk_expand.specs.declared.state.Stop.{Stop}
-use Rattle.wk_expand.specs.declared.state.Stop.TheVariants.{Needs}
 use Rattle.wk_expand.specs.declared.work.Work.{Work}
 use Rattle.wk_tree.specs.declared.item.NodeId.{NodeId}
 use Rattle.wk_expand.proofs.LeadLaws.{node-here}
@@ -57,8 +56,8 @@ returns-in-Err-Needs c =
     let same : u.expander ≡ w.expander = subst (λ (s : Stop). Keeps {X = Next} (Err s) w.expander u.expander) c.in-Err-Needs.field-0-is kept in
     going-needs seen w u id c.args.behind (Named c.in-Named.name) c.in-Err-Needs.title c.in-Err-Needs.kind e rest k k.rest_is.1 (ap (λ (x : Expander). record w { expander = x }) same) stops
 
-pub returns-in_ok-follow-in-Ok-target : goal.returns-in_ok-follow-in-Ok-target
-returns-in_ok-follow-in-Ok-target c =
+pub returns-in_ok-follow-in-Ok-redirected_page : goal.returns-in_ok-follow-in-Ok-redirected_page
+returns-in_ok-follow-in-Ok-redirected_page c =
     λ e g.
     let w = c.args.self.now in
     let seen = c.args.seen.now in
@@ -68,11 +67,11 @@ returns-in_ok-follow-in-Ok-target c =
     let p : Place = place_of k.spot in
     let rest = redirected p.inner p.viewed p.frame c.in-Target.title c.in-Target.target (parts_at p) in
     let u : Work = record w { expander = c.redirected_page.new.self } in
-    let leads = subst (λ (r : Result Next Stop). LeadsOn seen p rest w.expander r u.expander) c.in-Ok-target.is (c.redirected_page.ensures.leads p (going-here w id c.args.behind pending e k)) in
-    going-turn seen w u c.follow-in-Ok-target.new.self id c.args.behind pending c.in-Ok-target.next e rest c.in_ok-follow-in-Ok-target.field-0 k k.rest_is.1 refl leads (λ f q. c.in_ok-follow-in-Ok-target.ensures seen f q)
+    let leads = subst (λ (r : Result Next Stop). LeadsOn seen p rest w.expander r u.expander) c.in-Ok-redirected_page.is (c.redirected_page.ensures.leads p (going-here w id c.args.behind pending e k)) in
+    going-turn seen w u c.follow-in-Ok-redirected_page.new.self id c.args.behind pending c.in-Ok-redirected_page.next e rest c.in_ok-follow-in-Ok-redirected_page.field-0 k k.rest_is.1 refl leads (λ f q. c.in_ok-follow-in-Ok-redirected_page.ensures seen f q)
 
-pub returns-in-Err-Needs-target : goal.returns-in-Err-Needs-target
-returns-in-Err-Needs-target c =
+pub returns-in-Err-Needs-redirected_page : goal.returns-in-Err-Needs-redirected_page
+returns-in-Err-Needs-redirected_page c =
     λ e g.
     let w = c.args.self.now in
     let seen = c.args.seen.now in
@@ -83,11 +82,11 @@ returns-in-Err-Needs-target c =
     let rest = redirected p.inner p.viewed p.frame c.in-Target.title c.in-Target.target (parts_at p) in
     let u : Work = record w { expander = c.redirected_page.new.self } in
     let here = going-here w id c.args.behind pending e k in
-    let stopped = subst (λ (r : Result Next Stop). LeadsOn seen p rest w.expander r u.expander) c.in-Err-Needs-target.is (c.redirected_page.ensures.leads p here) in
-    let stops = subst (λ (s : Stop). LeadsOn seen p rest w.expander (Err s) u.expander) c.in-Err-Needs-target.field-0-is stopped in
-    let kept = subst (λ (r : Result Next Stop). Keeps r w.expander u.expander) c.in-Err-Needs-target.is c.redirected_page.ensures.keeps in
-    let same : u.expander ≡ w.expander = subst (λ (s : Stop). Keeps {X = Next} (Err s) w.expander u.expander) c.in-Err-Needs-target.field-0-is kept in
-    going-needs seen w u id c.args.behind pending c.in-Err-Needs-target.needed c.in-Err-Needs-target.kind e rest k k.rest_is.1 (ap (λ (x : Expander). record w { expander = x }) same) stops
+    let stopped = subst (λ (r : Result Next Stop). LeadsOn seen p rest w.expander r u.expander) c.in-Err-Needs-redirected_page.is (c.redirected_page.ensures.leads p here) in
+    let stops = subst (λ (s : Stop). LeadsOn seen p rest w.expander (Err s) u.expander) c.in-Err-Needs-redirected_page.field-0-is stopped in
+    let kept = subst (λ (r : Result Next Stop). Keeps r w.expander u.expander) c.in-Err-Needs-redirected_page.is c.redirected_page.ensures.keeps in
+    let same : u.expander ≡ w.expander = subst (λ (s : Stop). Keeps {X = Next} (Err s) w.expander u.expander) c.in-Err-Needs-redirected_page.field-0-is kept in
+    going-needs seen w u id c.args.behind pending c.in-Err-Needs-redirected_page.needed c.in-Err-Needs-redirected_page.kind e rest k k.rest_is.1 (ap (λ (x : Expander). record w { expander = x }) same) stops
 
 pub returns-in_ok-follow-in-Binds : goal.returns-in_ok-follow-in-Binds
 returns-in_ok-follow-in-Binds c =

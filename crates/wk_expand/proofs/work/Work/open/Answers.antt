@@ -1,8 +1,8 @@
-use Rattle.std.proofs.Common.{◌≡◌, ◌<◌, ◌≤◌, ◌+◌, ◌++◌, zero, length, reverse, refl, sym, ap, subst, arith, ◌∙◌, [], IsSome}
+use Rattle.std.proofs.Common.{◌≡◌, ◌<◌, ◌+◌, length, reverse, refl, sym, ap, subst, arith, ◌∙◌, [], IsSome}
 use Rattle.std.proofs.lemmas.List.{length-reverse}
 use Rattle.wk_tree.specs.Parsed.{node_with}
-use Rattle.wk_view_rules.specs.Expansions.{Expansion, Output, give}
-use Rattle.wk_view_rules.specs.Texts.{nesting_error, node_error}
+use Rattle.wk_view_rules.specs.Expansions.{Output, give}
+use Rattle.wk_view_rules.specs.Texts.{nesting_error}
 use Rattle.wk_expand.specs.Nodes.{charged_node, opened}
 use Rattle.wk_expand.specs.Running.{ComesTo}
 use Rattle.wk_expand.specs.State.{current}
