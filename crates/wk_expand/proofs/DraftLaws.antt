@@ -1,68 +1,117 @@
 -- What a draft comes to.
-use Rattle.std.proofs.Common.{◌≡◌, ℕ, List, [], Option, Some, None, option_map, refl, sym, ap, ap₂, subst, ◌∙◌}
+use Rattle.std.proofs.Common.{◌≡◌, ℕ, List, [], ◌∷◌, ◌++◌, drop, reverse, Option, Some, None, option_map, refl, sym, ap, ap₂, subst, ◌∙◌}
 use Rattle.wk_text_rules.specs.Titles.{PageTitle}
 use Rattle.wk_tree.specs.Parsed.{ParsedText, list_with}
 use Rattle.wk_tree.specs.declared.item.ListId.{ListId}
 use Rattle.wk_tree_rules.specs.Tree.{tree}
 use Rattle.wk_tree_rules.specs.Trees.{Item}
 use Rattle.wk_tree_rules.specs.declared.Mode.TheVariants as mode
-use Rattle.wk_view_laws.proofs.PlanLemmas.{met, run-and_then, run-asks}
+use Rattle.std.proofs.lemmas.List.Elements.{All-head, All-nil}
+use Rattle.wk_view_laws.proofs.PlanLemmas.{met, noted-agrees, run-and_then, run-asks}
 use Rattle.wk_view_laws.specs.Plans.{goes_on}
 use Rattle.wk_view_rules.specs.Expand.{expand}
-use Rattle.wk_view_rules.specs.Expansions.{Expansion, Output, Progress, give, most_open, no_counters, no_progress}
-use Rattle.wk_view_rules.specs.Plans.{Plan, gives, done, noted, run}
+use Rattle.wk_view_rules.specs.Expansions.{Expansion, Output, Progress, give, ◌>>=◌, most_open, no_counters, no_progress}
+use Rattle.wk_view_rules.specs.Frames.{Frame}
+use Rattle.wk_view_rules.specs.Plans.{Plan, Outcome, gives, and_then, done, noted, run}
 use Rattle.wk_view_rules.specs.Views.{Expanded, expanded_by, text_plan, view_plan}
-use Rattle.wk_view_rules.specs.Worlds.{Answer, PageText, Seen, ask, of_seen, page_of}
+use Rattle.wk_view_rules.specs.Worlds.{Agrees, Answer, PageText, Read, Seen, ask, of_seen, page_of}
+use Rattle.wk_view_rules.specs.declared.Kind.{Kind}
 use Rattle.wk_view_rules.specs.declared.Kind.TheVariants.{View}
 use Rattle.wk_expand.specs.Answers.{read_with, text_in}
+use Rattle.wk_expand.specs.Drafts.{drafted}
 use Rattle.wk_expand.specs.Kept.{expanded_with}
-use Rattle.wk_expand.specs.Running.{goes, needed, ComesTo, Stops}
 use Rattle.wk_expand.specs.Levels.{LevelsShown, tree_in}
+use Rattle.wk_expand.specs.Machines.{IsLeft}
+use Rattle.wk_expand.specs.Nodes.{rest_list}
+use Rattle.wk_expand.specs.Running.{goes, needed, Passes, Stops, StopsAt}
 use Rattle.wk_expand.specs.State.{IsBegun, IsFrame, ShowsFrame, current, progress_of}
+use Rattle.wk_expand.specs.Steps.{given_text}
+use Rattle.wk_expand.specs.Work.{Continues, IsListing, IsNow, IsTurn}
+use Rattle.wk_expand.specs.declared.drafts.Root.{Root}
+use Rattle.wk_expand.specs.declared.drafts.Root.TheVariants.{Page, Given}
+use Rattle.wk_expand.specs.declared.stack.Turn.{Turn}
+use Rattle.wk_expand.specs.declared.stack.Turn.TheVariants.{On, Done, Needs as NeedsTurn}
+use Rattle.wk_expand.specs.declared.stack.Listing.{Listing}
+use Rattle.wk_expand.specs.declared.stack.Now.{Now}
+use Rattle.wk_expand.specs.declared.stack.Now.TheVariants.{List as ListNow}
+use Rattle.wk_expand.specs.declared.stack.Opened.{Opened}
 use Rattle.wk_expand.specs.declared.state.Expander.{Expander}
-use Rattle.wk_expand.specs.declared.state.Stop.{Stop}
-use Rattle.wk_expand.specs.declared.state.Stop.TheVariants.{Needs, Memory}
+use Rattle.wk_expand.specs.declared.state.Stop.TheVariants.{Needs}
+use Rattle.wk_expand.specs.declared.work.Work.{Work}
+use Rattle.wk_expand.proofs.ListLaws.{expand-is, list-start, plans-ended}
 use Rattle.wk_expand.proofs.RunLaws.{run-give, needed-on}
 
--- ---- a text
+-- ---- what is left of a draft
 
-abbrev pub whole : PageTitle → List ℕ → Expansion Output
-whole page text = expand most_open page [] (tree mode.View text)
+-- a draft's end, by that of what is left of its expansion
+left-run : (seen : Seen) (e : Expansion Output) (s : Expander) → run (of_seen seen) (and_then (e (progress_of s)) expanded_by) s.reads ≡ goes_on (of_seen seen) expanded_by (goes seen e s)
+left-run seen e s = run-and_then (of_seen seen) (e (progress_of s)) expanded_by s.reads
 
--- a text's end, by that of its expansion
-text-run : (seen : Seen) (page : PageTitle) (text : List ℕ) (s : Expander) → progress_of s ≡ no_progress → run (of_seen seen) (text_plan page text) s.reads ≡ goes_on (of_seen seen) expanded_by (goes seen (whole page text) s)
-unfolding text_plan
-text-run seen page text s start =
-    run-and_then (of_seen seen) (whole page text no_progress) expanded_by s.reads
-    ∙ ap (λ (p : Progress). goes_on (of_seen seen) expanded_by (run (of_seen seen) (whole page text p) s.reads)) (sym start)
+-- what is left of a draft, where its expansion has come further
+pub left-on : (seen : Seen) (page : PageTitle) (given : Option (List ℕ)) (w u : Work) (now next : Now) (h : IsLeft page given w now) (rest : Expansion Output) → Agrees (of_seen seen) w.expander.reads → IsNow u next rest → Passes seen h.rest w.expander rest u.expander → IsLeft page given u next
+left-on seen page given w u now next h rest agrees next_is passes = record {
+  rest = rest;
+  now_is = next_is;
+  alike = λ later k.
+      let came = passes agrees in
+      h.alike later (came.grows later k)
+      ∙ left-run later h.rest w.expander
+      ∙ ap (goes_on (of_seen later) expanded_by) (came.goes_on later k)
+      ∙ sym (left-run later rest u.expander);
+}
 
 expanded-run : (seen : Seen) (out : Output) (t : Expander) → goes_on (of_seen seen) expanded_by (done (out, progress_of t) t.reads) ≡ done (expanded_with out t.counts) t.reads
 unfolding run
 expanded-run seen out t = refl
 
--- the end of a text whose expansion is at its start
-module _ (seen : Seen) (page : PageTitle) (parsed : ParsedText) (reads : Seen) (s : Expander) (begun : IsBegun page parsed reads s) where
-  pub text-done : (text : List ℕ) (out : Output) (t : Expander) → ComesTo seen (whole page text) s (give out) t → run (of_seen seen) (text_plan page text) reads ≡ done (expanded_with out t.counts) t.reads
-  text-done text out t h =
-      ap (run (of_seen seen) (text_plan page text)) (sym begun.reads)
-      ∙ text-run seen page text s begun.progress
-      ∙ ap (goes_on (of_seen seen) expanded_by) (h.goes_on ∙ run-give seen out t)
-      ∙ expanded-run seen out t
+pub left-done : (seen : Seen) (page : PageTitle) (given : Option (List ℕ)) (w u : Work) (now : Now) (h : IsLeft page given w now) (out : Output) → Agrees (of_seen seen) w.expander.reads → Passes seen h.rest w.expander (give out) u.expander → drafted (of_seen seen) page given ≡ done (expanded_with out u.expander.counts) u.expander.reads
+left-done seen page given w u now h out agrees passes =
+    let came = passes agrees in
+    h.alike seen agrees
+    ∙ left-run seen h.rest w.expander
+    ∙ ap (goes_on (of_seen seen) expanded_by) (came.goes_on seen came.answered ∙ run-give seen out u.expander)
+    ∙ expanded-run seen out u.expander
 
-  pub text-stops : (text : List ℕ) (stop : Stop) → Stops (goes seen (whole page text) s) stop → Stops (run (of_seen seen) (text_plan page text) reads) stop
-  text-stops text (Needs title kind) h =
-      ap needed (ap (run (of_seen seen) (text_plan page text)) (sym begun.reads) ∙ text-run seen page text s begun.progress)
-      ∙ needed-on seen expanded_by (goes seen (whole page text) s) title kind h
-  text-stops text Memory h = tt
+pub left-stops : (seen : Seen) (page : PageTitle) (given : Option (List ℕ)) (w : Work) (now : Now) (h : IsLeft page given w now) (title : PageTitle) (kind : Kind) → Agrees (of_seen seen) w.expander.reads → StopsAt seen h.rest w.expander (Needs title kind) → needed (drafted (of_seen seen) page given) ≡ Some (title, kind)
+left-stops seen page given w now h title kind agrees stops =
+    ap needed (h.alike seen agrees ∙ left-run seen h.rest w.expander)
+    ∙ needed-on seen expanded_by (goes seen h.rest w.expander) title kind (stops agrees)
 
-  pub begun-frame : IsFrame s page []
-  begun-frame = record {
-    page = begun.page;
-    shows = subst (λ (l : LevelsShown). ShowsFrame l.root l.included []) (sym begun.levels) tt;
-  }
+-- ---- the start
 
-  pub begun-list : (list : ListId) (items : List Item) → list_with parsed list ≡ Some items → list_with (current s) list ≡ Some items
-  begun-list list items e = ap (λ (l : LevelsShown). list_with (tree_in l.root l.included) list) begun.levels ∙ e
+whole-list : (left : ℕ) (viewed : PageTitle) (frame : Frame) (items : List Item) → (rest_list left viewed frame [] items >>= give) ≡ expand left viewed frame items
+whole-list left viewed frame items =
+    (λ i progress. plans-ended (rest_list left viewed frame [] items progress) i)
+    ∙ sym (list-start left viewed frame items)
+
+pub left-begun : (page : PageTitle) (given : Option (List ℕ)) (text : List ℕ) (before : Seen) (w : Work) (listing : Listing) → IsBegun page (record { mode = mode.View; text = text }) before w.expander → w.opened.items ≡ [] → list_with (record { mode = mode.View; text = text }) listing.list ≡ Some (tree mode.View text) → listing.at ≡ 0 → listing.out ≡ [] → ((later : Seen) → Agrees (of_seen later) before → drafted (of_seen later) page given ≡ run (of_seen later) (text_plan page text) before) → IsLeft page given w (ListNow listing)
+unfolding text_plan
+left-begun page given text before w listing begun none root start fresh alike =
+    let items = tree mode.View text in
+    let s = w.expander in
+    let rest : Expansion Output = rest_list most_open s.page [] listing.out (drop listing.at items) >>= give in
+    let rest_is : rest ≡ expand most_open page [] items =
+    ap₂ (λ (o : Output) (n : ℕ). rest_list most_open s.page [] o (drop n items) >>= give) fresh start
+    ∙ whole-list most_open s.page [] items
+    ∙ ap (λ (v : PageTitle). expand most_open v [] items) begun.page
+    in
+    record {
+      rest = rest;
+      now_is = record {
+        left = most_open;
+        frame = [];
+        shows = subst (λ (v : LevelsShown). ShowsFrame v.root v.included []) (sym begun.levels) tt;
+        items = items;
+        there = ap (λ (v : LevelsShown). list_with (tree_in v.root v.included) listing.list) begun.levels ∙ root;
+        after = give;
+        continues = subst (λ (nodes : List Opened). Continues most_open s.page s.levels (reverse nodes) give) (sym none) (refl, λ out. refl);
+        is = refl;
+      };
+      alike = λ later h.
+          alike later (subst (Agrees (of_seen later)) begun.reads h)
+          ∙ ap (run (of_seen later) (text_plan page text)) (sym begun.reads)
+          ∙ ap₂ (λ (e : Expansion Output) (p : Progress). run (of_seen later) (and_then (e p) expanded_by) s.reads) (sym rest_is) (sym begun.progress);
+    }
 
 -- ---- a page's own text
 
@@ -104,3 +153,42 @@ view-answered seen page answer found reads asked is_text are_reads =
 pub missing-done : (seen : Seen) (page : PageTitle) (reads : Seen) → run (of_seen seen) (viewed_by page None) reads ≡ done (record { out = []; counters = no_counters }) reads
 unfolding run
 missing-done seen page reads = refl
+
+-- ---- a step of a draft
+
+-- what a turn leaves of a draft
+abbrev pub LeftBy : Seen → PageTitle → Option (List ℕ) → Turn → Work → Type 0
+LeftBy seen page given (On next) u = IsLeft page given u next × Agrees (of_seen seen) u.expander.reads
+LeftBy seen page given (Done out) u = drafted (of_seen seen) page given ≡ done (expanded_with out u.expander.counts) u.expander.reads
+LeftBy seen page given (NeedsTurn title kind next) u =
+    (needed (drafted (of_seen seen) page given) ≡ Some (title, kind)) × IsLeft page given u next × Agrees (of_seen seen) u.expander.reads
+
+pub turn-left : (seen : Seen) (page : PageTitle) (given : Option (List ℕ)) (w u : Work) (now : Now) (turn : Turn) → (h : IsLeft page given w now) → Agrees (of_seen seen) w.expander.reads → IsTurn seen h.rest w.expander turn u → LeftBy seen page given turn u
+unfolding left-on
+turn-left seen page given w u now (On next) h agrees k = (left-on seen page given w u now next h k.0 agrees k.1 k.2, (k.2 agrees).answered)
+turn-left seen page given w u now (Done out) h agrees k = left-done seen page given w u now h out agrees k
+turn-left seen page given w u now (NeedsTurn title kind next) h agrees k =
+    let later = left-on seen page given w u now next h k.0 agrees k.1 k.2 in
+    let answered = (k.2 agrees).answered in
+    (left-stops seen page given u next later title kind answered k.3, later, answered)
+
+-- what is needed wasn't seen
+pub unseen-by : (seen : Seen) (page title : PageTitle) (given : Option (List ℕ)) (kind : Kind) → ((root : Root) → needed (drafted (of_seen seen) page (given_text root)) ≡ Some (title, kind) → ask (of_seen seen) title kind ≡ None) → needed (drafted (of_seen seen) page given) ≡ Some (title, kind) → ask (of_seen seen) title kind ≡ None
+unseen-by seen page title None kind law e = law Page e
+unseen-by seen page title (Some text) kind law e = law (Given text) e
+
+-- ---- the first read
+
+-- what answers the first read as it was answered
+pub first-answer : (later : Seen) (page : PageTitle) (answer : Answer) (reads : Seen) → reads ≡ noted [] (read_with page View answer) → Agrees (of_seen later) reads → ask (of_seen later) page View ≡ Some answer
+first-answer later page answer reads are agrees =
+    All-head (λ (r : Read). ask (of_seen later) r.title r.kind ≡ Some r.answer) (read_with page View answer) [] (subst (Agrees (of_seen later)) are agrees)
+
+pub first-agrees : (seen : Seen) (page : PageTitle) (answer : Answer) (reads : Seen) → reads ≡ noted [] (read_with page View answer) → ask (of_seen seen) page View ≡ Some answer → Agrees (of_seen seen) reads
+first-agrees seen page answer reads are asked =
+    subst (Agrees (of_seen seen)) (sym are)
+    (noted-agrees (of_seen seen) [] (read_with page View answer) (All-nil (λ (r : Read). ask (of_seen seen) r.title r.kind ≡ Some r.answer)) asked)
+
+-- nothing was read
+pub nothing-agrees : (seen : Seen) → Agrees (of_seen seen) []
+nothing-agrees seen = All-nil (λ (r : Read). ask (of_seen seen) r.title r.kind ≡ Some r.answer)

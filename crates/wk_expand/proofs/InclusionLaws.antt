@@ -11,7 +11,7 @@ use Rattle.wk_view_rules.specs.Frames.{Frame, is_within}
 use Rattle.wk_view_rules.specs.Texts.{loop_error, depth_error, link_text}
 use Rattle.wk_view_rules.specs.Worlds.{Answer, Seen, page_of}
 use Rattle.wk_view_rules.specs.declared.Kind.TheVariants.{Include}
-use Rattle.wk_expand.specs.Running.{goes, Stops, ComesTo}
+use Rattle.wk_expand.specs.Running.{ComesTo, StopsAt}
 use Rattle.wk_expand.specs.declared.state.Expander.{Expander}
 use Rattle.wk_expand.specs.declared.state.Stop.{Stop}
 use Rattle.wk_expand.proofs.RunLaws.{comes-bind, comes-in, stops-as, stops-bind}
@@ -66,7 +66,7 @@ module _ (inner : Frame → List Item → Expansion Output) (viewed : PageTitle)
       comes-in seen (redirected inner viewed frame title target parts) (answer_to target Include >>= by_target target) (by_target target answer) s t (redirected-asks target outside)
       (comes-bind seen (answer_to target Include) (by_target target) s answer t h)
 
-  pub redirected-stops : (seen : Seen) (s : Expander) (target : PageTitle) (stop : Stop) → is_within frame target ≡ false → Stops (goes seen (answer_to target Include) s) stop → Stops (goes seen (redirected inner viewed frame title target parts) s) stop
+  pub redirected-stops : (seen : Seen) (s : Expander) (target : PageTitle) (stop : Stop) → is_within frame target ≡ false → StopsAt seen (answer_to target Include) s stop → StopsAt seen (redirected inner viewed frame title target parts) s stop
   redirected-stops seen s target stop outside h =
       stops-as seen (redirected inner viewed frame title target parts) (answer_to target Include >>= by_target target) s stop (redirected-asks target outside)
       (stops-bind seen (answer_to target Include) (by_target target) s stop h)
@@ -76,7 +76,7 @@ module _ (inner : Frame → List Item → Expansion Output) (viewed : PageTitle)
       comes-in seen (inclusion inner viewed frame title parts) (answer_to title Include >>= by_text) (by_text answer) s t (inclusion-asks real outside shallow)
       (comes-bind seen (answer_to title Include) by_text s answer t h)
 
-  pub inclusion-stops : (seen : Seen) (s : Expander) (stop : Stop) → is_virtual title ≡ false → is_within frame title ≡ false → nat_le most_depth (length frame) ≡ false → Stops (goes seen (answer_to title Include) s) stop → Stops (goes seen (inclusion inner viewed frame title parts) s) stop
+  pub inclusion-stops : (seen : Seen) (s : Expander) (stop : Stop) → is_virtual title ≡ false → is_within frame title ≡ false → nat_le most_depth (length frame) ≡ false → StopsAt seen (answer_to title Include) s stop → StopsAt seen (inclusion inner viewed frame title parts) s stop
   inclusion-stops seen s stop real outside shallow h =
       stops-as seen (inclusion inner viewed frame title parts) (answer_to title Include >>= by_text) s stop (inclusion-asks real outside shallow)
       (stops-bind seen (answer_to title Include) by_text s stop h)

@@ -5,6 +5,7 @@ pub mod DraftLaws
 pub mod ExistsLaws
 pub mod FrameLaws
 pub mod InclusionLaws
+pub mod LeadLaws
 pub mod LevelLaws
 pub mod ListLaws
 pub mod NodeLaws
@@ -17,4 +18,5 @@ pub mod StepLaws
 pub mod SwitchLaws
 pub mod TemplateLaws
 pub mod TextLaws
+pub mod WorkLaws
 pub mod WrittenLaws

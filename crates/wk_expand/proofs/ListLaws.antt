@@ -23,13 +23,13 @@ use Rattle.wk_view_rules.specs.Plans.{Plan, gives, asks, and_then}
 use Rattle.wk_view_rules.specs.Worlds.{Seen}
 use Rattle.wk_expand.specs.Items.{item_with, text_at, IsItem, IsTextAt}
 use Rattle.wk_expand.specs.Nodes.{charged_node, rest_list}
-use Rattle.wk_expand.specs.Running.{goes, ComesTo, Ends, IsSame, Stops}
+use Rattle.wk_expand.specs.Running.{IsSame}
+use Rattle.wk_expand.specs.Work.{IsFilled}
 use Rattle.wk_expand.specs.State.{IsFrame, current, progress_of}
 use Rattle.wk_expand.specs.declared.state.Expander.{Expander}
 use Rattle.wk_expand.specs.declared.state.Stop.{Stop}
 use Rattle.wk_expand.proofs.PartLaws.{current-same, some_of, some_part, at_some}
 use Rattle.wk_expand.proofs.NodeLaws.{some_within}
-use Rattle.wk_expand.proofs.RunLaws.{comes-as, comes-bind, comes-in, comes-on, comes-out, gives-here, frame-same, same-itself, same-on, stops-as, stops-bind, stops-on}
 use Rattle.wk_expand.proofs.WrittenLaws.{plans-regrouped, drop-some}
 
 -- ---- items as they are shown
@@ -120,17 +120,21 @@ module _ (parsed : ParsedText) (list : ListId) (at : ℕ) (c : Item) (h : IfSome
 
 -- ---- what the items give
 
-plans-ended : (p : Plan (Output × Progress)) → and_then p (λ end. gives (end.0, end.1)) ≡ p
+pub plans-ended : (p : Plan (Output × Progress)) → and_then p (λ end. gives (end.0, end.1)) ≡ p
 plans-ended (gives x) = refl
 plans-ended (asks title kind more) = ap (asks title kind) (λ i answer. plans-ended (more answer) i)
 
-expand-is : (left : ℕ) (viewed : PageTitle) (frame : Frame) (items : List TreeItem) → expand left viewed frame items ≡ items_output (charged_node left viewed frame) items
+-- an expansion whose output is given
+pub ended-with : (e : Expansion Output) → (e >>= give) ≡ e
+ended-with e = λ i progress. plans-ended (e progress) i
+
+pub expand-is : (left : ℕ) (viewed : PageTitle) (frame : Frame) (items : List TreeItem) → expand left viewed frame items ≡ items_output (charged_node left viewed frame) items
 unfolding expand
 expand-is zero viewed frame items = refl
 expand-is (suc left) viewed frame items = refl
 
 module _ (left : ℕ) (viewed : PageTitle) (frame : Frame) where
-  list-start : (items : List TreeItem) → expand left viewed frame items ≡ rest_list left viewed frame [] items
+  pub list-start : (items : List TreeItem) → expand left viewed frame items ≡ rest_list left viewed frame [] items
   list-start items = expand-is left viewed frame items ∙ sym (λ i progress. plans-ended (items_output (charged_node left viewed frame) items progress) i)
 
   list-end : (out : Output) → rest_list left viewed frame out [] ≡ give out
@@ -154,97 +158,74 @@ module _ (left : ℕ) (viewed : PageTitle) (frame : Frame) where
       (plans-regrouped (items_output (charged_node left viewed frame) items end.1) (λ last. gives (end.0 ++ last.0, last.1)) (behind_out out)
       ∙ ap (and_then (items_output (charged_node left viewed frame) items end.1)) (λ n last. gives (sym (append_assoc out end.0 last.0) n, last.1))) j)) k
 
--- what a call for a node comes to
-abbrev pub NodeEnds : Seen → ℕ → Expander → NodeId → Result Output Stop → Expander → Type 0
-NodeEnds seen left t id r u =
-    (m : TreeNode) → node_with (current t) id ≡ Some m → (viewed : PageTitle) (frame : Frame) → IsFrame t viewed frame → Ends seen (charged_node left viewed frame m.kind m.content) t r u
+-- ---- a list up to its next node
 
--- How far a list is expanded: from the start at s to its items from a place on, behind an output, at t.
-pub record IsListed (seen : Seen) (left : ℕ) (list : ListId) (s t : Expander) (out : Output) (at : ℕ) : Type 0 where
-  pub same : IsSame s t
-  pub runs : (items : List TreeItem) → list_with (current s) list ≡ Some items → (viewed : PageTitle) (frame : Frame) → IsFrame s viewed frame → ComesTo seen (expand left viewed frame items) s (rest_list left viewed frame out (drop at items)) t
+-- how far a list is added to an output
+pub record IsAdded (parsed : ParsedText) (list : ListId) (start at : ℕ) (out new : Output) : Type 0 where
+  pub same : (items : List TreeItem) → list_with parsed list ≡ Some items → (left : ℕ) (viewed : PageTitle) (frame : Frame) → rest_list left viewed frame out (drop start items) ≡ rest_list left viewed frame new (drop at items)
 
-pub listed-start : (seen : Seen) (left : ℕ) (list : ListId) (s : Expander) (out : Output) → out ≡ [] → IsListed seen left list s s out 0
-listed-start seen left list s out none = record {
-  same = same-itself s;
-  runs = λ items e viewed frame is.
-      comes-as seen (expand left viewed frame items) (rest_list left viewed frame out (drop 0 items)) s
-      (ap (λ f. f (progress_of s)) (list-start left viewed frame items ∙ ap (λ o. rest_list left viewed frame o items) (sym none)));
-}
+pub added-none : (parsed : ParsedText) (list : ListId) (start : ℕ) (out : Output) → IsAdded parsed list start start out out
+added-none parsed list start out = record { same = λ items e left viewed frame. refl }
 
--- the same in other words
-pub listed-as : (seen : Seen) (left : ℕ) (list : ListId) (s t u : Expander) (out new : Output) (at : ℕ) → u ≡ t → new ≡ out → IsListed seen left list s t out at → IsListed seen left list s u new at
-listed-as seen left list s t u out new at same is h =
-    subst (λ v. IsListed seen left list s v new at) (sym same) (subst (λ o. IsListed seen left list s t o at) (sym is) h)
+pub added-as : (parsed : ParsedText) (list : ListId) (start at : ℕ) (out new other : Output) → other ≡ new → IsAdded parsed list start at out new → IsAdded parsed list start at out other
+added-as parsed list start at out new other is h = subst (λ o. IsAdded parsed list start at out o) (sym is) h
 
-module _ (seen : Seen) (left : ℕ) (list : ListId) (s t : Expander) (out : Output) (at count : ℕ) (h : IsListed seen left list s t out at) where
-  module _ (long : IfSome (list_with (current s) list) (λ found. count ≡ length found)) where
-    -- one item more
-    pub listed-more : at < count → (u : Expander) (first : Output) → IsSame t u → ((i : TreeItem) → item_with (current t) list at ≡ Some i → (viewed : PageTitle) (frame : Frame) → IsFrame t viewed frame → ComesTo seen (item_output (charged_node left viewed frame) i) t (give first) u) → IsListed seen left list s u (out ++ first) (at + 1)
-    listed-more within u first same one = record {
-      same = same-on s t u h.same same;
-      runs = λ items e viewed frame is.
-          let i = item-at s t list at count items h.same long within e in
-          comes-on seen (expand left viewed frame items) (item_output (charged_node left viewed frame) i.0 >>= behind_item left viewed frame out (drop (at + 1) items)) (rest_list left viewed frame (out ++ first) (drop (at + 1) items)) s t u
-          (comes-out seen (expand left viewed frame items) (rest_list left viewed frame out (drop at items)) (item_output (charged_node left viewed frame) i.0 >>= behind_item left viewed frame out (drop (at + 1) items)) s t
-          (ap (rest_list left viewed frame out) (drop-some items at i.0 i.1) ∙ list-more left viewed frame out i.0 (drop (at + 1) items))
-          (h.runs items e viewed frame is))
-          (comes-bind seen (item_output (charged_node left viewed frame) i.0) (behind_item left viewed frame out (drop (at + 1) items)) t first u
-          (one i.0 i.2 viewed frame (frame-same s t viewed frame h.same is)));
+module _ (parsed : ParsedText) (list : ListId) (start at count : ℕ) (out new : Output) (h : IsAdded parsed list start at out new) (long : IfSome (list_with parsed list) (λ found. count ≡ length found)) where
+  item-next : at < count → (items : List TreeItem) → list_with parsed list ≡ Some items → (i : TreeItem) × (slice_get items at ≡ Some i) × (item_with parsed list at ≡ Some i)
+  item-next within items e =
+      let is : count ≡ length items = at_some (λ found. count ≡ length found) (list_with parsed list) items e long in
+      let i = some_within items at (subst (λ n. at < n) is within) in
+      (i.0, i.1, ap (option_and_then (λ found. slice_get found at)) e ∙ i.1)
+
+  pub item-is-there : at < count → IsSome (list_with parsed list) → IsSome (item_with parsed list at)
+  item-is-there within there =
+      let items = some_part (list_with parsed list) there in
+      let i = item-next within items.0 items.1 in
+      some_of (item_with parsed list at) i.0 i.2
+
+  step-at : (items : List TreeItem) (i : TreeItem) → list_with parsed list ≡ Some items → slice_get items at ≡ Some i → (left : ℕ) (viewed : PageTitle) (frame : Frame) → rest_list left viewed frame out (drop start items) ≡ (item_output (charged_node left viewed frame) i >>= behind_item left viewed frame new (drop (at + 1) items))
+  step-at items i e is left viewed frame =
+      h.same items e left viewed frame
+      ∙ ap (rest_list left viewed frame new) (drop-some items at i is)
+      ∙ list-more left viewed frame new i (drop (at + 1) items)
+
+  module _ (within : at < count) (c : Item) (found : IfSome (item_with parsed list at) (IsItem parsed c)) where
+    text-added : (text : Output) → ((i : TreeItem) → IsItem parsed c i → (left : ℕ) (viewed : PageTitle) (frame : Frame) → item_output (charged_node left viewed frame) i ≡ give text) → IsAdded parsed list start (at + 1) out (new ++ text)
+    text-added text gives_text = record {
+      same = λ items e left viewed frame.
+          let i = item-next within items e in
+          step-at items i.0 e i.1 left viewed frame
+          ∙ ap (λ (g : Expansion Output). g >>= behind_item left viewed frame new (drop (at + 1) items)) (gives_text i.0 (item-known parsed list at c c i.0 found refl i.2) left viewed frame);
     }
 
-    -- where the next item stops, all stops
-    pub listed-stops : at < count → (stop : Stop) → ((i : TreeItem) → item_with (current t) list at ≡ Some i → (viewed : PageTitle) (frame : Frame) → IsFrame t viewed frame → Stops (goes seen (item_output (charged_node left viewed frame) i) t) stop) → (items : List TreeItem) → list_with (current s) list ≡ Some items → (viewed : PageTitle) (frame : Frame) → IsFrame s viewed frame → Stops (goes seen (expand left viewed frame items) s) stop
-    listed-stops within stop one items e viewed frame is =
-        let i = item-at s t list at count items h.same long within e in
-        stops-on seen (expand left viewed frame items) (rest_list left viewed frame out (drop at items)) s t stop (h.runs items e viewed frame is)
-        (stops-as seen (rest_list left viewed frame out (drop at items)) (item_output (charged_node left viewed frame) i.0 >>= behind_item left viewed frame out (drop (at + 1) items)) t stop
-        (ap (rest_list left viewed frame out) (drop-some items at i.0 i.1) ∙ list-more left viewed frame out i.0 (drop (at + 1) items))
-        (stops-bind seen (item_output (charged_node left viewed frame) i.0) (behind_item left viewed frame out (drop (at + 1) items)) t stop
-        (one i.0 i.2 viewed frame (frame-same s t viewed frame h.same is))))
+    pub added-plain : (first len : ℕ) → c ≡ Plain first len → (next : Output) → next ≡ new ++ marked false (text_at parsed first len) → IsAdded parsed list start (at + 1) out next
+    added-plain first len is next next_is =
+        added-as parsed list start (at + 1) out (new ++ all_plain (text_at parsed first len)) next next_is
+        (text-added (all_plain (text_at parsed first len)) (λ i k left viewed frame. ap (item_output (charged_node left viewed frame)) (subst (λ x. IsItem parsed x i) is k).0))
 
-    -- all items
-    pub listed-end : count ≤ at → (items : List TreeItem) → list_with (current s) list ≡ Some items → (viewed : PageTitle) (frame : Frame) → IsFrame s viewed frame → ComesTo seen (expand left viewed frame items) s (give out) t
-    listed-end all items e viewed frame is =
-        let is_long : count ≡ length items = at_some (λ found. count ≡ length found) (list_with (current s) list) items e long in
-        comes-out seen (expand left viewed frame items) (rest_list left viewed frame out (drop at items)) (give out) s t
-        (ap (rest_list left viewed frame out) (drop_all at items (subst (λ n. n ≤ at) is_long all)) ∙ list-end left viewed frame out)
-        (h.runs items e viewed frame is)
+    pub added-sealed : (first len : ℕ) → c ≡ Sealed first len → (next : Output) → next ≡ new ++ marked true (text_at parsed first len) → IsAdded parsed list start (at + 1) out next
+    added-sealed first len is next next_is =
+        added-as parsed list start (at + 1) out (new ++ all_sealed (text_at parsed first len)) next next_is
+        (text-added (all_sealed (text_at parsed first len)) (λ i k left viewed frame. ap (item_output (charged_node left viewed frame)) (subst (λ x. IsItem parsed x i) is k).0))
 
-    module _ (within : at < count) (c : Item) (found : IfSome (item_with (current t) list at) (IsItem (current t) c)) where
-      pub listed-plain : (start len : ℕ) → c ≡ Plain start len → (new : Output) → new ≡ out ++ marked false (text_at (current t) start len) → IsListed seen left list s t new (at + 1)
-      listed-plain start len is_plain new is_new =
-          let text = all_plain (text_at (current t) start len) in
-          subst (λ o. IsListed seen left list s t o (at + 1)) (sym is_new)
-          (listed-more within t text (same-itself t) (λ i e viewed frame is.
-          gives-here seen (item_output (charged_node left viewed frame) i) t text text (ap (item_output (charged_node left viewed frame)) (item-known (current t) list at c (Plain start len) i found is_plain e).0) refl))
+    pub added-nothing : (first len : ℕ) → c ≡ Nothing first len → IsAdded parsed list start (at + 1) out new
+    added-nothing first len is =
+        added-as parsed list start (at + 1) out (new ++ []) new (sym (append-nil new))
+        (text-added [] (λ i k left viewed frame. ap (item_output (charged_node left viewed frame)) (subst (λ x. IsItem parsed x i) is k)))
 
-      pub listed-sealed : (start len : ℕ) → c ≡ Sealed start len → (new : Output) → new ≡ out ++ marked true (text_at (current t) start len) → IsListed seen left list s t new (at + 1)
-      listed-sealed start len is_sealed new is_new =
-          let text = all_sealed (text_at (current t) start len) in
-          subst (λ o. IsListed seen left list s t o (at + 1)) (sym is_new)
-          (listed-more within t text (same-itself t) (λ i e viewed frame is.
-          gives-here seen (item_output (charged_node left viewed frame) i) t text text (ap (item_output (charged_node left viewed frame)) (item-known (current t) list at c (Sealed start len) i found is_sealed e).0) refl))
+    pub filled-node : (id : NodeId) → c ≡ Node id → (items : List TreeItem) → list_with parsed list ≡ Some items → IsFilled parsed items start out (at + 1, Some id) new
+    filled-node id is items e =
+        let i = item-next within items e in
+        let m = item-known parsed list at c (Node id) i.0 found is i.2 in (
+          m.0,
+          m.1,
+          λ left viewed frame. step-at items i.0 e i.1 left viewed frame
+              ∙ ap (λ (x : TreeItem). item_output (charged_node left viewed frame) x >>= behind_item left viewed frame new (drop (at + 1) items)) m.2,
+        )
 
-      pub listed-nothing : (start len : ℕ) → c ≡ Nothing start len → IsListed seen left list s t out (at + 1)
-      listed-nothing start len is_nothing =
-          subst (λ o. IsListed seen left list s t o (at + 1)) (append-nil out)
-          (listed-more within t [] (same-itself t) (λ i e viewed frame is.
-          gives-here seen (item_output (charged_node left viewed frame) i) t [] [] (ap (item_output (charged_node left viewed frame)) (item-known (current t) list at c (Nothing start len) i found is_nothing e)) refl))
-
-      module _ (id : NodeId) (is_node : c ≡ Node id) where
-        pub listed-node : (u : Expander) (one new : Output) → IsSame t u → NodeEnds seen left t id (Ok one) u → new ≡ out ++ one → IsListed seen left list s u new (at + 1)
-        listed-node u one new same ends is_new =
-            subst (λ o. IsListed seen left list s u o (at + 1)) (sym is_new)
-            (listed-more within u one same (λ i e viewed frame is.
-            let m = item-known (current t) list at c (Node id) i found is_node e in
-            comes-in seen (item_output (charged_node left viewed frame) i) (charged_node left viewed frame m.0.kind m.0.content) (give one) t u
-            (ap (item_output (charged_node left viewed frame)) m.2) (ends m.0 m.1 viewed frame is)))
-
-        pub node-stops : (u : Expander) (stop : Stop) → NodeEnds seen left t id (Err stop) u → (items : List TreeItem) → list_with (current s) list ≡ Some items → (viewed : PageTitle) (frame : Frame) → IsFrame s viewed frame → Stops (goes seen (expand left viewed frame items) s) stop
-        node-stops u stop ends items e viewed frame is =
-            listed-stops within stop (λ i e viewed frame is.
-            let m = item-known (current t) list at c (Node id) i found is_node e in
-            stops-as seen (item_output (charged_node left viewed frame) i) (charged_node left viewed frame m.0.kind m.0.content) t stop
-            (ap (item_output (charged_node left viewed frame)) m.2) (ends m.0 m.1 viewed frame is))
-            items e viewed frame is
+  pub filled-end : count ≤ at → (items : List TreeItem) → list_with parsed list ≡ Some items → IsFilled parsed items start out (count, None) new
+  filled-end all items e = λ left viewed frame.
+      let is : count ≡ length items = at_some (λ found. count ≡ length found) (list_with parsed list) items e long in
+      h.same items e left viewed frame
+      ∙ ap (rest_list left viewed frame new) (drop_all at items (subst (λ n. n ≤ at) is all))
+      ∙ list-end left viewed frame new

@@ -14,7 +14,7 @@ use Rattle.wk_view_rules.specs.Expansions.{Expansion, Output, give, charged, arg
 use Rattle.wk_view_rules.specs.Frames.{Frame, Binding, binding_length, caller}
 use Rattle.wk_view_rules.specs.Worlds.{Seen}
 use Rattle.wk_expand.specs.Levels.{LevelsShown, tree_in}
-use Rattle.wk_expand.specs.Running.{goes, Stops, IsSame, ComesTo, Leads}
+use Rattle.wk_expand.specs.Running.{IsSame, ComesTo, Leads, StopsAt}
 use Rattle.wk_expand.specs.State.{IsFrame, ShowsBindings, ShowsFrame, caller_tree, current}
 use Rattle.wk_expand.specs.declared.levels.Level.{Level}
 use Rattle.wk_expand.specs.declared.state.Expander.{Expander}
@@ -25,21 +25,6 @@ use Rattle.wk_expand.proofs.RunLaws.{comes-bind, stops-bind}
 -- an expansion that has come as far, in other texts
 abbrev pub with_levels : LevelsShown → Expander → Expander
 with_levels v s = record s { levels = v }
-
--- what is done first in other texts, and then what hangs on its value, in the texts from before
-pub comes-around : {A B : Type 0} (seen : Seen) (first : Expansion A) (next : A → Expansion B) (s t : Expander) (x : A) (v w : LevelsShown) → w ≡ s.levels → ComesTo seen first (with_levels v s) (give x) t → ComesTo seen (first >>= next) s (next x) (with_levels w t)
-comes-around seen first next s t x v w back h = record {
-  same = record { page = h.same.page; levels = back };
-  goes_on = (comes-bind seen first next (with_levels v s) x t h).goes_on;
-}
-
-pub stops-around : {A B : Type 0} (seen : Seen) (first : Expansion A) (next : A → Expansion B) (s : Expander) (v : LevelsShown) (stop : Stop) → Stops (goes seen first (with_levels v s)) stop → Stops (goes seen (first >>= next) s) stop
-stops-around seen first next s v stop h = stops-bind seen first next (with_levels v s) stop h
-
--- a call that carries out an expansion changes no level
-pub leads-same : {A X : Type 0} (seen : Seen) (e : Expansion A) (s : Expander) (rest : X → Expansion A) (r : Result X Stop) (t : Expander) → Leads seen e s rest r t → OnOk r (IsSame s t)
-leads-same seen e s rest (Ok x) t h = h.same
-leads-same seen e s rest (Err stop) t h = tt
 
 -- a charge by the same number
 pub charged-as : (seen : Seen) (n m : ℕ) (rest target : Expansion Output) (s t : Expander) → n ≡ m → ComesTo seen (charged (n / 64) rest) s target t → ComesTo seen (charged (m / 64) rest) s target t
@@ -77,13 +62,6 @@ list-left-there s t level v list same included root there =
 pub within-same : (s t : Expander) → IsSame s t → 0 < length s.levels.included → 0 < length t.levels.included
 within-same s t same h = subst (λ (v : LevelsShown). 0 < length v.included) (sym same.levels) h
 
--- the page that was left is entered again
-pub levels-back : (x v y w : LevelsShown) (level : Level) → x.included ≡ level ∷ v.included → v.root ≡ x.root → y ≡ v → w ≡ record y { included = level ∷ y.included } → w ≡ x
-levels-back x v y w level included root same entered =
-    entered
-    ∙ ap (λ (z : LevelsShown). record z { included = level ∷ z.included }) same
-    ∙ ap₂ (λ r levels. record { root = r; included = levels }) root (sym included)
-
 -- ---- a page is entered
 
 pub frame-entered : (s : Expander) (viewed : PageTitle) (frame : Frame) (level : Level) (w : LevelsShown) (bindings : List Binding) → w ≡ record s.levels { included = level ∷ s.levels.included } → ShowsBindings (current s) level.args bindings → IsFrame s viewed frame → IsFrame (with_levels w s) viewed (record { title = level.title; bindings = bindings } ∷ frame)
@@ -96,14 +74,6 @@ frame-entered s viewed frame level w bindings entered shows is = record {
 -- a list of the page's text
 pub list-entered : (s : Expander) (level : Level) (w : LevelsShown) (list : ListId) (items : List Item) → w ≡ record s.levels { included = level ∷ s.levels.included } → list_with level.tree list ≡ Some items → list_with (current (with_levels w s)) list ≡ Some items
 list-entered s level w list items entered e = ap (λ (v : LevelsShown). list_with (tree_in v.root v.included) list) entered ∙ e
-
--- the page that was entered is left again
-pub levels-left : (x w y v : LevelsShown) (level out : Level) → w ≡ record x { included = level ∷ x.included } → y ≡ w → y.included ≡ out ∷ v.included → v.root ≡ y.root → v ≡ x
-levels-left x w y v level out entered same included root =
-    let whole : y ≡ record x { included = level ∷ x.included } = same ∙ entered in
-    ap₂ (λ r levels. record { root = r; included = levels })
-    (root ∙ ap (λ (z : LevelsShown). z.root) whole)
-    (ap (drop 1) (sym included ∙ ap (λ (z : LevelsShown). z.included) whole))
 
 -- ---- the rules
 

@@ -1,7 +1,7 @@
 -- What a step says of other sources.
-use Rattle.std.proofs.Common.{◌≡◌, [], ◌∷◌, Some, ap, subst, inl, inr, ◌∙◌}
+use Rattle.std.proofs.Common.{◌≡◌, [], ◌∷◌, ◌++◌, Some, ap, subst, inl, inr, ◌∙◌}
 use Rattle.std.proofs.lemmas.Bool.{cases_Bool}
-use Rattle.std.proofs.lemmas.List.Elements.{All-head, All-tail}
+use Rattle.std.proofs.lemmas.List.Elements.{All-head, All-tail, All-weaker}
 use Rattle.wk_text_rules.specs.Titles.{PageTitle, title_eq}
 use Rattle.wk_view_laws.proofs.PlanLemmas.{both_parts, kind_eq-true, title_eq-true}
 use Rattle.wk_view_rules.specs.Plans.{Outcome, done, need, reads_of}
@@ -31,3 +31,16 @@ answers-seen source (r ∷ seen) title kind answer agrees e = elim (cases_Bool (
 
 pub agrees-seen : (source : Source) (seen reads : Seen) → Agrees source seen → Agrees (of_seen seen) reads → Agrees source reads
 agrees-seen source seen reads agrees answered k d within = answers-seen source seen _ _ _ agrees (answered k d within)
+
+-- what was seen, with more behind it, answers as before
+ask-longer : (seen more : Seen) (title : PageTitle) (kind : Kind) (answer : Answer) → ask (of_seen seen) title kind ≡ Some answer → ask (of_seen (seen ++ more)) title kind ≡ Some answer
+ask-longer [] more title kind answer e = cc
+ask-longer (r ∷ seen) more title kind answer e = elim (cases_Bool (is_read_of title kind r)) [
+  | inl there ↦ let found : Some r.answer ≡ Some answer = rw there at e in rw there found
+  | inr missing ↦ rw missing (ask-longer seen more title kind answer (rw missing at e))
+]
+
+pub longer-agrees : (seen more reads : Seen) → Agrees (of_seen seen) reads → Agrees (of_seen (seen ++ more)) reads
+longer-agrees seen more reads h =
+    All-weaker (λ (r : Read). ask (of_seen seen) r.title r.kind ≡ Some r.answer) (λ (r : Read). ask (of_seen (seen ++ more)) r.title r.kind ≡ Some r.answer)
+    (λ r e. ask-longer seen more r.title r.kind r.answer e) reads h

@@ -18,15 +18,13 @@ use Rattle.wk_view_rules.specs.Words.{named_item}
 use Rattle.wk_view_rules.specs.Worlds.{Seen}
 use Rattle.wk_view_rules.specs.declared.Turned.{Turned}
 use Rattle.wk_view_rules.specs.declared.Turned.TheVariants.{Result, Default, Pass}
-use Rattle.wk_expand.specs.Running.{ComesTo, IsSame, Stops, goes}
 use Rattle.wk_expand.specs.Searches.{HasDefault, behind_turned}
-use Rattle.wk_expand.specs.State.{current}
+use Rattle.wk_expand.specs.Stack.{Place, searched}
 use Rattle.wk_expand.specs.declared.search.Search.{Search as Found}
 use Rattle.wk_expand.specs.declared.state.Expander.{Expander}
 use Rattle.wk_expand.specs.declared.state.Stop.{Stop}
 use Rattle.wk_expand.proofs.NodeLaws.{count-is, part-of, some_within}
 use Rattle.wk_expand.proofs.PartLaws.{current-same, part-is, some_of, some_part}
-use Rattle.wk_expand.proofs.RunLaws.{comes-bind, comes-on, comes-out, stops-as, stops-bind, stops-on}
 
 module _ (inner : Frame → List Item → Expansion Output) (viewed : PageTitle) (frame : Frame) where
   abbrev pub behind_bare : Search → List Part → Output → Expansion Output
@@ -96,36 +94,6 @@ module _ (inner : Frame → List Item → Expansion Output) (viewed : PageTitle)
   unfolding without_result
   without-all so_far e default = rw (e, default) refl
 
-  -- ---- a step of the search
-
-  module _ (seen : Seen) (e : Expansion Output) (s t : Expander) (so_far : Search) (part : Part) (parts : List Part) where
-    pub bare-step : (u : Expander) (text : Output) → part.name ≡ None → ComesTo seen e s (switch_output inner viewed frame so_far (part ∷ parts)) t → ComesTo seen (trimmed_items inner viewed frame part.value) t (give text) u → ComesTo seen e s (switch_output inner viewed frame (behind_bare_item so_far text) parts) u
-    bare-step u text is a b =
-        comes-on seen e (trimmed_items inner viewed frame part.value >>= behind_bare so_far parts) (behind_bare so_far parts text) s t u
-        (comes-out seen e (switch_output inner viewed frame so_far (part ∷ parts)) (trimmed_items inner viewed frame part.value >>= behind_bare so_far parts) s t (switch-bare so_far part parts is) a)
-        (comes-bind seen (trimmed_items inner viewed frame part.value) (behind_bare so_far parts) t text u b)
-
-    pub bare-stops : (stop : Stop) → part.name ≡ None → ComesTo seen e s (switch_output inner viewed frame so_far (part ∷ parts)) t → Stops (goes seen (trimmed_items inner viewed frame part.value) t) stop → Stops (goes seen e s) stop
-    bare-stops stop is a b =
-        stops-on seen e (switch_output inner viewed frame so_far (part ∷ parts)) s t stop a
-        (stops-as seen (switch_output inner viewed frame so_far (part ∷ parts)) (trimmed_items inner viewed frame part.value >>= behind_bare so_far parts) t stop (switch-bare so_far part parts is)
-        (stops-bind seen (trimmed_items inner viewed frame part.value) (behind_bare so_far parts) t stop b))
-
-    pub named-step : (u : Expander) (name : List Item) (text : Output) → part.name ≡ Some name → so_far.matched ≡ false → ComesTo seen e s (switch_output inner viewed frame so_far (part ∷ parts)) t → ComesTo seen (trimmed_items inner viewed frame name) t (give text) u → ComesTo seen e s (behind_switched_name so_far part parts text) u
-    named-step u name text is unmatched a b =
-        comes-on seen e (trimmed_items inner viewed frame name >>= behind_switched_name so_far part parts) (behind_switched_name so_far part parts text) s t u
-        (comes-out seen e (switch_output inner viewed frame so_far (part ∷ parts)) (trimmed_items inner viewed frame name >>= behind_switched_name so_far part parts) s t (switch-named so_far part parts name is unmatched) a)
-        (comes-bind seen (trimmed_items inner viewed frame name) (behind_switched_name so_far part parts) t text u b)
-
-    pub named-stops : (stop : Stop) (name : List Item) → part.name ≡ Some name → so_far.matched ≡ false → ComesTo seen e s (switch_output inner viewed frame so_far (part ∷ parts)) t → Stops (goes seen (trimmed_items inner viewed frame name) t) stop → Stops (goes seen e s) stop
-    named-stops stop name is unmatched a b =
-        stops-on seen e (switch_output inner viewed frame so_far (part ∷ parts)) s t stop a
-        (stops-as seen (switch_output inner viewed frame so_far (part ∷ parts)) (trimmed_items inner viewed frame name >>= behind_switched_name so_far part parts) t stop (switch-named so_far part parts name is unmatched)
-        (stops-bind seen (trimmed_items inner viewed frame name) (behind_switched_name so_far part parts) t stop b))
-
-    pub matched-comes : (name : List Item) → part.name ≡ Some name → so_far.matched ≡ true → ComesTo seen e s (switch_output inner viewed frame so_far (part ∷ parts)) t → ComesTo seen e s (trimmed_items inner viewed frame part.value) t
-    matched-comes name is matched a = comes-out seen e (switch_output inner viewed frame so_far (part ∷ parts)) (trimmed_items inner viewed frame part.value) s t (switch-matched so_far part parts name is matched) a
-
 -- ---- the search as it is kept
 
 pub default-there : (parsed : ParsedText) (s : Found) (list : ListId) → s.default ≡ Some list → HasDefault parsed s → IsSome (list_with parsed list)
@@ -143,22 +111,7 @@ rest-at {X} xs i x e =
     let next : suc i ≡ i + 1 = omega arith in
     drop-cons xs i x within ∙ ap₂ (λ (y : X) (n : ℕ). y ∷ drop n xs) same next
 
--- ---- the parts of a node, from one state to a later one
-
-module _ (s u : Expander) (first shown : ParsedText) (node : NodeId) (count at : ℕ) (same : IsSame s u) (first_is : first ≡ current s) (shown_is : shown ≡ current u) (counts : IfSome (node_with first node) (λ n. count ≡ length (further_parts n.content))) (before : at < count) where
-  part-within : (m : Node) → node_with (current s) node ≡ Some m → (q : Part) × (slice_get (further_parts m.content) at ≡ Some q)
-  part-within m e =
-      let total : count ≡ length (further_parts m.content) = count-is first (current s) node count m first_is counts e in
-      some_within (further_parts m.content) at (subst (λ n. at < n) total before)
-
-  pub switched-part : IsSome (node_with (current s) node) → IsSome (part_with shown node at)
-  switched-part there =
-      let m = some_part (node_with (current s) node) there in
-      let q = part-within m.0 m.1 in
-      subst (λ parsed. IsSome (part_with parsed node at)) (sym (shown_is ∙ current-same s u same))
-      (some_of (part_with (current s) node at) q.0 (part-of (current s) node at m.0 m.1 ∙ q.1))
-
-  pub part-here : (p : Kept) → IfSome (part_with shown node at) (IsPart shown p) → (m : Node) → node_with (current s) node ≡ Some m → (q : Part) × (slice_get (further_parts m.content) at ≡ Some q) × IsPart (current s) p q
-  part-here p is m e =
-      let q = part-within m e in
-      (q.0, q.1, part-is shown (current s) node at p q.0 (shown_is ∙ current-same s u same) is (part-of (current s) node at m e ∙ q.1))
+-- the rest, by the value alone
+pub searched-same : (p : Place) (part : Part) (parts : List Part) (o : Option Search) → by_search p.inner p.viewed p.frame part parts o ≡ searched p part.value parts o
+searched-same p part parts None = refl
+searched-same p part parts (Some later) = refl

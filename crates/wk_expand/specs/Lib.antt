@@ -8,8 +8,12 @@ pub mod Inclusions
 pub mod Items
 pub mod Kept
 pub mod Levels
+pub mod Machines
 pub mod Nodes
 pub mod Running
+pub mod Runs
 pub mod Searches
+pub mod Stack
 pub mod State
 pub mod Steps
+pub mod Work

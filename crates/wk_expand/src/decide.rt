@@ -9,7 +9,7 @@ ghost use Rattle.wk_view_rules.specs.Expansions.{Expansion, Output};
 ghost use Rattle.wk_view_rules.specs.Frames.{Frame};
 ghost use Rattle.wk_view_rules.specs.declared.Func.TheVariants.{IfError};
 ghost use Rattle.wk_expand.specs.Decisions.{decision_rest, Further};
-ghost use Rattle.wk_expand.specs.Running.{IsSame, Leads};
+ghost use Rattle.wk_expand.specs.Running.{IsSame, Keeps, Leads};
 ghost use Rattle.wk_expand.specs.State.{IsFrame};
 
 use crate::inclusion::Found;
@@ -36,6 +36,8 @@ pub enum Decision {
     Written,
     /// In the place of the first title, the text that stands under the second one.
     Includes(Title, Title, Text),
+    /// The first title redirects to the second.
+    Redirects(Title, Title),
 }
 
 /// Operand 2 where the first operand shows an error, else operand 3, or the first where there is no third.
@@ -65,6 +67,7 @@ impl Expander {
         count: usize,
     ) -> Result<Decision, Stop>
         ensures same { OnOk result (IsSame self.old self.new) }
+        ensures keeps { Keeps result self.old self.new }
         ensures further { IfOk result Further }
         ensures leads { (inner : Frame → List Item → Expansion Output) (viewed : PageTitle) (frame : Frame)
             (name : Output) (parts : List Part) → length parts ≡ count
@@ -93,6 +96,7 @@ impl Expander {
     /// What is to be done for a template whose trimmed title part calls no variable and no function.
     fn called(&mut self, seen: &Seen, title: &Out) -> Result<Decision, Stop>
         ensures same { OnOk result (IsSame self.old self.new) }
+        ensures keeps { Keeps result self.old self.new }
         ensures further { IfOk result Further }
         ensures leads { (viewed : PageTitle) (frame : Frame) → IsFrame self.old viewed frame
             → (inner : Frame → List Item → Expansion Output) (name : Output) (parts : List Part)
@@ -106,12 +110,14 @@ impl Expander {
         match self.inclusion(seen, &title)? {
             Found::Gives(out) => Ok(Decision::Gives(out)),
             Found::Includes(source, text) => Ok(Decision::Includes(title, source, text)),
+            Found::Redirects(target) => Ok(Decision::Redirects(title, target)),
         }
     }
 
     /// What is to be done for a template with so many further parts, whose title part gives this name.
     pub fn decide(&mut self, seen: &Seen, name: &Out, count: usize) -> Result<Decision, Stop>
         ensures same { OnOk result (IsSame self.old self.new) }
+        ensures keeps { Keeps result self.old self.new }
         ensures further { IfOk result Further }
         ensures leads { (viewed : PageTitle) (frame : Frame) → IsFrame self.old viewed frame
             → (inner : Frame → List Item → Expansion Output) (parts : List Part) → length parts ≡ count

@@ -10,9 +10,10 @@ ghost use Rattle.wk_view_rules.specs.Frames.{Frame};
 ghost use Rattle.wk_view_rules.specs.Worlds.{is_there};
 ghost use Rattle.wk_view_rules.specs.declared.Func.TheVariants.{IfExist};
 ghost use Rattle.wk_expand.specs.Answers.{answer_of};
-ghost use Rattle.wk_expand.specs.Running.{Leads};
+ghost use Rattle.wk_expand.specs.Running.{Keeps, Leads};
 
 use crate::answer::Answer;
+use crate::reads::asked;
 use crate::seen::Seen;
 use crate::state::{Expander, Stop};
 use crate::words::tested_title;
@@ -43,7 +44,8 @@ fn is_there(answer: &Answer) -> bool
 impl Expander {
     /// Whether a page exists, by an answer.
     fn existence(&mut self, seen: &Seen, title: &Title) -> Result<bool, Stop>
-        ensures { (inner : Frame → List Item → Expansion Output) (viewed : PageTitle) (frame : Frame)
+        ensures keeps { Keeps result self.old self.new }
+        ensures leads { (inner : Frame → List Item → Expansion Output) (viewed : PageTitle) (frame : Frame)
             (parts : List Part)
             → Leads seen.now (by_existence inner viewed frame title.now parts) self.old
             (λ there. operand inner viewed frame (if there then 2 else 3) parts) result self.new }
@@ -54,7 +56,8 @@ impl Expander {
 
     /// Whether a page exists; no where no more titles may be tested, and this one wasn't tested before.
     fn tested_existence(&mut self, seen: &Seen, title: &Title) -> Result<bool, Stop>
-        ensures { (inner : Frame → List Item → Expansion Output) (viewed : PageTitle) (frame : Frame)
+        ensures keeps { Keeps result self.old self.new }
+        ensures leads { (inner : Frame → List Item → Expansion Output) (viewed : PageTitle) (frame : Frame)
             (parts : List Part)
             → Leads seen.now (existence_output inner viewed frame title.now parts) self.old
             (λ there. operand inner viewed frame (if there then 2 else 3) parts) result self.new }
@@ -65,14 +68,17 @@ impl Expander {
         if MOST_TESTS <= self.counts.exists {
             return Ok(false);
         }
+        let answer = asked(seen, title, Kind::Exists)?;
         self.tested.push(title.share()?)?;
         self.counts.exists += 1;
-        self.existence(seen, title)
+        self.reads.note(title, Kind::Exists, &answer)?;
+        Ok(is_there(&answer))
     }
 
     /// Whether the page that an operand names exists; no with no title, and where no more titles may be tested.
     pub fn exists(&mut self, seen: &Seen, first: &Out) -> Result<bool, Stop>
-        ensures { (inner : Frame → List Item → Expansion Output) (viewed : PageTitle) (frame : Frame)
+        ensures keeps { Keeps result self.old self.new }
+        ensures leads { (inner : Frame → List Item → Expansion Output) (viewed : PageTitle) (frame : Frame)
             (parts : List Part)
             → Leads seen.now (function_output inner viewed frame IfExist first.now parts) self.old
             (λ there. operand inner viewed frame (if there then 2 else 3) parts) result self.new }

@@ -1,92 +1,54 @@
-//! The expansion of functions (MediaWiki's Help:Extension:ParserFunctions).
-ghost use Rattle.std.specs.Prelude.{◌≡◌, List, IsSome, OnOk, Some};
-ghost use Rattle.wk_tree_rules.specs.Tree.{Node, further_parts};
+//! The expansion of a `#switch` (MediaWiki's Help:Extension:ParserFunctions).
+ghost use Rattle.std.specs.Prelude.{◌≡◌, List, drop, IfOk, IsSome, Some};
+ghost use Rattle.wk_text_rules.specs.Marked.{trimmed_output};
 ghost use Rattle.wk_tree_rules.specs.Trees.{Item};
-ghost use Rattle.wk_view_rules.specs.Expand.{function_output, new_search, switch_output, trimmed_items, without_result};
-ghost use Rattle.wk_view_rules.specs.declared.Func.TheVariants.{IfEq};
+ghost use Rattle.wk_view_rules.specs.Expand.{behind_bare_item, switch_output, without_result};
+ghost use Rattle.wk_view_rules.specs.Words.{named_item};
+ghost use Rattle.wk_view_rules.specs.Worlds.{Seen as Answers};
 ghost use Rattle.wk_tree.specs.Parsed.{list_with, node_with};
-ghost use Rattle.wk_expand.specs.Running.{EndsIn, IsSame};
-ghost use Rattle.wk_expand.specs.Searches.{HasDefault, search_of};
+ghost use Rattle.wk_tree.specs.declared.item.NodeId.{NodeId as NodeName};
+ghost use Rattle.wk_expand.specs.Searches.{HasDefault, behind_turned, search_of};
+ghost use Rattle.wk_expand.specs.Stack.{IsHere, LeadsTo, Place, parts_at, searched, text_at};
 ghost use Rattle.wk_expand.specs.State.{current};
 
 use crate::search::Search;
-use crate::seen::Seen;
-use crate::state::{Expander, Stop};
-use wk_func::equal;
+use crate::stack::{Next, Use, Waiting};
+use crate::state::Expander;
+use wk_memory::Memory;
 use wk_out::Out;
 use wk_tree::{ListId, NodeId};
 
 impl Expander {
-    /// Operand 3 where operands 1 and 2 are equal, else operand 4 (MediaWiki's Help:Extension:ParserFunctions).
-    #[cycle(expand)]
-    pub fn equality(
-        &mut self,
-        seen: &Seen,
-        left: usize,
-        node: NodeId,
-        first: &Out,
-    ) -> Result<Out, Stop>
-        requires { IsSome (node_with (current self.old) node) }
-        ensures same { OnOk result (IsSame self.old self.new) }
-        ensures runs { (m : Node) → node_with (current self.old) node ≡ Some m
-            → EndsIn seen.now left (λ inner viewed frame.
-            function_output inner viewed frame IfEq first.now (further_parts m.content))
-            self.old result self.new }
+    /// The items of a `#switch` from one on, by what was met before.
+    pub fn switch(&self, node: NodeId, search: Search, at: usize) -> Next
+        requires there { IsSome (node_with (current self.now) node) }
+        requires default { HasDefault (current self.now) search }
+        ensures { (seen : Answers) (p : Place) → IsHere self.now node p
+            → LeadsTo seen p (switch_output p.inner p.viewed p.frame (search_of (text_at p) search)
+            (drop at (parts_at p))) self.now result self.now }
     {
-        let second = self.operand(seen, left, node, 2)?;
-        if equal(first, &second) {
-            self.operand(seen, left, node, 3)
-        } else {
-            self.operand(seen, left, node, 4)
+        if self.tree().parts(node) <= at {
+            return self.without_result(search);
         }
-    }
-
-    /// Expands a `#switch`.
-    #[cycle(expand)]
-    pub fn switch(
-        &mut self,
-        seen: &Seen,
-        left: usize,
-        node: NodeId,
-        subject: Out,
-    ) -> Result<Out, Stop>
-        requires { IsSome (node_with (current self.old) node) }
-        ensures same { OnOk result (IsSame self.old self.new) }
-        ensures runs { (m : Node) → node_with (current self.old) node ≡ Some m
-            → EndsIn seen.now left (λ inner viewed frame.
-            switch_output inner viewed frame (new_search subject) (further_parts m.content))
-            self.old result self.new }
-    {
-        let mut search = Search::new(subject);
-        let count = self.tree().parts(node);
-        'parts: for at in 0..count {
-            let part = self.tree().part(node, at);
-            match part.name {
-                None => {
-                    let text = self.trimmed(seen, left, part.value)?;
-                    search.bare(text);
+        let part = self.tree().part(node, at);
+        let out = Out::new(self.alloc);
+        match part.name {
+            None => Next::Expands(Waiting::Bare(search, at + 1), part.value, out),
+            Some(name) => {
+                if search.matched {
+                    return Next::Expands(Waiting::Part(Use::Operand), part.value, out);
                 }
-                Some(name) => {
-                    if search.matched {
-                        return self.trimmed(seen, left, part.value);
-                    }
-                    let text = self.trimmed(seen, left, name)?;
-                    if search.named(&text, part.value) {
-                        return self.trimmed(seen, left, part.value);
-                    }
-                }
+                Next::Expands(Waiting::Named(search, at + 1, part.value), name, out)
             }
         }
-        self.without_result(seen, left, search)
     }
 
-    /// What a `#switch` with no result gives.
-    #[cycle(expand)]
-    fn without_result(&mut self, seen: &Seen, left: usize, search: Search) -> Result<Out, Stop>
-        requires { HasDefault (current self.old) search }
-        ensures same { OnOk result (IsSame self.old self.new) }
-        ensures runs { EndsIn seen.now left (λ inner viewed frame.
-            without_result inner viewed frame (search_of (current self.old) search)) self.old result self.new }
+    /// What a `#switch` with no result does.
+    fn without_result(&self, search: Search) -> Next
+        requires { HasDefault (current self.now) search }
+        ensures { (seen : Answers) (p : Place) (id : NodeName) → IsHere self.now id p
+            → LeadsTo seen p (without_result p.inner p.viewed p.frame (search_of (text_at p) search))
+            self.now result self.now }
     {
         let Search {
             decides: _decides,
@@ -95,24 +57,59 @@ impl Expander {
             bare_before,
         } = search;
         if let Some(text) = bare_before {
-            return Ok(text);
+            return Next::Gives(text);
         }
+        let out = Out::new(self.alloc);
         match default {
-            Some(value) => self.trimmed(seen, left, value),
-            None => Ok(Out::new(self.alloc)),
+            Some(value) => Next::Expands(Waiting::Part(Use::Operand), value, out),
+            None => Next::Gives(out),
         }
     }
 
-    /// Expands a list, without the plain blank bytes at both ends.
-    #[cycle(expand)]
-    fn trimmed(&mut self, seen: &Seen, left: usize, list: ListId) -> Result<Out, Stop>
-        requires { IsSome (list_with (current self.old) list) }
-        ensures same { OnOk result (IsSame self.old self.new) }
-        ensures runs { (items : List Item) → list_with (current self.old) list ≡ Some items
-            → EndsIn seen.now left (λ inner viewed frame. trimmed_items inner viewed frame items)
-            self.old result self.new }
+    /// What a `#switch` does behind an item without an equals sign, which gives this output.
+    pub fn bare_item(
+        &self,
+        node: NodeId,
+        search: Search,
+        next: usize,
+        out: &Out,
+    ) -> Result<Next, Memory>
+        requires there { IsSome (node_with (current self.now) node) }
+        requires default { HasDefault (current self.now) search }
+        ensures { IfOk result (λ does. (seen : Answers) (p : Place) → IsHere self.now node p
+            → LeadsTo seen p (switch_output p.inner p.viewed p.frame
+            (behind_bare_item (search_of (text_at p) search) (trimmed_output out.now)) (drop next (parts_at p)))
+            self.now does self.now) }
     {
-        let out = self.list(seen, left, list)?;
-        Ok(out.trimmed(self.alloc)?)
+        let mut search = search;
+        search.bare(out.trimmed(self.alloc)?);
+        Ok(self.switch(node, search, next))
+    }
+
+    /// What a `#switch` does behind the name of an item with this value.
+    pub fn named_item(
+        &self,
+        node: NodeId,
+        search: Search,
+        next: usize,
+        value: ListId,
+        name: &Out,
+    ) -> Result<Next, Memory>
+        requires there { IsSome (node_with (current self.now) node) }
+        requires default { HasDefault (current self.now) search }
+        requires value { IsSome (list_with (current self.now) value) }
+        ensures { IfOk result (λ does. (seen : Answers) (p : Place) (items : List Item) → IsHere self.now node p
+            → list_with (text_at p) value ≡ Some items
+            → LeadsTo seen p (searched p items (drop next (parts_at p))
+            (behind_turned (named_item search.decides (trimmed_output name.now)) (search_of (text_at p) search) items))
+            self.now does self.now) }
+    {
+        let mut search = search;
+        let name = name.trimmed(self.alloc)?;
+        if search.named(&name, value) {
+            let before = Out::new(self.alloc);
+            return Ok(Next::Expands(Waiting::Part(Use::Operand), value, before));
+        }
+        Ok(self.switch(node, search, next))
     }
 }

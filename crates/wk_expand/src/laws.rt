@@ -1,6 +1,6 @@
 //! Laws of drafts. Each is the contract of a function that does nothing but name the laws that it stands on: its clauses
 //! are the law.
-ghost use Rattle.std.specs.Prelude.{◌≡◌, List, None, IsTrue};
+ghost use Rattle.std.specs.Prelude.{◌≡◌, ◌++◌, List, None, IsTrue};
 ghost use Rattle.std.specs.List.{list_any};
 ghost use Rattle.wk_text_rules.specs.Titles.{PageTitle};
 ghost use Rattle.wk_view_rules.specs.Plans.{done, reads_of};
@@ -42,3 +42,8 @@ pub fn steps_tell_of_worlds()
     reads_are_answers();
     worlds_are_never_in_need();
 }
+
+/// What answers all that was read still does with more behind it.
+pub fn longer_seens_agree()
+    ensures { (seen more reads : List Read) → Agrees (of_seen seen) reads → Agrees (of_seen (seen ++ more)) reads }
+{}

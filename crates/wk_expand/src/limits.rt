@@ -1,10 +1,12 @@
 //! The limits on the bytes of arguments and of included texts.
-ghost use Rattle.wk_view_rules.specs.Expansions.{argument_within_limit, inclusion_within_limit};
+ghost use Rattle.std.specs.Prelude.{IfOk};
+ghost use Rattle.wk_view_rules.specs.Expansions.{argument_within_limit, give, inclusion_within_limit};
 ghost use Rattle.wk_view_rules.specs.Worlds.{Seen};
-ghost use Rattle.wk_expand.specs.Running.{Ends};
+ghost use Rattle.wk_expand.specs.Running.{ComesTo};
 
-use crate::state::{Expander, Stop};
+use crate::state::Expander;
 use crate::texts::{argument_error, link_text};
+use wk_memory::Memory;
 use wk_out::Out;
 use wk_title::Title;
 
@@ -13,8 +15,8 @@ const MOST_BYTES: u64 = 2_097_152;
 
 impl Expander {
     /// An argument's text, or the error where arguments would have too many bytes in all.
-    pub fn within_argument_limit(&mut self, out: Out) -> Result<Out, Stop>
-        ensures { (seen : Seen) → Ends seen (argument_within_limit out) self.old result self.new }
+    pub fn within_argument_limit(&mut self, out: Out) -> Result<Out, Memory>
+        ensures { IfOk result (λ given. (seen : Seen) → ComesTo seen (argument_within_limit out) self.old (give given) self.new) }
     {
         match self.counts.argument.checked_add(out.len() as u64) {
             Some(sum) if sum <= MOST_BYTES => {
@@ -26,8 +28,8 @@ impl Expander {
     }
 
     /// The text of an inclusion, or a link to the page where inclusions would have too many bytes in all.
-    pub fn within_inclusion_limit(&mut self, title: &Title, out: Out) -> Result<Out, Stop>
-        ensures { (seen : Seen) → Ends seen (inclusion_within_limit title.now out) self.old result self.new }
+    pub fn within_inclusion_limit(&mut self, title: &Title, out: Out) -> Result<Out, Memory>
+        ensures { IfOk result (λ given. (seen : Seen) → ComesTo seen (inclusion_within_limit title.now out) self.old (give given) self.new) }
     {
         match self.counts.include.checked_add(out.len() as u64) {
             Some(sum) if sum <= MOST_BYTES => {

@@ -1,145 +1,173 @@
 //! The expansion of templates (MediaWiki's Help:Templates).
-ghost use Rattle.std.specs.Prelude.{◌≡◌, [], IfOk, IsSome, OnOk, Some};
-ghost use Rattle.wk_text_rules.specs.Titles.{PageTitle};
-ghost use Rattle.wk_tree_rules.specs.Tree.{Node, further_parts};
-ghost use Rattle.wk_view_rules.specs.Expand.{expand, included, template_as_written, template_output, with_bindings};
-ghost use Rattle.wk_view_rules.specs.Frames.{Frame};
+ghost use Rattle.std.specs.Prelude.{◌≡◌, ◌+◌, ◌≤◌, List, [], drop, length, IfOk, IfSome, IsSome, OnOk};
+ghost use Rattle.std.specs.FinMap.{empty};
+ghost use Rattle.wk_view_rules.specs.Expand.{included, kind_output, redirected, template_output};
+ghost use Rattle.wk_view_rules.specs.Expansions.{Expansion, Output};
+ghost use Rattle.wk_view_rules.specs.Frames.{Binding};
+ghost use Rattle.wk_view_rules.specs.Worlds.{Seen as Answers};
 ghost use Rattle.wk_tree.specs.Parsed.{node_with};
-ghost use Rattle.wk_expand.specs.Inclusions.{Binds};
+ghost use Rattle.wk_tree.specs.declared.item.NodeId.{NodeId as NodeName};
 ghost use Rattle.wk_expand.specs.Levels.{HasLists};
-ghost use Rattle.wk_expand.specs.Running.{EndsIn, IsSame};
-ghost use Rattle.wk_expand.specs.State.{IsFrame, current};
+ghost use Rattle.wk_expand.specs.Running.{Keeps};
+ghost use Rattle.wk_expand.specs.Stack.{IsBinds, IsHere, LeadsTo, LeadsOn, Place, included_with, parts_at, text_at};
+ghost use Rattle.wk_expand.specs.State.{ShowsBindings, current};
 
-use crate::bind::{bind_name, bind_number};
+use crate::bind::bind_number;
 use crate::decide::Decision;
+use crate::inclusion::Found;
 use crate::levels::{Bound, Level};
+use crate::search::Search;
 use crate::seen::Seen;
+use crate::stack::{Binder, Inclusion, Next, Pending, Waiting};
 use crate::state::{Expander, Stop};
-use crate::texts::{node_error, plain};
+use crate::texts::node_error;
 use wk_args::Args;
-use wk_bytes::Text;
+use wk_memory::Memory;
 use wk_out::Out;
 use wk_title::Title;
 use wk_tree::{NodeId, parse};
 use wk_tree_rules::Mode;
 
 impl Expander {
-    /// Expands a template, whose title part gives this name.
-    #[cycle(expand)]
-    pub fn template(
-        &mut self,
-        seen: &Seen,
-        left: usize,
-        node: NodeId,
-        name: &Out,
-    ) -> Result<Out, Stop>
+    /// What a node does, whose title part gives this name.
+    pub fn titled(&mut self, seen: &Seen, node: NodeId, name: &Out) -> Result<Next, Stop>
         requires { IsSome (node_with (current self.old) node) }
-        ensures same { OnOk result (IsSame self.old self.new) }
-        ensures runs { (m : Node) → node_with (current self.old) node ≡ Some m
-            → EndsIn seen.now left (λ inner viewed frame.
-            template_output inner viewed frame name.now (further_parts m.content)) self.old result self.new }
+        ensures keeps { Keeps result self.old self.new }
+        ensures leads { (p : Place) → IsHere self.old node p
+            → LeadsOn seen.now p (kind_output p.inner p.viewed p.frame p.node.kind name.now (parts_at p))
+            self.old result self.new }
+    {
+        if self.tree().argument(node) {
+            return Ok(self.argument(node, name)?);
+        }
+        self.template(seen, node, name)
+    }
+
+    /// What a template does, whose title part gives this name.
+    fn template(&mut self, seen: &Seen, node: NodeId, name: &Out) -> Result<Next, Stop>
+        requires { IsSome (node_with (current self.old) node) }
+        ensures keeps { Keeps result self.old self.new }
+        ensures leads { (p : Place) → IsHere self.old node p
+            → LeadsOn seen.now p (template_output p.inner p.viewed p.frame name.now (parts_at p))
+            self.old result self.new }
     {
         let count = self.tree().parts(node);
         match self.decide(seen, name, count)? {
-            Decision::Gives(out) => Ok(out),
-            Decision::Operand(n) => self.operand(seen, left, node, n),
-            Decision::Equality(first) => self.equality(seen, left, node, &first),
-            Decision::Switch(subject) => self.switch(seen, left, node, subject),
-            Decision::Written => self.written(seen, left, node, name),
+            Decision::Gives(out) => Ok(Next::Gives(out)),
+            Decision::Operand(n) => Ok(self.operand(node, n)),
+            Decision::Equality(first) => Ok(self.equality(node, first)),
+            Decision::Switch(subject) => Ok(self.switch(node, Search::new(subject), 0)),
+            Decision::Written => Ok(self.written(node, name)?),
+            Decision::Redirects(title, target) => Ok(Next::Goes(Pending::Target(title, target))),
             Decision::Includes(title, source, text) => {
-                self.page_text(seen, left, node, &title, source, text)
+                let page = Inclusion {
+                    title,
+                    source,
+                    text,
+                };
+                Ok(self.page_text(node, page)?)
             }
         }
     }
 
-    /// A template as it is written, behind the name that its title part gives.
-    #[cycle(expand)]
-    fn written(&mut self, seen: &Seen, left: usize, node: NodeId, name: &Out) -> Result<Out, Stop>
-        requires { IsSome (node_with (current self.old) node) }
-        ensures same { OnOk result (IsSame self.old self.new) }
-        ensures runs { (m : Node) → node_with (current self.old) node ≡ Some m
-            → EndsIn seen.now left (λ inner viewed frame.
-            template_as_written inner viewed frame name.now (further_parts m.content))
-            self.old result self.new }
-    {
-        let mut out = plain(self.alloc, "{{")?;
-        out.append(name)?;
-        let count = self.tree().parts(node);
-        'parts: for at in 0..count {
-            let part = self.whole(seen, left, node, at)?;
-            out.push_plain("|")?;
-            out.append(&part)?;
-        }
-        out.push_plain("}}")?;
-        Ok(out)
-    }
-
-    /// Expands a page's text, which stands under the title `source`, in the place of a title.
-    #[cycle(expand)]
-    fn page_text(
+    /// What a template does whose page redirects to a target.
+    pub fn redirected_page(
         &mut self,
         seen: &Seen,
-        left: usize,
         node: NodeId,
         title: &Title,
-        source: Title,
-        text: Text,
-    ) -> Result<Out, Stop>
+        target: &Title,
+    ) -> Result<Next, Stop>
         requires { IsSome (node_with (current self.old) node) }
-        ensures same { OnOk result (IsSame self.old self.new) }
-        ensures runs { (m : Node) → node_with (current self.old) node ≡ Some m
-            → EndsIn seen.now left (λ inner viewed frame.
-            included inner viewed frame title.now source text (further_parts m.content))
+        ensures keeps { Keeps result self.old self.new }
+        ensures leads { (p : Place) → IsHere self.old node p
+            → LeadsOn seen.now p (redirected p.inner p.viewed p.frame title.now target.now (parts_at p))
             self.old result self.new }
     {
-        if !self.charge(text.len() as u64 / 64) {
-            return Ok(node_error(self.alloc)?);
+        match self.redirected(seen, title, target)? {
+            Found::Gives(out) => Ok(Next::Gives(out)),
+            Found::Redirects(target) => Ok(Next::Goes(Pending::Target(title.share()?, target))),
+            Found::Includes(source, text) => {
+                let page = Inclusion {
+                    title: title.share()?,
+                    source,
+                    text,
+                };
+                Ok(self.page_text(node, page)?)
+            }
         }
-        let args = self.bindings(seen, left, node)?;
-        let tree = parse(self.alloc, &text, Mode::Include)?;
+    }
+
+    /// A page's text is included.
+    fn page_text(&mut self, node: NodeId, page: Inclusion) -> Result<Next, Memory>
+        requires { IsSome (node_with (current self.old) node) }
+        ensures { IfOk result (λ next. (seen : Answers) (p : Place) → IsHere self.old node p
+            → LeadsTo seen p (included p.inner p.viewed p.frame page.title page.source page.text (parts_at p))
+            self.old next self.new) }
+    {
+        if !self.charge(page.text.len() as u64 / 64) {
+            return Ok(Next::Gives(node_error(self.alloc)?));
+        }
+        let binder = Binder {
+            args: Args::new(self.alloc),
+            numbered: 0,
+            at: 0,
+        };
+        Ok(Next::Goes(Pending::Binds(page, binder)))
+    }
+
+    /// Binds the next of a node's further parts, or begins to expand its name; behind the last the page is included.
+    pub fn bind(&mut self, node: NodeId, page: Inclusion, binder: Binder) -> Result<Next, Memory>
+        requires there { IsSome (node_with (current self.old) node) }
+        requires lists { HasLists (current self.old) binder.args }
+        requires few { binder.numbered ≤ binder.at }
+        ensures { IfOk result (λ next. (seen : Answers) (p : Place) (rest : Expansion Output)
+            → IsHere self.old node p → IsBinds p page binder rest → LeadsTo seen p rest self.old next self.new) }
+    {
+        let Binder { args, numbered, at } = binder;
+        if self.tree().parts(node) <= at {
+            return Ok(self.enter_page(page, args)?);
+        }
+        let part = self.tree().part(node, at);
+        let bound = Bound {
+            value: part.value,
+            len: part.len,
+            named: part.name.is_some(),
+        };
+        let at = at + 1;
+        match part.name {
+            None => {
+                let mut args = args;
+                let numbered = numbered + 1;
+                bind_number(self.alloc, &mut args, numbered, bound)?;
+                let binder = Binder { args, numbered, at };
+                Ok(Next::Goes(Pending::Binds(page, binder)))
+            }
+            Some(name) => {
+                let binder = Binder { args, numbered, at };
+                let waiting = Waiting::Binding(page, binder, bound);
+                let before = Out::new(self.alloc);
+                Ok(Next::Expands(waiting, name, before))
+            }
+        }
+    }
+
+    /// Includes a page, in which this is bound.
+    fn enter_page(&mut self, page: Inclusion, args: Args<Bound>) -> Result<Next, Memory>
+        requires { HasLists (current self.old) args }
+        ensures { IfOk result (λ next. (seen : Answers) (p : Place) (id : NodeName) (bindings : List Binding)
+            → IsHere self.old id p → ShowsBindings (text_at p) args bindings
+            → LeadsTo seen p (included_with p page bindings) self.old next self.new) }
+    {
+        let tree = parse(self.alloc, &page.text, Mode::Include)?;
         let root = tree.root();
+        let Inclusion { title, source, .. } = page;
         self.levels.enter(Level {
             title: source,
             tree,
             args,
         })?;
-        let out = self.list(seen, left, root)?;
-        let _level = self.levels.leave();
-        self.within_inclusion_limit(title, out)
-    }
-
-    /// Binds the further parts of a node, whose names are expanded and trimmed.
-    #[cycle(expand)]
-    fn bindings(&mut self, seen: &Seen, left: usize, node: NodeId) -> Result<Args<Bound>, Stop>
-        requires { IsSome (node_with (current self.old) node) }
-        ensures same { OnOk result (IsSame self.old self.new) }
-        ensures lists { IfOk result (λ args. HasLists (current self.old) args) }
-        ensures runs { (m : Node) → node_with (current self.old) node ≡ Some m
-            → (viewed : PageTitle) (frame : Frame) → IsFrame self.old viewed frame
-            → Binds seen.now (with_bindings (expand left viewed) viewed frame 1 [] (further_parts m.content))
-            (current self.old) self.old result self.new }
-    {
-        let mut args = Args::new(self.alloc);
-        let mut numbered = 0u64;
-        let count = self.tree().parts(node);
-        'parts: for at in 0..count {
-            let part = self.tree().part(node, at);
-            let bound = Bound {
-                value: part.value,
-                len: part.len,
-                named: part.name.is_some(),
-            };
-            match part.name {
-                None => {
-                    numbered += 1;
-                    bind_number(self.alloc, &mut args, numbered, bound)?;
-                }
-                Some(name) => {
-                    let out = self.list(seen, left, name)?;
-                    bind_name(self.alloc, &mut args, &out, bound)?;
-                }
-            }
-        }
-        Ok(args)
+        let out = Out::new(self.alloc);
+        Ok(Next::Expands(Waiting::Included(title), root, out))
     }
 }

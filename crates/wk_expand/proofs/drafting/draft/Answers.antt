@@ -1,17 +1,8 @@
-use Rattle.std.proofs.Common.{Result, subst}
-use Rattle.wk_view_rules.specs.Worlds.{of_seen}
-use Rattle.wk_expand.specs.Drafts.{drafted}
-use Rattle.wk_expand.specs.Running.{Stops}
-use Rattle.wk_expand.specs.Steps.{IsDrafted, given_text}
-use Rattle.wk_expand.specs.declared.drafts.Draft.{Draft}
-use Rattle.wk_expand.specs.declared.state.Stop.{Stop}
+use Rattle.std.proofs.Common.{◌≡◌, [], sym, ap, subst}
+use Rattle.wk_view_rules.specs.Worlds.{Agrees, Seen, of_seen}
+use Rattle.wk_expand.specs.Machines.{MachineShown}
+use Rattle.wk_expand.proofs.DraftLaws.{nothing-agrees}
 use Rattle.wk_expand.proofs.drafting.draft.Goals as goal
 
-pub returns-in-Err-Needs-clause-unseen : goal.returns-in-Err-Needs-clause-unseen
-returns-in-Err-Needs-clause-unseen c =
-    let page = c.args.page.now in
-    let seen = c.args.seen.now in
-    let given = given_text c.args.root.now in
-    let stopped = subst (λ (r : Result Draft Stop). IsDrafted seen page given r) c.in-Err-Needs.is c.draft_root.ensures in
-    let stops = subst (λ (stop : Stop). Stops (drafted (of_seen seen) page given) stop) c.in-Err-Needs.field-0-is stopped in
-    c.steps_tell_of_worlds.ensures.unanswered page c.in-Err-Needs.title c.args.root.now seen c.in-Err-Needs.kind stops
+pub run-requires : goal.run-requires
+run-requires c = subst (λ (m : MachineShown). Agrees (of_seen c.args.seen.now) m.reads) (sym c.in_ok-machine.ensures) (nothing-agrees c.args.seen.now)

@@ -52,3 +52,16 @@ returns-in-Gives-clause-same c = c.in_ok-out.ensures.same
 
 pub returns-in-Includes-clause-same : goal.returns-in-Includes-clause-same
 returns-in-Includes-clause-same c = c.in_ok-out.ensures.same
+
+pub returns-in-Redirects-clause-leads : goal.returns-in-Redirects-clause-leads
+returns-in-Redirects-clause-leads c =
+    λ viewed frame is inner name parts trimmed.
+    let whole = page_output inner viewed frame name parts in
+    let rest = found_rest inner viewed frame c.in-Some.title parts in
+    subst (λ (found : Found). ComesTo c.args.seen.now whole c.args.self.now (rest found) c.inclusion.new.self) c.in-Redirects.is
+    (comes-in c.args.seen.now whole (inclusion inner viewed frame c.in-Some.title parts) (rest c.in_ok-out.field-0) c.args.self.now c.inclusion.new.self
+    (page-by inner viewed frame name c.args.title.now parts (Some c.in-Some.title) trimmed (sym c.in_ok-title.ensures ∙ c.in-Some.is))
+    (c.in_ok-out.ensures.finds viewed frame is inner parts))
+
+pub returns-in-Redirects-clause-same : goal.returns-in-Redirects-clause-same
+returns-in-Redirects-clause-same c = c.in_ok-out.ensures.same

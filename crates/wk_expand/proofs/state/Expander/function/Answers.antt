@@ -26,7 +26,7 @@ returns-in_err-exists-in-IfExist-clause-leads c =
     leads-err c.args.seen.now whole c.args.self.now (decision_rest inner viewed frame name parts) c.from_residual.result c.exists.new.self c.in_err-exists-in-IfExist.field-0.0 p.0 p.1 p.2
     (stops-as c.args.seen.now whole (function_output inner viewed frame IfExist c.args.first parts) c.args.self.now c.in_err-exists-in-IfExist.field-0.0
     (ap (λ (func : Func). function_output inner viewed frame func c.args.first parts) c.in-IfExist.is)
-    (c.in_err-exists-in-IfExist.ensures inner viewed frame parts))
+    (c.in_err-exists-in-IfExist.ensures.leads inner viewed frame parts))
 
 pub returns-then-branch-clause-leads : goal.returns-then-branch-clause-leads
 returns-then-branch-clause-leads c =
@@ -36,7 +36,7 @@ returns-then-branch-clause-leads c =
     comes-out c.args.seen.now whole (test c.in_ok-exists-in-IfExist.field-0) (operand inner viewed frame 2 parts) c.args.self.now c.exists.new.self (ap test c.if-branch.true)
     (comes-in c.args.seen.now whole (function_output inner viewed frame IfExist c.args.first parts) (test c.in_ok-exists-in-IfExist.field-0) c.args.self.now c.exists.new.self
     (ap (λ (func : Func). function_output inner viewed frame func c.args.first parts) c.in-IfExist.is)
-    (c.in_ok-exists-in-IfExist.ensures inner viewed frame parts))
+    (c.in_ok-exists-in-IfExist.ensures.leads inner viewed frame parts))
 
 pub returns-else-is_blank-clause-leads : goal.returns-else-is_blank-clause-leads
 returns-else-is_blank-clause-leads c =
@@ -54,7 +54,7 @@ returns-else-branch-clause-leads c =
     comes-out c.args.seen.now whole (test c.in_ok-exists-in-IfExist.field-0) (operand inner viewed frame 3 parts) c.args.self.now c.exists.new.self (ap test c.if-branch.false)
     (comes-in c.args.seen.now whole (function_output inner viewed frame IfExist c.args.first parts) (test c.in_ok-exists-in-IfExist.field-0) c.args.self.now c.exists.new.self
     (ap (λ (func : Func). function_output inner viewed frame func c.args.first parts) c.in-IfExist.is)
-    (c.in_ok-exists-in-IfExist.ensures inner viewed frame parts))
+    (c.in_ok-exists-in-IfExist.ensures.leads inner viewed frame parts))
 
 pub returns-in-Switch-clause-leads : goal.returns-in-Switch-clause-leads
 returns-in-Switch-clause-leads c =
@@ -65,7 +65,7 @@ returns-in-Switch-clause-leads c =
     (comes-itself c.args.seen.now search c.args.self.now)
 
 pub returns-then-branch-clause-same : goal.returns-then-branch-clause-same
-returns-then-branch-clause-same c = (c.in_ok-exists-in-IfExist.ensures (λ frame items. give []) c.args.self.now.page [] []).same
+returns-then-branch-clause-same c = (c.in_ok-exists-in-IfExist.ensures.leads (λ frame items. give []) c.args.self.now.page [] []).same
 
 pub returns-else-branch-clause-same : goal.returns-else-branch-clause-same
-returns-else-branch-clause-same c = (c.in_ok-exists-in-IfExist.ensures (λ frame items. give []) c.args.self.now.page [] []).same
+returns-else-branch-clause-same c = (c.in_ok-exists-in-IfExist.ensures.leads (λ frame items. give []) c.args.self.now.page [] []).same

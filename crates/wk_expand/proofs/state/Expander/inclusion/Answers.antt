@@ -11,7 +11,7 @@ use Rattle.wk_expand.specs.Inclusions.{found_rest}
 use Rattle.wk_expand.specs.Running.{ComesTo}
 use Rattle.wk_expand.specs.declared.answer.Answer.{Answer}
 use Rattle.wk_expand.specs.declared.answer.Answer.TheVariants.{Page}
-use Rattle.wk_expand.proofs.RunLaws.{gives-here, gives-then, leads-err, leads-on, frame-same}
+use Rattle.wk_expand.proofs.RunLaws.{comes-on, gives-here, gives-then, leads-err, frame-same, same-on}
 use Rattle.wk_expand.proofs.InclusionLaws.{inclusion-virtual, inclusion-loop, inclusion-deep, inclusion-comes, inclusion-stops, by_text}
 use Rattle.wk_expand.proofs.state.Expander.inclusion.Goals as goal
 
@@ -44,22 +44,25 @@ returns-in_err-text-clause-finds c =
     let shallow : nat_le most_depth (length frame) ≡ false = sym (c.is_deep.ensures viewed frame is) ∙ c.if-is_deep.false in
     let p = err_from_is_err_and c.from_residual-in_err-text.result c.from_residual-in_err-text.ensures.1 in
     leads-err c.args.seen.now (inclusion inner viewed frame c.args.title.now parts) c.args.self.now (found_rest inner viewed frame c.args.title.now parts) c.from_residual-in_err-text.result c.answer.new.self c.in_err-text.field-0.0 p.0 p.1 p.2
-    (inclusion-stops inner viewed frame c.args.title.now parts c.args.seen.now c.args.self.now c.in_err-text.field-0.0 real outside shallow c.in_err-text.ensures)
+    (inclusion-stops inner viewed frame c.args.title.now parts c.args.seen.now c.args.self.now c.in_err-text.field-0.0 real outside shallow c.in_err-text.ensures.leads)
 
-pub returns-in-Page-Some-clause-finds : goal.returns-in-Page-Some-clause-finds
-returns-in-Page-Some-clause-finds c =
+pub returns-in_ok-included_text-in-Page-Some-clause-finds : goal.returns-in_ok-included_text-in-Page-Some-clause-finds
+returns-in_ok-included_text-in-Page-Some-clause-finds c =
     λ viewed frame is inner parts.
     let real : is_virtual c.args.title.now ≡ false = sym c.is_virtual.ensures ∙ c.if-is_virtual.false in
     let outside : is_within frame c.args.title.now ≡ false = sym (c.is_within.ensures viewed frame is) ∙ c.if-is_within.false in
     let shallow : nat_le most_depth (length frame) ≡ false = sym (c.is_deep.ensures viewed frame is) ∙ c.if-is_deep.false in
     let target = by_text inner viewed frame c.args.title.now parts in
     let whole = inclusion inner viewed frame c.args.title.now parts in
-    let come = inclusion-comes inner viewed frame c.args.title.now parts c.args.seen.now c.args.self.now c.answer.new.self (answer_of c.in_ok-text.field-0) real outside shallow c.in_ok-text.ensures in
+    let come = inclusion-comes inner viewed frame c.args.title.now parts c.args.seen.now c.args.self.now c.answer.new.self (answer_of c.in_ok-text.field-0) real outside shallow c.in_ok-text.ensures.leads in
     let some = subst (λ o. ComesTo c.args.seen.now whole c.args.self.now (target (answer_of (Page o))) c.answer.new.self) c.in-Page-Some.field-0-is
     (subst (λ (a : Answer). ComesTo c.args.seen.now whole c.args.self.now (target (answer_of a)) c.answer.new.self) c.in-Page-Some.is come)
     in
-    leads-on c.args.seen.now whole (included_text inner viewed frame c.args.title.now c.in-Page-Some.text parts) c.args.self.now c.answer.new.self (found_rest inner viewed frame c.args.title.now parts) c.included_text.result c.included_text.new.self some
-    (c.included_text.ensures.finds viewed frame (frame-same c.args.self.now c.answer.new.self viewed frame c.in_ok-text.ensures.same is) inner parts)
+    comes-on c.args.seen.now whole (included_text inner viewed frame c.args.title.now c.in-Page-Some.text parts) (found_rest inner viewed frame c.args.title.now parts c.in_ok-included_text-in-Page-Some.field-0) c.args.self.now c.answer.new.self c.included_text.new.self some
+    (c.in_ok-included_text-in-Page-Some.ensures.finds c.args.seen.now viewed frame (frame-same c.args.self.now c.answer.new.self viewed frame c.in_ok-text.ensures.leads.same is) inner parts)
+
+pub returns-in_ok-included_text-in-Page-Some-clause-same : goal.returns-in_ok-included_text-in-Page-Some-clause-same
+returns-in_ok-included_text-in-Page-Some-clause-same c = same-on c.args.self.now c.answer.new.self c.included_text.new.self c.in_ok-text.ensures.leads.same c.in_ok-included_text-in-Page-Some.ensures.same
 
 pub returns-in_ok-link_text-in-Page-None-clause-finds : goal.returns-in_ok-link_text-in-Page-None-clause-finds
 returns-in_ok-link_text-in-Page-None-clause-finds c =
@@ -69,7 +72,7 @@ returns-in_ok-link_text-in-Page-None-clause-finds c =
     let shallow : nat_le most_depth (length frame) ≡ false = sym (c.is_deep.ensures viewed frame is) ∙ c.if-is_deep.false in
     let target = by_text inner viewed frame c.args.title.now parts in
     let whole = inclusion inner viewed frame c.args.title.now parts in
-    let come = inclusion-comes inner viewed frame c.args.title.now parts c.args.seen.now c.args.self.now c.answer.new.self (answer_of c.in_ok-text.field-0) real outside shallow c.in_ok-text.ensures in
+    let come = inclusion-comes inner viewed frame c.args.title.now parts c.args.seen.now c.args.self.now c.answer.new.self (answer_of c.in_ok-text.field-0) real outside shallow c.in_ok-text.ensures.leads in
     let none : ComesTo c.args.seen.now whole c.args.self.now (target (answer_of (Page None))) c.answer.new.self =
     subst (λ o. ComesTo c.args.seen.now whole c.args.self.now (target (answer_of (Page o))) c.answer.new.self) c.in-Page-None.field-0-is
     (subst (λ (a : Answer). ComesTo c.args.seen.now whole c.args.self.now (target (answer_of a)) c.answer.new.self) c.in-Page-None.is come)
@@ -84,6 +87,6 @@ returns-in_ok-link_text-in-Exists-clause-finds c =
     let shallow : nat_le most_depth (length frame) ≡ false = sym (c.is_deep.ensures viewed frame is) ∙ c.if-is_deep.false in
     let target = by_text inner viewed frame c.args.title.now parts in
     let whole = inclusion inner viewed frame c.args.title.now parts in
-    let come = inclusion-comes inner viewed frame c.args.title.now parts c.args.seen.now c.args.self.now c.answer.new.self (answer_of c.in_ok-text.field-0) real outside shallow c.in_ok-text.ensures in
+    let come = inclusion-comes inner viewed frame c.args.title.now parts c.args.seen.now c.args.self.now c.answer.new.self (answer_of c.in_ok-text.field-0) real outside shallow c.in_ok-text.ensures.leads in
     let other = subst (λ (a : Answer). ComesTo c.args.seen.now whole c.args.self.now (target (answer_of a)) c.answer.new.self) c.in-Exists.is come in
     gives-then c.args.seen.now whole _ c.args.self.now c.answer.new.self (link_text c.args.title.now) c.in_ok-link_text-in-Exists.field-0 other refl c.in_ok-link_text-in-Exists.ensures
