@@ -52,6 +52,12 @@ length-noted before r = elim (cases_Bool (list_any (is_read_of r.title r.kind) b
   | inr missing ↦ rw (missing, length-append) (omega arith)
 ]
 
+pub noted-longer : (before : List Read) (r : Read) → length before ≤ length (noted before r)
+noted-longer before r = elim (cases_Bool (list_any (is_read_of r.title r.kind) before)) [
+  | inl there ↦ rw there (omega arith)
+  | inr missing ↦ rw (missing, length-append) (omega arith)
+]
+
 -- what was counted so far is at most the node budget
 pub paid-most : {A : Type 0} (p : Plan (A × Progress)) (base : ℕ) (tested : List PageTitle) → EndsPaid base tested p → base ≤ most_nodes
 paid-most (gives (x, progress)) base tested h = omega (arith, h.0, h.1.limits.nodes)

@@ -1,7 +1,7 @@
 //! Laws of what a page expands to. Each is the contract of a function that does nothing: its clauses are the law.
 #![tactic(auto)]
 
-ghost use Rattle.std.specs.Prelude.{◌≡◌, ◌≢◌, ◌||◌, false, is_some, ℕ, ◌≤◌, List, [], length, None};
+ghost use Rattle.std.specs.Prelude.{◌≡◌, ◌≢◌, ◌||◌, false, is_some, ℕ, ◌<◌, ◌≤◌, List, [], length, None, Some};
 ghost use Rattle.std.specs.List.{list_any};
 ghost use Rattle.wk_text_rules.specs.Titles.{PageTitle};
 ghost use Rattle.wk_row_rules.specs.PageRows.{no_rows, names};
@@ -22,7 +22,7 @@ ghost use Rattle.wk_view_laws.specs.Changes.{DifferOnlyAt};
 ghost use Rattle.wk_view_laws.specs.Inclusions.{MeetsRedirect, redirect_charged, redirect_noted};
 ghost use Rattle.wk_view_laws.specs.Limits.{IsWithinLimits};
 ghost use Rattle.wk_view_laws.specs.Plans.{goes_on};
-ghost use Rattle.wk_view_laws.specs.Rounds.{rounds};
+ghost use Rattle.wk_view_laws.specs.Rounds.{rounds, text_rounds};
 ghost use Rattle.wk_view_laws.specs.Titles.{RowsAreInOrder, RowsHavePageTitles};
 
 /// An expansion that is done over one source is the same over each source that gives its reads the same answers.
@@ -52,6 +52,21 @@ pub fn needed_by_the_reads_alone()
         → NeedsOrReads wanted kind seen (run b p []) }
 {}
 
+/// So it is in the middle of an expansion too: of the items of a list, in any frame, where so many nodes more may be opened
+/// and the expansion has come so far, behind reads that both sources answer alike. It has done the same over each source
+/// that gives its reads the same answers; and it is in the same need, or that source answers the pair, and then it is among
+/// the reads there.
+pub fn expansions_by_the_reads_alone()
+    ensures done { (a b : Source) (left : ℕ) (viewed : PageTitle) (frame : Frame) (items : List Item)
+        (progress : Progress) (before : List Read) (x : Output × Progress) (seen : List Read)
+        → Agrees a before → run a (expand left viewed frame items progress) before ≡ done x seen → Agrees b seen
+        → run b (expand left viewed frame items progress) before ≡ done x seen }
+    ensures needed { (a b : Source) (left : ℕ) (viewed wanted : PageTitle) (frame : Frame) (items : List Item)
+        (progress : Progress) (before : List Read) (kind : Kind) (seen : List Read)
+        → Agrees a before → run a (expand left viewed frame items progress) before ≡ need wanted kind seen → Agrees b seen
+        → NeedsOrReads wanted kind seen (run b (expand left viewed frame items progress) before) }
+{}
+
 /// What a source needs it doesn't answer: of a list of answers, the pair isn't in the list.
 pub fn needs_are_unanswered()
     ensures view { (a : Source) (page wanted : PageTitle) (kind : Kind) (seen : List Read)
@@ -60,11 +75,25 @@ pub fn needs_are_unanswered()
         → shown_text a page text ≡ need wanted kind seen → ask a wanted kind ≡ None }
 {}
 
-/// A view that begins with nothing seen, and is given the answer that it needs in each round, is done after at most
-/// 1,000,001 rounds, whatever the answers are.
+/// A need that another source answers leads on there: over a source that gives the reads before it the same answers more
+/// is read. A need comes before the last read that an expansion can have.
+pub fn answered_needs_lead_on()
+    ensures plan { (a b : Source) (p : Plan Expanded) (wanted : PageTitle) (kind : Kind) (seen : List Read) (answer : Answer)
+        → run a p [] ≡ need wanted kind seen → Agrees b seen → ask b wanted kind ≡ Some answer
+        → length seen < length (reads_of (run b p [])) }
+    ensures view { (a : Source) (page wanted : PageTitle) (kind : Kind) (seen : List Read)
+        → view a page ≡ need wanted kind seen → length seen < 1000001 }
+    ensures text { (a : Source) (page wanted : PageTitle) (text : List ℕ) (kind : Kind) (seen : List Read)
+        → shown_text a page text ≡ need wanted kind seen → length seen < 1000000 }
+{}
+
+/// An expansion that begins with nothing seen, and is given the answer that it needs in each round, is done after at most
+/// 1,000,001 rounds for a page and 1,000,000 for a given text, whatever the answers are.
 pub fn rounds_come_to_an_end()
-    ensures { (answers : ℕ → PageTitle → Kind → Answer) (page : PageTitle)
+    ensures view { (answers : ℕ → PageTitle → Kind → Answer) (page : PageTitle)
         → IsDone (view (of_seen (rounds answers page 1000001)) page) }
+    ensures text { (answers : ℕ → PageTitle → Kind → Answer) (page : PageTitle) (text : List ℕ)
+        → IsDone (shown_text (of_seen (text_rounds answers page text 1000000)) page text) }
 {}
 
 /// A plan behind another is met where the first one ended: with its value and its reads.
