@@ -1,0 +1,9 @@
+mod FindsLaws
+mod LoadLaws
+mod MembersLaws
+mod NamedLaws
+mod OwnRows
+mod PagesLaws
+mod PlaceLaws
+mod TitleLaws
+mod UsersLaws

@@ -1,0 +1,7 @@
+use Rattle.wk_index.specs.declared.named.Kind.TheVariants.{Included, Mentioned}
+use Rattle.wk_index.specs.Named.{Spares}
+use Rattle.wk_index.proofs.found.drop_included.Given as goal
+
+abbrev pub invariant-loop-title : goal.invariant-loop-title
+invariant-loop-title l =
+    Spares Included l.rows l.page l.initial.included.keys l.included.keys × Spares Mentioned l.rows l.page l.initial.mentioned.keys l.mentioned.keys

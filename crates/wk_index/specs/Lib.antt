@@ -1,0 +1,12 @@
+pub mod Found
+pub mod Held
+pub mod Loadable
+pub mod MemberPages
+pub mod Named
+pub use Rattle.wk_row_rules.specs.PageRows
+pub use Rattle.wk_table_rules.specs.GoodStore
+pub use Rattle.wk_table_rules.specs.Stored
+pub use Rattle.wk_job_rules.specs.Users
+pub use Rattle.wk_listing_rules.specs.Links
+pub use Rattle.wk_listing_rules.specs.Members
+pub use Rattle.wk_listing_rules.specs.Names

@@ -1,0 +1,94 @@
+//! The titles by which the pages of an index are found.
+ghost use Rattle.std.specs.Prelude.{[], OnOk};
+ghost use Rattle.wk_index.specs.Held.{rows_of};
+ghost use Rattle.wk_index.specs.Found.{FindsAll, FindsRows, KeepsAll, SparesAll};
+ghost use Rattle.wk_index.specs.Named.{Spares};
+ghost use Rattle.wk_index.specs.declared.named.Kind.TheVariants.{Included as ByIncluded, Mentioned as ByMentioned};
+
+use crate::named::{Kind, Named, NamedBy, add_rows, drop_key, drop_titles};
+use crate::pages::rows_at;
+use std::alloc::Global;
+use std::collections::BTreeSet;
+use wk_memory::Memory;
+use wk_table_rows::PageRows;
+use wk_title::Title;
+
+/// The pages by the titles of each kind.
+#[derive(Debug, Drop)]
+pub struct Found {
+    pub included: Named,
+    pub mentioned: Named,
+    pub linked: Named,
+}
+
+impl Found {
+    /// No titles. Takes no memory.
+    pub fn new(alloc: Global) -> Found
+        ensures { FindsAll [] result }
+    {
+        Found {
+            included: BTreeSet::new(alloc),
+            mentioned: BTreeSet::new(alloc),
+            linked: BTreeSet::new(alloc),
+        }
+    }
+
+    /// Finds the page by the titles of its rows.
+    pub fn add(&mut self, rows: &PageRows, page: u32) -> Result<(), Memory>
+        ensures there { OnOk result (FindsRows rows.now page self.new) }
+        ensures kept { KeepsAll self.old self.new }
+    {
+        add_rows(&mut self.included, rows, page, Kind::Included)?;
+        add_rows(&mut self.mentioned, rows, page, Kind::Mentioned)?;
+        add_rows(&mut self.linked, rows, page, Kind::Linked)
+    }
+
+    /// Finds the page no longer by the titles that the old rows have and its rows don't. Takes no memory.
+    pub fn shed(&mut self, old: PageRows, stored: &[PageRows], page: u32)
+        ensures { SparesAll (rows_of stored.now page) page self.old self.new }
+    {
+        match rows_at(stored, page) {
+            Some(rows) => self.drop_titles(old, rows, page),
+            None => {}
+        }
+    }
+
+    /// Finds the page no longer by the titles that the old rows have and these don't. Takes no memory.
+    fn drop_titles(&mut self, old: PageRows, rows: &PageRows, page: u32)
+        ensures { SparesAll rows.now page self.old self.new }
+    {
+        let PageRows {
+            templates,
+            exists,
+            links,
+            ..
+        } = old;
+        drop_included(
+            &mut self.included,
+            &mut self.mentioned,
+            templates,
+            page,
+            rows,
+        );
+        drop_titles(&mut self.mentioned, exists, page, rows, Kind::Mentioned);
+        drop_titles(&mut self.linked, links, page, rows, Kind::Linked);
+    }
+}
+
+/// Finds the page no longer by those of the titles that it included and its rows don't have. Takes no memory.
+fn drop_included(
+    included: &mut Named,
+    mentioned: &mut Named,
+    titles: Vec<Title>,
+    page: u32,
+    rows: &PageRows,
+)
+    ensures included { Spares ByIncluded rows.now page included.old.keys included.new.keys }
+    ensures mentioned { Spares ByMentioned rows.now page mentioned.old.keys mentioned.new.keys }
+{
+    for title in titles {
+        let key = NamedBy { title, page };
+        drop_key(included, &key, rows, Kind::Included);
+        drop_key(mentioned, &key, rows, Kind::Mentioned);
+    }
+}
