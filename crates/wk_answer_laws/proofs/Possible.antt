@@ -16,6 +16,7 @@ use Rattle.wk_state_rules.specs.Verdicts.{verdict_in, journal_use}
 use Rattle.wk_job_rules.specs.Steps.{fan_pages}
 use Rattle.wk_state_laws.specs.WellFormed.{IsWellFormed}
 use Rattle.wk_state_laws.proofs.Saved.{IsSound-saved}
+use Rattle.wk_wiki_rules.specs.Calls.{IsMade, by_save}
 use Rattle.wk_wiki_rules.specs.SaveOutcomes.{SaveOutcome, deletion}
 use Rattle.wk_request_rules.specs.Requests.{Ask, edit, delete, parse, expand_text, backlinks, embedded, members, changes, revisions, tokens, site_info, RequestRead, asks, refused}
 use Rattle.wk_answer_rules.specs.Values.{Entries}
@@ -109,29 +110,31 @@ accepted-possible most state journal asked title text is =
 -- ---- the event of an answer
 
 -- what is true of each event that an answer makes: it is a save that is possible
-pub record IsPossibleSave (state : State) (event : Event) : Type 0 where
+pub record IsPossibleSave (most : MostHeld) (state : State) (journal : ℕ) (event : Event) : Type 0 where
+  pub asked : EditAsked
   pub title : PageTitle
   pub text : Option (List ℕ)
   pub moment : ℕ
+  pub accepted : verdict_in most state journal asked ≡ accept title text
   pub is : event ≡ Save title text moment
   pub can : can_save state.history title text ≡ true
 
-abbrev Possible : State → Answered → Type 0
-Possible state answer = (event : Event) → answer.event ≡ Some event → IsPossibleSave state event
+abbrev Possible : MostHeld → State → ℕ → Answered → Type 0
+Possible most state journal answer = (event : Event) → answer.event ≡ Some event → IsPossibleSave most state journal event
 
 save-event : (told : SaveOutcome → Entries) (most : MostHeld) (state : State) (journal moment : ℕ) (asked : EditAsked) (v : Verdict)
-    → verdict_in most state journal asked ≡ v → Possible state (save_answer told state journal moment v)
+    → verdict_in most state journal asked ≡ v → Possible most state journal (save_answer told state journal moment v)
 save-event told most state journal moment asked (refuse refusal) is event made = absurd (let none : None ≡ Some event = made in cc)
 save-event told most state journal moment asked (no_change title) is event made = absurd (let none : None ≡ Some event = made in cc)
 save-event told most state journal moment asked (accept title text) is event made =
     let some : Some (Save title text moment) ≡ Some event = made in
-    record { title = title; text = text; moment = moment; is = cc; can = accepted-possible most state journal asked title text is }
+    record { asked = asked; title = title; text = text; moment = moment; accepted = is; is = cc; can = accepted-possible most state journal asked title text is }
 
-none-made : (most : MostHeld) (state : State) (journal moment : ℕ) (ask : Ask) → asks_to_save ask ≡ false → Possible state (answer_to_ask most state journal moment ask)
+none-made : (most : MostHeld) (state : State) (journal moment : ℕ) (ask : Ask) → asks_to_save ask ≡ false → Possible most state journal (answer_to_ask most state journal moment ask)
 none-made most state journal moment ask reads event made =
     absurd (let none : None ≡ Some event = sym (ask-none most state journal moment ask reads) ∙ made in cc)
 
-ask-event : (most : MostHeld) (state : State) (journal moment : ℕ) (ask : Ask) → Possible state (answer_to_ask most state journal moment ask)
+ask-event : (most : MostHeld) (state : State) (journal moment : ℕ) (ask : Ask) → Possible most state journal (answer_to_ask most state journal moment ask)
 ask-event most state journal moment (edit asked) = save-event edit_entries most state journal moment asked (verdict_in most state journal asked) refl
 ask-event most state journal moment (delete title base) =
     save-event delete_entries most state journal moment (deletion title base) (verdict_in most state journal (deletion title base)) refl
@@ -145,20 +148,23 @@ ask-event most state journal moment (revisions listing content) = none-made most
 ask-event most state journal moment tokens = none-made most state journal moment tokens refl
 ask-event most state journal moment site_info = none-made most state journal moment site_info refl
 
-pub event-possible : (most : MostHeld) (state : State) (journal moment : ℕ) (read : RequestRead) → Possible state (answer_to_read most state journal moment read)
+pub event-possible : (most : MostHeld) (state : State) (journal moment : ℕ) (read : RequestRead) → Possible most state journal (answer_to_read most state journal moment read)
 unfolding answer_to_request
 event-possible most state journal moment (refused refusal) = λ event made. absurd (let none : None ≡ Some event = made in cc)
 event-possible most state journal moment (asks request) =
-    either (nat_lt journal request.least) (Possible state) (failed_at journal (futurepoint journal)) (answer_to_ask most state journal moment request.ask)
+    either (nat_lt journal request.least) (Possible most state journal) (failed_at journal (futurepoint journal)) (answer_to_ask most state journal moment request.ask)
     (λ early event made. absurd (let none : None ≡ Some event = made in cc)) (λ reached. ask-event most state journal moment request.ask)
 
-pub possible-step : (state : State) (journal : ℕ) (event : Event) → IsPossibleSave state event → IsSome (step state journal event)
-possible-step state journal event save =
+pub possible-step : (most : MostHeld) (state : State) (journal : ℕ) (event : Event) → IsPossibleSave most state journal event → IsSome (step state journal event)
+possible-step most state journal event save =
     subst (λ (e : Event). IsSome (step state journal e)) (sym save.is)
     (subst (λ (b : Bool). IsSome (cond b (Some (with_saved state save.title save.text save.moment)) None)) (sym save.can) refl)
 
-pub sound-behind : (state next : State) (journal : ℕ) (event : Event) → IsPossibleSave state event → step state journal event ≡ Some next
+pub made-by-call : (most : MostHeld) (state : State) (journal : ℕ) (event : Event) → IsPossibleSave most state journal event → IsMade most state journal event
+made-by-call most state journal event save = subst (IsMade most state journal) (sym save.is) (by_save save.asked save.accepted)
+
+pub sound-behind : (most : MostHeld) (state next : State) (journal : ℕ) (event : Event) → IsPossibleSave most state journal event → step state journal event ≡ Some next
     → IsWellFormed state → IsSound state → IsSound next
-sound-behind state next journal event save stepped formed sound =
+sound-behind most state next journal event save stepped formed sound =
     IsSound-saved fan_pages state next journal save.title save.text save.moment formed
     (sym (ap (λ (e : Event). step state journal e) save.is) ∙ stepped) sound

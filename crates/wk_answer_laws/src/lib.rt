@@ -12,6 +12,7 @@ ghost use Rattle.wk_state_rules.specs.Events.{Event, Save, step};
 ghost use Rattle.wk_state_rules.specs.Soundness.{IsSound};
 ghost use Rattle.wk_state_rules.specs.Verdicts.{verdict_in};
 ghost use Rattle.wk_state_laws.specs.WellFormed.{IsWellFormed};
+ghost use Rattle.wk_wiki_rules.specs.Calls.{IsMade};
 ghost use Rattle.wk_wiki_rules.specs.SaveOutcomes.{SaveOutcome};
 ghost use Rattle.wk_request_rules.specs.Requests.{Request, RequestRead};
 ghost use Rattle.wk_answer_rules.specs.Values.{Entries};
@@ -33,13 +34,16 @@ pub fn points_count_the_event()
         ≡ journal + length (option_to_list (answer_to_read most state journal moment read).event) }
 {}
 
-/// The event that a request makes is possible, and the state behind it is sound where the state before it was.
+/// The event that a request makes is possible, and the state behind it is sound where the state before it was. It is one
+/// that a call makes.
 pub fn events_are_possible()
     ensures possible { (most : MostHeld) (state : State) (journal moment : ℕ) (read : RequestRead) (event : Event)
         → (answer_to_read most state journal moment read).event ≡ Some event → IsSome (step state journal event) }
     ensures sound { (most : MostHeld) (state next : State) (journal moment : ℕ) (read : RequestRead) (event : Event)
         → (answer_to_read most state journal moment read).event ≡ Some event → step state journal event ≡ Some next
         → IsWellFormed state → IsSound state → IsSound next }
+    ensures made { (most : MostHeld) (state : State) (journal moment : ℕ) (read : RequestRead) (event : Event)
+        → (answer_to_read most state journal moment read).event ≡ Some event → IsMade most state journal event }
 {}
 
 /// A least point that isn't reached comes before all else that is asked. Of a save, an edit or a deletion, a bad title

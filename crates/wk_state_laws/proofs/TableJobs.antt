@@ -8,7 +8,7 @@ use Rattle.std.proofs.lemmas.List.Sorted.{All-permutation}
 use Rattle.wk_text_rules.specs.Titles.{title_eq, is_normal}
 use Rattle.wk_page_rules.specs.History.{History, Page}
 use Rattle.wk_table_rules.specs.Rows.{StoreTables, PageColumns, JobColumns}
-use Rattle.wk_table_rules.specs.JobTable.{FanParams, refresh_cmd, fan_cmd, refresh_row, fan_row}
+use Rattle.wk_table_rules.specs.JobTable.{FanParams, refresh_cmd, fan_cmd, refresh_row}
 use Rattle.wk_page_rules.specs.Verdict.{max_pages}
 use Rattle.wk_table_rules.specs.GoodStore.{is_good_job, has_good_params}
 use Rattle.wk_table_laws.specs.EachGood.{EachGood}
@@ -22,6 +22,7 @@ use Rattle.wk_job_laws.proofs.Order.{each-placed}
 use Rattle.wk_view_laws.proofs.PlanLemmas.{title_eq-same}
 use Rattle.wk_state_rules.specs.States.{State, title_at}
 use Rattle.wk_state_rules.specs.Tables.{tables_of, page_row}
+use Rattle.wk_wiki_rules.specs.TableChanges.{row_of_fan}
 use Rattle.wk_state_laws.proofs.SavedHistory.{apart-eq, eq-apart}
 use Rattle.wk_state_laws.specs.Kept.{FanFits}
 use Rattle.wk_state_laws.proofs.Formed.{Within}
@@ -127,9 +128,6 @@ titles-apart h m n distinct first second other same =
     other (omega (arith, first.0, second.0, place))
 
 -- ---- the rows of the jobs
-
-abbrev row_of_fan : FanEntry → JobColumns
-row_of_fan job = fan_row job.number job.title (record { reach = job.reach; cursor = job.cursor })
 
 number-apart : (n m : ℕ) → nat_eq n m ≡ false → n ≢ m
 number-apart n m differ = eqb-false n m differ

@@ -1,6 +1,6 @@
 -- The link tables of a state are good where each page's stored link rows are.
 use Rattle.std.proofs.Common.{◌≡◌, ℕ, suc, ◌+◌, ◌-◌, ◌≤◌, ◌<◌, pos, Bool, true, false, eqb, ltb, ◌&&◌, List, [], ◌∷◌, length, map, flat_map, unwrap_or, refl, inl, inr, subst, arith}
-use Rattle.std.specs.Prelude.{slice_get, option_map, find, IfSome}
+use Rattle.std.specs.Prelude.{slice_get, option_map, find}
 use Rattle.std.specs.List.{AllByRecursion, list_all, list_any, enumerate_from}
 use Rattle.std.specs.Option.{option_to_list}
 use Rattle.std.specs.Ordering.{int_eq}
@@ -8,7 +8,7 @@ use Rattle.std.proofs.lemmas.Bool.{cases_Bool, eqb-true, eqb-false, ne_eqb, lt-l
 use Rattle.wk_text_rules.specs.Titles.{PageTitle, is_normal, is_page_title}
 use Rattle.wk_page_rules.specs.History.{History, Page}
 use Rattle.wk_table_rules.specs.Rows.{StoreTables, PageColumns, LinkColumns, CategoryColumns, RedirectColumns, category_title}
-use Rattle.wk_row_rules.specs.PageRows.{Member, PageRows, no_rows}
+use Rattle.wk_row_rules.specs.PageRows.{PageRows, no_rows}
 use Rattle.wk_table_rules.specs.Changes.{has_page, namespace_of, link_row, category_row, redirect_row}
 use Rattle.wk_table_rules.specs.GoodStore.{row_lt, is_good_link, is_good_category, is_good_redirect}
 use Rattle.wk_table_laws.specs.EachGood.{EachGood}

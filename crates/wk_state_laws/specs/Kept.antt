@@ -1,5 +1,5 @@
 -- What a wiki keeps at all times, so that the tables of its states are good (own).
-use Rattle.std.specs.Prelude.{◌≡◌, ℕ, ◌≤◌, ◌^◌, pos, true, List, [], IfSome}
+use Rattle.std.specs.Prelude.{◌≡◌, ℕ, ◌≤◌, ◌^◌, pos, true, [], IfSome}
 use Rattle.std.specs.List.{AllByRecursion}
 use Rattle.wk_text_rules.specs.Titles.{is_normal, is_page_title}
 use Rattle.wk_page_rules.specs.History.{History}
