@@ -14,6 +14,7 @@ use Rattle.wk_state_rules.specs.States.{State, title_at}
 use Rattle.wk_state_rules.specs.Events.{Event, Save, Claim, Done, Back, Fan, step_by}
 use Rattle.wk_state_rules.specs.Lives.{replay_from}
 use Rattle.wk_state_laws.proofs.Formed.{no-fewer, own-within}
+use Rattle.wk_state_laws.proofs.SavedHistory.{last-at}
 use Rattle.wk_state_laws.proofs.Histories.{history-saved, history-claimed, history-refreshed, history-given_back, history-fanned}
 use Rattle.wk_wiki_rules.specs.Entries.{IsTold, entries_from, event_of_entry, events_of, revision_at, save_of_revision}
 use Rattle.wk_wiki_rules.specs.declared.Entry.{Entry}
@@ -47,10 +48,6 @@ kept-at : {X : Type 0} (xs : List X) (x new : X) (place : ℕ) → slice_get xs 
 kept-at [] x new place there = absurd (let e : None ≡ Some x = there in cc)
 kept-at (y ∷ xs) x new zero there = there
 kept-at (y ∷ xs) x new (suc place) there = kept-at xs x new place there
-
-last-at : {X : Type 0} (xs : List X) (new : X) → slice_get (xs ++ new ∷ []) (length xs) ≡ Some new
-last-at [] new = refl
-last-at (x ∷ xs) new = last-at xs new
 
 -- what is read back of an entry is this event, and the entry stands
 pub record IsReadAs (h : History) (entry : Entry) (event : Event) : Type 0 where

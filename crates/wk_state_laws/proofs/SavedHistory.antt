@@ -110,7 +110,7 @@ front-at [] new place there = absurd (let e : false ≡ true = there in cc)
 front-at (r ∷ revisions) new zero there = refl
 front-at (r ∷ revisions) new (suc place) there = front-at revisions new place there
 
-last-at : (revisions : List Revision) (new : Revision) → slice_get (revisions ++ new ∷ []) (length revisions) ≡ Some new
+pub last-at : (revisions : List Revision) (new : Revision) → slice_get (revisions ++ new ∷ []) (length revisions) ≡ Some new
 last-at [] new = refl
 last-at (r ∷ revisions) new = last-at revisions new
 
