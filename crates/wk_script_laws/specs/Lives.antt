@@ -1,5 +1,5 @@
 -- What is true of a script's life at all times (own).
-use Rattle.std.specs.Prelude.{◌≡◌, ℕ, map, IsSome}
+use Rattle.std.specs.Prelude.{◌≡◌, map, IsSome}
 use Rattle.std.specs.List.{AllByRecursion}
 use Rattle.wk_page_rules.specs.Verdict.{MostHeld}
 use Rattle.wk_job_rules.specs.Jobs.{page_held_by}
