@@ -3,4 +3,6 @@
 #![tactic(auto)]
 
 pub mod refreshes;
+pub mod saves;
 pub mod soundness;
+pub mod starts;

@@ -3,6 +3,7 @@
 #![tactic(auto)]
 
 pub mod atoms;
+pub mod call_laws;
 pub mod calls;
 pub mod faults;
 pub mod jobs;

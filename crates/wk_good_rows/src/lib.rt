@@ -15,3 +15,4 @@ mod tests;
 mod titles;
 
 pub use broken::broken_rows;
+pub use normal::shown_form;

@@ -47,8 +47,8 @@ fn push_with_spaces(into: &mut String, key: &str) -> Result<(), Memory>
     Ok(())
 }
 
-/// The title as it is shown, whether some text names it or none does.
-fn shown_form(alloc: Global, namespace: i64, key: &str) -> Result<String, Memory>
+/// The title with this namespace and key as it is shown, whether some text names it or none does.
+pub fn shown_form(alloc: Global, namespace: i64, key: &str) -> Result<String, Memory>
     ensures { IfOk result (λ text. string_bytes text ≡ shown (record { ns = namespace; key = key.now })) }
 {
     let mut text = String::new(alloc);

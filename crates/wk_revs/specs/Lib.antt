@@ -1,3 +1,4 @@
+pub mod Chains
 pub mod Edit
 pub mod Revs
 pub mod Verdict

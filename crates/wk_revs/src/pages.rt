@@ -1,100 +1,87 @@
-//! The pages of a wiki: each title that was ever saved, with its current revision.
-ghost use Rattle.std.specs.Prelude.{◌≡◌, ◌+◌, ◌<◌, ◌≤◌, None, IfSome, length, position, unwrap_or, vec_len, vec_capacity};
+//! The pages of a wiki: a map from each title that was ever saved to its page's current revision, 0 where the page is
+//! missing. Its entries stand in the order of the first saves, so that a page's number is one more than its place.
+ghost use Rattle.std.specs.Prelude.{◌≡◌, ◌+◌, ◌-◌, ◌<◌, ◌≤◌, ◌==◌, None, IfSome, length, max, position, if◌then◌else◌, slice_get};
+ghost use Rattle.std.specs.Option.{option_map};
 ghost use Rattle.wk_text_rules.specs.Titles.{title_eq};
-ghost use Rattle.wk_page_rules.specs.History.{current_revision, page_number, with_current};
+ghost use Rattle.indexmap.specs.IndexMap.{spare};
+ghost use Rattle.wk_page_rules.specs.History.{current_revision, page_number, page_to_save, with_current};
 ghost use Rattle.wk_page_rules.specs.Verdict.{max_pages};
-ghost use Rattle.wk_revs.specs.Revs.{of_pages};
+ghost use Rattle.wk_revs.specs.Revs.{existence, existing_in, of_pages, pages_of};
 
-use std::marker::Model;
+use indexmap::IndexMap;
 use wk_title::Title;
 
-/// A title that was saved. Its page's number is one more than its place in the list.
-#[derive(Debug, Drop)]
-pub struct Page {
-    title: Title,
-    current: u64,
-}
-
-impl Model for Page {
-    ghost use Rattle.wk_page_rules.specs.History.{Page as PageRecord};
-
-    ghost Value = { PageRecord };
-
-    ghost view = { λ p. record { title = p.title; current = p.current } };
-}
-
-impl Page {
-    pub fn new(title: Title, current: u64) -> Page
-        ensures { result ≡ record { title = title; current = current } }
-    {
-        Page { title, current }
-    }
-
-    fn is_of(&self, title: &Title) -> bool
-        ensures { result ≡ title_eq self.now.title title.now }
-    {
-        self.title == *title
-    }
-
-    fn current(&self) -> u64
-        ensures { result ≡ self.now.current }
-    {
-        self.current
-    }
-
-    fn set_current(&mut self, number: u64)
-        ensures { self.new ≡ record { title = self.old.title; current = number } }
-    {
-        self.current = number;
-    }
-}
+/// The pages by their titles.
+pub type Pages = IndexMap<Title, u64>;
 
 /// The place of the title's page.
-fn place(pages: &[Page], title: &Title) -> Option<usize>
-    ensures place { result ≡ position (λ page. title_eq page.title title.now) pages.now }
-    ensures within { IfSome result (λ place. place < length pages.now) }
+fn place(pages: &Pages, title: &Title) -> Option<usize>
+    ensures place { result ≡ position (λ page. title_eq page.title title.now) (pages_of pages.now.entries) }
+    ensures within { IfSome result (λ place. place < length pages.now.entries) }
 {
-    pages.iter().position(|page| page.is_of(title))
+    pages.get_index_of(title)
 }
 
 /// The number of the title's page.
-pub fn page_number(pages: &[Page], title: &Title) -> Option<u32>
-    requires { length pages.now ≤ max_pages }
-    ensures { result ≡ page_number (of_pages pages.now) title.now }
+pub fn page_number(pages: &Pages, title: &Title) -> Option<u32>
+    requires { length pages.now.entries ≤ max_pages }
+    ensures { result ≡ page_number (of_pages (pages_of pages.now.entries)) title.now }
 {
     place(pages, title).map(|place| place as u32 + 1)
 }
 
 /// The current revision of the title's page, 0 where the page is missing.
-pub fn current_revision(pages: &[Page], title: &Title) -> u64
-    ensures { result ≡ current_revision (of_pages pages.now) title.now }
+pub fn current_revision(pages: &Pages, title: &Title) -> u64
+    ensures { result ≡ current_revision (of_pages (pages_of pages.now.entries)) title.now }
 {
-    match pages.iter().find(|page| page.is_of(title)) {
-        Some(page) => page.current(),
+    match pages.get(title) {
+        Some(current) => *current,
         None => 0,
+    }
+}
+
+/// The title and the current revision of the page with this number.
+pub fn page_at(pages: &Pages, number: u32) -> Option<(&Title, u64)>
+    ensures { option_map (λ page. record { title = page.0.now; current = page.1 }) result
+        ≡ (if number == 0 then None else slice_get (pages_of pages.now.entries) (number - 1)) }
+{
+    if number == 0 {
+        return None;
+    }
+    match pages.get_index(number as usize - 1) {
+        Some((title, current)) => Some((title, *current)),
+        None => None,
     }
 }
 
 /// Makes this revision the current one of the title's page, which goes to the end where the title has none yet, and
 /// gives the page's number.
-pub fn put_current(pages: &mut Vec<Page>, title: Title, number: u64) -> u32
-    requires room { vec_len pages.old < vec_capacity pages.old }
-    requires within { vec_len pages.old ≤ max_pages }
-    requires fits { page_number (of_pages pages.old.items) title ≡ None → vec_len pages.old < max_pages }
-    ensures pages { pages.new.items ≡ with_current pages.old.items title number }
-    ensures page { result ≡ unwrap_or (page_number (of_pages pages.old.items) title) (vec_len pages.old + 1) }
-    ensures capacity { vec_capacity pages.new ≡ vec_capacity pages.old }
-    ensures len { vec_len pages.new ≤ vec_len pages.old + 1 }
-    ensures few { vec_len pages.new ≤ max_pages }
+pub fn put_current(pages: &mut Pages, title: Title, number: u64) -> u32
+    requires room { 0 < spare pages.old }
+    requires within { length pages.old.entries ≤ max_pages }
+    requires fits { page_number (of_pages (pages_of pages.old.entries)) title ≡ None → length pages.old.entries < max_pages }
+    ensures pages { pages_of pages.new.entries ≡ with_current (pages_of pages.old.entries) title number }
+    ensures page { result ≡ page_to_save (of_pages (pages_of pages.old.entries)) title }
+    ensures some { 0 < result }
+    ensures near { result ≤ length pages.old.entries + 1 }
+    ensures len { length pages.new.entries ≡ max (length pages.old.entries) result }
+    ensures few { length pages.new.entries ≤ max_pages }
+    ensures spare { spare pages.old ≤ spare pages.new + 1 }
+    ensures existing { existing_in pages.new.entries + existence (current_revision (of_pages (pages_of pages.old.entries)) title)
+        ≡ existing_in pages.old.entries + existence number }
 {
-    match place(pages, &title) {
-        Some(place) => {
-            pages[place].set_current(number);
-            place as u32 + 1
-        }
-        None => {
-            pages.push_reserved(Page::new(title, number));
-            pages.len() as u32
-        }
+    match pages.insert_full(title, number) {
+        Ok((place, _)) => place as u32 + 1,
+        Err(_) => unreachable!(),
     }
+}
+
+/// The number of pages that exist, where one of them gets another current revision.
+pub fn existing_after(existing: usize, old: u64, new: u64) -> usize
+    requires some { existence old ≤ existing }
+    requires fits { existing ≤ max_pages }
+    ensures { result + existence old ≡ existing + existence new }
+{
+    let others = if old == 0 { existing } else { existing - 1 };
+    if new == 0 { others } else { others + 1 }
 }

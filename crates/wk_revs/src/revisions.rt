@@ -1,7 +1,7 @@
 //! The revisions of a wiki, in the order of their saves.
-ghost use Rattle.std.specs.Prelude.{◌≡◌, ◌+◌, ◌-◌, ◌≤◌, [], length, nat_lt, unwrap_or};
+ghost use Rattle.std.specs.Prelude.{◌≡◌, ℕ, ◌+◌, ◌-◌, ◌<◌, ◌^◌, ◌==◌, None, nat_lt, slice_get, if◌then◌else◌};
 ghost use Rattle.std.specs.Option.{SomeIff, option_copied};
-ghost use Rattle.wk_page_rules.specs.History.{text_bytes, text_of_revision};
+ghost use Rattle.wk_page_rules.specs.History.{text_of_revision};
 ghost use Rattle.wk_revs.specs.Revs.{of_revisions};
 
 use std::marker::Model;
@@ -29,7 +29,7 @@ impl Model for Revision {
 }
 
 impl Revision {
-    pub fn new(page: u32, parent: u64, moment: u64, text: Option<Text>) -> Revision
+    pub(crate) fn new(page: u32, parent: u64, moment: u64, text: Option<Text>) -> Revision
         ensures { result ≡ record { page = page; parent = parent; moment = moment; text = text } }
     {
         Revision {
@@ -40,55 +40,70 @@ impl Revision {
         }
     }
 
-    fn text(&self) -> Option<&Text>
+    /// The number of its page. Takes no memory.
+    pub fn page(&self) -> u32
+        ensures { result ≡ self.now.page }
+    {
+        self.page
+    }
+
+    /// The revision that was current before it, 0 where the page was missing. Takes no memory.
+    pub fn parent(&self) -> u64
+        ensures { result ≡ self.now.parent }
+    {
+        self.parent
+    }
+
+    /// When it was saved, in seconds since 1970. Takes no memory.
+    pub fn moment(&self) -> u64
+        ensures { result ≡ self.now.moment }
+    {
+        self.moment
+    }
+
+    /// What was saved, `None` exactly where the page was deleted. Takes no memory.
+    pub fn text(&self) -> Option<&Text>
         ensures { option_copied result ≡ self.now.text }
     {
         self.text.as_ref()
     }
+}
 
-    fn text_len(&self) -> u64
-        ensures { result ≡ length (unwrap_or self.now.text []) }
-    {
-        match &self.text {
-            Some(text) => text.len() as u64,
-            None => 0,
-        }
+/// The sum of two numbers of bytes, of which the first may be too large for its type, and then the sum is.
+pub fn sum_of(bytes: Option<u64>, more: u64) -> Option<u64>
+    ensures { (sum : ℕ) → SomeIff bytes (sum < 2 ^ 64) sum → SomeIff result (sum + more < 2 ^ 64) (sum + more) }
+{
+    match bytes {
+        Some(sum) => sum.checked_add(more),
+        None => None,
     }
 }
 
-/// How many of `most` bytes the texts of the revisions leave, or `None` where they are more.
-fn text_left(revisions: &[Revision], most: u64) -> Option<u64>
-    ensures { SomeIff result (text_bytes (of_revisions revisions.now) ≤ most) (most - text_bytes (of_revisions revisions.now)) }
+/// Whether so many bytes, which may be too many for their type, and `more` bytes are more than `most` together.
+pub fn is_sum_above(bytes: Option<u64>, more: u64, most: u64) -> bool
+    ensures { (sum : ℕ) → SomeIff bytes (sum < 2 ^ 64) sum → result ≡ nat_lt most (sum + more) }
 {
-    let mut left = most;
-    for revision in revisions {
-        let bytes = revision.text_len();
-        if left < bytes {
-            return None;
-        }
-        left -= bytes;
-    }
-    Some(left)
-}
-
-/// Whether the texts of the revisions and a text of `more` bytes have more than `most` bytes together.
-pub fn is_text_above(revisions: &[Revision], more: u64, most: u64) -> bool
-    ensures { result ≡ nat_lt most (text_bytes (of_revisions revisions.now) + more) }
-{
-    match text_left(revisions, most) {
-        Some(left) => left < more,
+    match bytes {
+        Some(sum) => most < sum || most - sum < more,
         None => true,
     }
+}
+
+/// The revision with this number.
+pub fn revision_at(revisions: &[Revision], number: u64) -> Option<&Revision>
+    ensures { option_copied result ≡ (if number == 0 then None else slice_get revisions.now (number - 1)) }
+{
+    if number == 0 {
+        return None;
+    }
+    revisions.get(number as usize - 1)
 }
 
 /// The text of the revision with this number, where it has one.
 pub fn text_of_revision(revisions: &[Revision], number: u64) -> Option<&Text>
     ensures { option_copied result ≡ text_of_revision (of_revisions revisions.now) number }
 {
-    if number == 0 {
-        return None;
-    }
-    match revisions.get(number as usize - 1) {
+    match revision_at(revisions, number) {
         Some(revision) => revision.text(),
         None => None,
     }

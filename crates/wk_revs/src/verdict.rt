@@ -9,7 +9,7 @@ use thiserror::Error;
 use wk_bytes::Text;
 use wk_memory::Memory;
 use wk_page_rules::Limit;
-use wk_title::{Title, TitleRefusal, normalize};
+use wk_title::{Title, page_named};
 use wk_title_laws::shown_normalizes;
 
 /// Why an edit isn't saved (the refusals of MediaWiki's API:Edit; the limits are own).
@@ -61,21 +61,17 @@ pub enum Verdict {
 
 /// The title that the text names, where a page can be saved under it: in main by default, and in no virtual
 /// namespace.
+#[tactic(auto, using(crate::proofs::TitleLaws::real_is, crate::proofs::TitleLaws::not_virtual))]
 pub fn real_title(alloc: Global, text: &str) -> Result<Option<Title>, Memory>
     ensures title { IfOk result (λ title. title ≡ real_title text.now) }
     ensures real { IfOk result (λ title. IfSome title (λ title. is_page_title title ≡ true)) }
 {
-    match normalize(alloc, text, 0) {
-        Ok(title) => {
+    match page_named(alloc, text)? {
+        Some(title) => {
             shown_normalizes(&title);
-            if title.is_virtual() {
-                Ok(None)
-            } else {
-                Ok(Some(title))
-            }
+            Ok(Some(title))
         }
-        Err(TitleRefusal::Illegal) => Ok(None),
-        Err(TitleRefusal::Memory) => Err(Memory),
+        None => Ok(None),
     }
 }
 

@@ -293,21 +293,21 @@ pub record LeavesRoom (state : State) (title : PageTitle) (text : Option (List �
   pub pages : list_any (λ (page : Page). title_eq page.title title) state.history.pages ≡ false → length state.history.pages + 1 ≤ max_pages
   pub room : text_bytes state.history + body_bytes text ≤ max_texts
 
-with_room-accept : (full : Bool) (v : Verdict) (title : PageTitle) (text : Option (List ℕ)) → with_room full v ≡ accept title text → (full ≡ false) × (v ≡ accept title text)
+pub with_room-accept : (full : Bool) (v : Verdict) (title : PageTitle) (text : Option (List ℕ)) → with_room full v ≡ accept title text → (full ≡ false) × (v ≡ accept title text)
 with_room-accept full (refuse r) title text is = absurd (let e : refuse r ≡ accept title text = is in cc)
 with_room-accept full (no_change t) title text is = absurd (let e : no_change t ≡ accept title text = is in cc)
 with_room-accept true (accept t x) title text is = absurd (let e : refuse journal_full ≡ accept title text = is in cc)
 with_room-accept false (accept t x) title text is = (refl, is)
 
-not-refused : (b : Bool) (r : Refusal) (rest : Verdict) (title : PageTitle) (text : Option (List ℕ)) → cond b (refuse r) rest ≡ accept title text → (b ≡ false) × (rest ≡ accept title text)
+pub not-refused : (b : Bool) (r : Refusal) (rest : Verdict) (title : PageTitle) (text : Option (List ℕ)) → cond b (refuse r) rest ≡ accept title text → (b ≡ false) × (rest ≡ accept title text)
 not-refused true r rest title text is = absurd (let e : refuse r ≡ accept title text = is in cc)
 not-refused false r rest title text is = (refl, is)
 
-changed : (b : Bool) (t : PageTitle) (rest : Verdict) (title : PageTitle) (text : Option (List ℕ)) → cond b (no_change t) rest ≡ accept title text → rest ≡ accept title text
+pub changed : (b : Bool) (t : PageTitle) (rest : Verdict) (title : PageTitle) (text : Option (List ℕ)) → cond b (no_change t) rest ≡ accept title text → rest ≡ accept title text
 changed true t rest title text is = absurd (let e : no_change t ≡ accept title text = is in cc)
 changed false t rest title text is = is
 
-within-limits : (o : Option Limit) (t title : PageTitle) (x text : Option (List ℕ)) → (elim o as (λ p. Verdict) [ None ↦ accept t x | Some limit ↦ refuse (wiki_full limit) ]) ≡ accept title text → (o ≡ None) × ((t ≡ title) × (x ≡ text))
+pub within-limits : (o : Option Limit) (t title : PageTitle) (x text : Option (List ℕ)) → (elim o as (λ p. Verdict) [ None ↦ accept t x | Some limit ↦ refuse (wiki_full limit) ]) ≡ accept title text → (o ≡ None) × ((t ≡ title) × (x ≡ text))
 within-limits None t title x text is = let e : accept t x ≡ accept title text = is in (refl, (cc, cc))
 within-limits (Some limit) t title x text is = absurd (let e : refuse (wiki_full limit) ≡ accept title text = is in cc)
 

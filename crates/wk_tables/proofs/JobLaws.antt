@@ -1,9 +1,9 @@
 -- Jobs in their places: what a change of a place does to the rows.
-use Rattle.std.proofs.Common.{◌≡◌, ℕ, zero, suc, ◌<◌, Bool, true, false, cond, ◌&&◌, eqb, ltb, List, [], ◌∷◌, ◌++◌, ◌+◌, ◌-◌, length, take, subst, get_or, set, map, Option, Some, None, refl, sym, ap, ◌∙◌, inl, inr, arith}
+use Rattle.std.proofs.Common.{◌≡◌, ℕ, zero, suc, ◌<◌, Bool, true, false, cond, ◌&&◌, eqb, ltb, List, [], ◌∷◌, ◌++◌, ◌+◌, ◌-◌, ◌≤◌, length, take, subst, get_or, set, map, Option, Some, None, refl, sym, ap, ◌∙◌, inl, inr, arith}
 use Rattle.std.specs.Prelude.{is_some, IfSome, IsTrue, ◌↔◌}
 use Rattle.std.specs.List.{All, cons_option, filter, position}
 use Rattle.std.proofs.lemmas.Bool.{and_parts, and_from, cases_eq, cases_lt, eqb-true, ne_eqb, ltb-true, lt-ltb}
-use Rattle.std.proofs.lemmas.List.{append-nil, get_or_read, take_all, take_more}
+use Rattle.std.proofs.lemmas.List.{append-nil, get_or_read, length-map, length-set, take_all, take_more}
 use Rattle.std.proofs.lemmas.List.Elements.{All-filter, All-map, All-push, All-set, All-take, filter_map-append}
 use Rattle.std.proofs.lemmas.List.Kept.{AllPairs-filter}
 use Rattle.std.proofs.lemmas.List.Quantifiers.{all_pairs_push, position-Some}
@@ -12,9 +12,9 @@ use Rattle.wk_table_rules.specs.Changes.{with_job, without_job}
 use Rattle.wk_tables.specs.declared.job_list.JobSlot.{JobSlot}
 use Rattle.wk_tables.specs.Jobs.{KeepsJobs, rows_in, slot_of, holds}
 use Rattle.std.specs.Option.{option_to_list}
-use Rattle.wk_tables.specs.Rising.{IsRising}
-use Rattle.wk_tables.proofs.RisingLaws.{IsRising-set, IsRising-take, position-first, position-none}
-use Rattle.wk_tables.proofs.FirstPlace.{position-None, replaced-here, replaced-later, without_first-here, without_first-later}
+use Rattle.wk_table_rows.specs.Rising.{IsRising}
+use Rattle.wk_table_rows.proofs.RisingLaws.{IsRising-set, IsRising-take, position-first, position-none}
+use Rattle.wk_table_rows.proofs.FirstPlace.{position-None, replaced-here, replaced-later, without_first-here, without_first-later}
 
 abbrev pub IsNumbered : JobSlot → Type 0
 IsNumbered slot = IfSome slot.row (λ row. row.job_id ≡ slot.number)
@@ -212,6 +212,52 @@ above-last n slots last rising some read = (
   (λ all. lt-ltb last.number n (rw read (all (length slots - 1) last (omega arith)))),
 )
 
+-- ---- how many places are empty
+
+-- there are no more rows than places
+pub rows-fit : (slots : List JobSlot) → length (rows_in slots) ≤ length slots
+rows-fit [] = omega arith
+rows-fit (slot ∷ slots) = go slot.row (rows-fit slots)
+  where
+    go : (o : Option JobColumns) → length (rows_in slots) ≤ length slots → length (cons_option o (rows_in slots)) ≤ suc (length slots)
+    go None fit = omega (arith, fit)
+    go (Some row) fit = omega (arith, fit)
+
+-- without the empty places there are as many places as rows
+pub rows-full : (slots : List JobSlot) → length (filter (λ slot. is_some slot.row) slots) ≡ length (rows_in slots)
+rows-full [] = refl
+rows-full (slot ∷ slots) = go slot.row (rows-full slots)
+  where
+    go : (o : Option JobColumns) → length (filter (λ other. is_some other.row) slots) ≡ length (rows_in slots)
+        → length (cond (is_some o) (slot ∷ filter (λ other. is_some other.row) slots) (filter (λ other. is_some other.row) slots)) ≡ length (cons_option o (rows_in slots))
+    go None same = same
+    go (Some row) same = ap (λ n. suc n) same
+
+pub slots-as_many : (rows : List JobColumns) → length (map slot_of rows) ≡ length (rows_in (map slot_of rows))
+slots-as_many rows = length-map rows slot_of ∙ ap length (sym (rows_in-slot_of rows))
+
+pub with_job-as_many : (rows : List JobColumns) (new : JobColumns) → length (with_job rows new) ≡ length rows
+with_job-as_many rows new = go (position (λ row. eqb row.job_id new.job_id) rows)
+  where
+    go : (o : Option ℕ) → length (elim o as (λ t. List JobColumns) [ None ↦ rows | Some place ↦ set rows place new ]) ≡ length rows
+    go None = refl
+    go (Some place) = length-set rows place new
+
+one-here : (rows : List JobColumns) (o : Option JobColumns) → is_some o ≡ true → length rows + 1 ≡ length (cons_option o rows)
+one-here rows None some = absurd (let no : false ≡ true = some in cc)
+one-here rows (Some row) some = omega arith
+
+one-later : (fewer rows : List JobColumns) (o : Option JobColumns) → length fewer + 1 ≡ length rows → length (cons_option o fewer) + 1 ≡ length (cons_option o rows)
+one-later fewer rows None one = one
+one-later fewer rows (Some row) one = omega (arith, one)
+
+-- where a place becomes empty there is one row less
+pub rows-emptied : (slots : List JobSlot) (k : ℕ) (d slot : JobSlot) → k < length slots → is_some (get_or slots k d).row ≡ true → slot.row ≡ None
+    → length (rows_in (set slots k slot)) + 1 ≡ length (rows_in slots)
+rows-emptied [] k d slot inside some none = absurd (omega arith)
+rows-emptied (s ∷ slots) zero d slot inside some none = rw none (one-here (rows_in slots) s.row some)
+rows-emptied (s ∷ slots) (suc k) d slot inside some none = one-later (rows_in (set slots k slot)) (rows_in slots) s.row (rows-emptied slots k d slot (omega arith) some none)
+
 module _ (slots : List JobSlot) (is_in_order : Bool) (keeps : KeepsJobs slots is_in_order) where
   pub row-set : (new : JobColumns) (n k : ℕ) → n ≡ new.job_id → Some k ≡ position (holds n) slots
       → rows_in (set slots k (record { number = n; row = Some new })) ≡ with_job (rows_in slots) new
@@ -236,6 +282,12 @@ module _ (slots : List JobSlot) (is_in_order : Bool) (keeps : KeepsJobs slots is
 
   pub row-taken-keeps : (n k : ℕ) → Some k ≡ position (holds n) slots → KeepsJobs (set slots k (record { number = n; row = None })) is_in_order
   row-taken-keeps n k found = KeepsJobs-set slots is_in_order n k (record { number = n; row = None }) keeps found refl tt
+
+  pub row-emptied : (n k : ℕ) → Some k ≡ position (holds n) slots → length (rows_in (set slots k (record { number = n; row = None }))) + 1 ≡ length (rows_in slots)
+  row-emptied n k found =
+      let slot : JobSlot = record { number = n; row = None } in
+      let at = position-Some (holds n) slots k slot (sym found) in
+      rows-emptied slots k slot slot at.0 (and_parts (eqb (get_or slots k slot).number n) (is_some (get_or slots k slot).row) at.1).1 refl
 
   pub row-missing : (n : ℕ) → None ≡ position (holds n) slots → rows_in slots ≡ without_job (rows_in slots) n
   row-missing n none = rows_in-none n slots keeps.numbered (position-None (holds n) slots (sym none))

@@ -1,5 +1,2 @@
-pub mod FirstPlace
 pub mod JobLaws
-pub mod LinkLaws
-pub mod PageRowLaws
-pub mod RisingLaws
+pub mod PageLaws

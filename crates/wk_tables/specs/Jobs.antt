@@ -2,7 +2,7 @@
 use Rattle.std.specs.Prelude.{◌≡◌, ℕ, Bool, true, ◌&&◌, ◌==◌, List, Some, is_some, IfSome}
 use Rattle.std.specs.List.{All, filter_map}
 use Rattle.wk_table_rules.specs.Rows.{JobColumns}
-use Rattle.wk_tables.specs.Rising.{IsRising}
+use Rattle.wk_table_rows.specs.Rising.{IsRising}
 use Rattle.wk_tables.specs.declared.job_list.JobSlot.{JobSlot}
 
 -- the rows of the places that aren't empty

@@ -2,12 +2,12 @@ pub mod Edits
 pub mod Held
 pub mod Jobs
 pub mod JobsHeld
-pub mod LinkForms
 pub mod LinkLists
-pub mod PagesHeld
-pub mod Rising
+pub mod Links
 pub mod Room
 pub mod TablesHeld
+pub use Rattle.wk_table_rows.specs.PageTable
+pub use Rattle.wk_table_rows.specs.Rising
 pub use Rattle.wk_table_rules.specs.Rows
 pub use Rattle.wk_table_rules.specs.Changes
 pub use Rattle.wk_table_rules.specs.Stored

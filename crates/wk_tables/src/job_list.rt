@@ -1,16 +1,15 @@
 //! The rows of the job table, of which one is changed or taken away by its number.
-ghost use Rattle.std.specs.Prelude.{◌≡◌, ◌+◌, ◌≤◌, ◌<◌, ◌++◌, ◌∷◌, ◌↔◌, [], true, map, position, Bool, vec_len, vec_capacity, IsTrue, IfOk, OnOk};
+ghost use Rattle.std.specs.Prelude.{◌≡◌, ◌+◌, ◌≤◌, ◌<◌, ◌++◌, ◌∷◌, ◌↔◌, [], true, length, map, position, Bool, vec_len, vec_capacity, IsTrue, IfOk, OnOk};
 ghost use Rattle.std.specs.List.{All};
 ghost use Rattle.std.specs.Option.{option_to_list};
 ghost use Rattle.wk_table_rules.specs.Changes.{with_job, without_job};
 ghost use Rattle.wk_tables.specs.Jobs.{KeepsJobs, holds, rows_in, slot_of};
-ghost use Rattle.wk_tables.specs.Rising.{IsRising};
+ghost use Rattle.wk_table_rows.specs.Rising.{IsRising};
 
-use crate::number::{Numbered, is_rising, place_in_order};
 use std::alloc::Global;
 use std::marker::Model;
 use wk_memory::Memory;
-use wk_table_rows::{JobRow, Share};
+use wk_table_rows::{JobRow, Numbered, Share, is_rising, place_in_order};
 
 /// The place of a job: its number, and its row until it is taken away.
 #[derive(Debug, Drop)]
@@ -27,7 +26,8 @@ impl Numbered for JobSlot {
     }
 }
 
-/// The rows of the job table in order. Contracts see them, and for how many more there is room.
+/// The rows of the job table in order. Contracts see them, how many places are empty, and for how many more rows there is
+/// room.
 ///
 /// Where the numbers rise, as in a good store, a job is found by halving the list, and a job that is taken away leaves
 /// its place empty. Places that are empty go when room is made and they are more than half of all, or with the last
@@ -41,16 +41,16 @@ pub struct JobList {
 }
 
 impl Model for JobList {
-    ghost use Rattle.std.specs.Prelude.{◌+◌, ◌≤◌, vec_len, vec_capacity};
+    ghost use Rattle.std.specs.Prelude.{◌≡◌, ◌+◌, ◌≤◌, length, vec_len, vec_capacity};
     ghost use Rattle.wk_tables.specs.JobsHeld.{JobsHeld};
 
     ghost Value = { JobsHeld };
 
     ghost use Rattle.wk_tables.specs.Jobs.{rows_in, KeepsJobs};
 
-    ghost view = { λ j. record { rows = rows_in j.slots.items; spare = j.spare } };
+    ghost view = { λ j. record { rows = rows_in j.slots.items; empty = j.empty; spare = j.spare } };
 
-    ghost invariant = { λ j. KeepsJobs j.slots.items j.is_in_order × (j.spare + vec_len j.slots ≤ vec_capacity j.slots) };
+    ghost invariant = { λ j. KeepsJobs j.slots.items j.is_in_order × (j.spare + vec_len j.slots ≤ vec_capacity j.slots) × (vec_len j.slots ≡ length (rows_in j.slots.items) + j.empty) };
 }
 
 /// Where the job with this number stands.
@@ -73,6 +73,7 @@ fn place_of_job(slots: &[JobSlot], is_in_order: bool, number: u64) -> Option<usi
 /// Takes away the empty places behind the last job.
 fn drop_empty_end(slots: &mut Vec<JobSlot>)
     ensures rows { rows_in slots.new.items ≡ rows_in slots.old.items }
+    ensures holds { length (rows_in slots.new.items) ≤ vec_len slots.new }
     ensures keeps { (is_in_order : Bool) → KeepsJobs slots.old.items is_in_order → KeepsJobs slots.new.items is_in_order }
     ensures len { vec_len slots.new ≤ vec_len slots.old }
     ensures capacity { vec_capacity slots.new ≡ vec_capacity slots.old }
@@ -88,6 +89,7 @@ fn drop_empty_end(slots: &mut Vec<JobSlot>)
 /// Takes away all empty places.
 fn drop_empty(slots: &mut Vec<JobSlot>)
     ensures rows { rows_in slots.new.items ≡ rows_in slots.old.items }
+    ensures none { vec_len slots.new ≡ length (rows_in slots.new.items) }
     ensures keeps { (is_in_order : Bool) → KeepsJobs slots.old.items is_in_order → KeepsJobs slots.new.items is_in_order }
     ensures len { vec_len slots.new ≤ vec_len slots.old }
     ensures capacity { vec_capacity slots.new ≡ vec_capacity slots.old }
@@ -127,6 +129,7 @@ fn push_row(slots: &mut Vec<JobSlot>, is_in_order: bool, row: JobRow) -> bool
 fn set_row(slots: &mut [JobSlot], is_in_order: bool, row: JobRow)
     requires { KeepsJobs slots.old is_in_order }
     ensures rows { rows_in slots.new ≡ with_job (rows_in slots.old) row }
+    ensures as_many { length (rows_in slots.new) ≡ length (rows_in slots.old) }
     ensures keeps { KeepsJobs slots.new is_in_order }
 {
     if let Some(place) = place_of_job(slots, is_in_order, row.job_id) {
@@ -137,14 +140,19 @@ fn set_row(slots: &mut [JobSlot], is_in_order: bool, row: JobRow)
     }
 }
 
-/// Empties the place of the first job of this number, where there is one.
-fn take_row(slots: &mut [JobSlot], is_in_order: bool, number: u64)
+/// Empties the place of the first job of this number, where there is one, and tells how many places that are.
+fn take_row(slots: &mut [JobSlot], is_in_order: bool, number: u64) -> usize
     requires { KeepsJobs slots.old is_in_order }
     ensures rows { rows_in slots.new ≡ without_job (rows_in slots.old) number }
     ensures keeps { KeepsJobs slots.new is_in_order }
+    ensures emptied { length (rows_in slots.new) + result ≡ length (rows_in slots.old) }
 {
-    if let Some(place) = place_of_job(slots, is_in_order, number) {
-        slots[place] = JobSlot { number, row: None };
+    match place_of_job(slots, is_in_order, number) {
+        Some(place) => {
+            slots[place] = JobSlot { number, row: None };
+            1
+        }
+        None => 0,
     }
 }
 
@@ -178,7 +186,7 @@ fn slots_of(alloc: Global, rows: Vec<JobRow>) -> Result<Vec<JobSlot>, Memory>
 impl JobList {
     /// No jobs, and no room. Takes no memory.
     pub fn new(alloc: Global) -> JobList
-        ensures { result ≡ record { rows = []; spare = 0 } }
+        ensures { result ≡ record { rows = []; empty = 0; spare = 0 } }
     {
         JobList {
             slots: Vec::new(alloc),
@@ -204,7 +212,9 @@ impl JobList {
 
     /// Takes away the empty places, where they are more than half of all.
     fn compact(&mut self)
-        ensures { self.new ≡ self.old }
+        ensures rows { self.new.rows ≡ self.old.rows }
+        ensures spare { self.new.spare ≡ self.old.spare }
+        ensures few { self.new.empty ≤ length self.new.rows }
     {
         if self.slots.len() / 2 < self.empty {
             drop_empty(&mut self.slots);
@@ -212,11 +222,13 @@ impl JobList {
         }
     }
 
-    /// Makes room for this many jobs more than there are. Room that was there before stays.
+    /// Makes room for this many jobs more than there are. Room that was there before stays, and no more places are empty
+    /// than there are jobs.
     pub fn reserve(&mut self, more: usize) -> Result<(), Memory>
         ensures rows { self.new.rows ≡ self.old.rows }
         ensures room { OnOk result (more ≤ self.new.spare) }
         ensures not_less { self.old.spare ≤ self.new.spare }
+        ensures few_empty { self.new.empty ≤ length self.new.rows }
     {
         self.compact();
         self.slots.reserve(more)?;
@@ -232,7 +244,7 @@ impl JobList {
     {
         let before = self.slots.len();
         drop_empty_end(&mut self.slots);
-        self.empty = self.empty.saturating_sub(before - self.slots.len());
+        self.empty -= before - self.slots.len();
         self.is_in_order = push_row(&mut self.slots, self.is_in_order, row);
         self.spare -= 1;
     }
@@ -250,8 +262,7 @@ impl JobList {
         ensures rows { self.new.rows ≡ without_job self.old.rows number }
         ensures spare { self.new.spare ≡ self.old.spare }
     {
-        take_row(&mut self.slots, self.is_in_order, number);
-        self.empty = self.empty.saturating_add(1);
+        self.empty += take_row(&mut self.slots, self.is_in_order, number);
     }
 
     /// The jobs, for a further owner.

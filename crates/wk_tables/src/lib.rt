@@ -4,10 +4,7 @@
 
 mod change;
 mod job_list;
-mod link_rows;
 mod links;
-mod number;
-mod shared_rows;
 mod tables;
 #[cfg(test)]
 mod tests;

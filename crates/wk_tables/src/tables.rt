@@ -1,31 +1,25 @@
 //! The tables of a store.
-ghost use Rattle.std.specs.Prelude.{◌≡◌, ◌+◌, ◌≤◌, ◌<◌, ◌==◌, true, None, IfOk, OnOk, IfSome, position, vec_len, vec_capacity};
+ghost use Rattle.std.specs.Prelude.{◌≡◌, ℕ, ◌+◌, ◌≤◌, ◌<◌, ◌==◌, true, None, Some, IfOk, OnOk, position, vec_len, vec_capacity};
 ghost use Rattle.std.specs.List.{All};
 ghost use Rattle.wk_table_rules.specs.Rows.{no_tables};
 ghost use Rattle.wk_table_rules.specs.Changes.{edited, edit_fits, fits, applied, namespace_of, with_page, add_revision, set_page, set_rows, add_job, set_job, drop_job, set_version};
 ghost use Rattle.wk_table_rules.specs.GoodStore.{first_broken};
 ghost use Rattle.wk_tables.specs.Edits.{edit_of};
 ghost use Rattle.wk_tables.specs.Room.{edit_room, room_for};
-ghost use Rattle.wk_tables.specs.PagesHeld.{ArePagesOf};
+ghost use Rattle.wk_tables.specs.Links.{ArePagesOf, HaveRoom, lists_of, pages_of};
+ghost use Rattle.wk_table_rows.specs.Rising.{IsRising};
 
 use crate::change::{Change, RowEdit, lists_room};
 use crate::job_list::JobList;
-use crate::links::{LinkRows, Links};
-use crate::number::{Numbered, place_of};
+use crate::links::Links;
 use std::alloc::Global;
 use std::marker::Model;
 use wk_good_rows::broken_rows;
 use wk_memory::Memory;
-use wk_table_rows::{JobRow, PageRow, PageRows, RevisionRow, TableRows, share_all};
+use wk_table_rows::{
+    JobRow, PageRow, PageRows, PageTable, RevisionRow, TableRows, is_rising, place_of, share_all,
+};
 use wk_table_rules::BadStore;
-
-impl Numbered for PageRow {
-    ghost number = { λ row. row.page_id };
-
-    fn number(&self) -> u64 {
-        self.page_id
-    }
-}
 
 /// The tables of a store. Contracts see them, and how much room there is for changes of them.
 ///
@@ -34,6 +28,8 @@ impl Numbered for PageRow {
 #[derive(Debug, Drop)]
 pub struct Tables {
     pages: Vec<PageRow>,
+    /// Whether the numbers of the pages rise.
+    is_in_order: bool,
     revisions: Vec<RevisionRow>,
     links: Links,
     jobs: JobList,
@@ -60,6 +56,7 @@ impl Tables {
     {
         Tables {
             pages: Vec::new(alloc),
+            is_in_order: true,
             revisions: Vec::new(alloc),
             links: Links::new(alloc),
             jobs: JobList::new(alloc),
@@ -83,16 +80,17 @@ impl Tables {
             jobs,
             version,
         } = rows;
-        let links = LinkRows {
-            pagelinks,
-            templatelinks,
-            existlinks,
-            categorylinks,
-            redirects,
+        let is_in_order = is_rising(&pages);
+        let links = Links {
+            pagelinks: PageTable::from_rows(alloc, &pages, is_in_order, pagelinks)?,
+            templatelinks: PageTable::from_rows(alloc, &pages, is_in_order, templatelinks)?,
+            existlinks: PageTable::from_rows(alloc, &pages, is_in_order, existlinks)?,
+            categorylinks: PageTable::from_rows(alloc, &pages, is_in_order, categorylinks)?,
+            redirects: PageTable::from_rows(alloc, &pages, is_in_order, redirects)?,
         };
-        let links = Links::from_rows(alloc, &pages, links)?;
         Ok(Tables {
             pages,
+            is_in_order,
             revisions,
             links,
             jobs: JobList::from_rows(alloc, jobs)?,
@@ -106,15 +104,14 @@ impl Tables {
         ensures { IfOk result (λ rows. rows ≡ self.now.tables) }
     {
         let alloc = *self.pages.allocator();
-        let links = self.links.rows()?;
         Ok(TableRows {
             pages: share_all(alloc, &self.pages)?,
             revisions: share_all(alloc, &self.revisions)?,
-            pagelinks: links.pagelinks,
-            templatelinks: links.templatelinks,
-            existlinks: links.existlinks,
-            categorylinks: links.categorylinks,
-            redirects: links.redirects,
+            pagelinks: self.links.pagelinks.rows()?,
+            templatelinks: self.links.templatelinks.rows()?,
+            existlinks: self.links.existlinks.rows()?,
+            categorylinks: self.links.categorylinks.rows()?,
+            redirects: self.links.redirects.rows()?,
             jobs: self.jobs.rows()?,
             version: self.version,
         })
@@ -166,17 +163,15 @@ impl Tables {
     fn page_place(&self, id: u64) -> Option<usize>
         ensures { result ≡ position (λ page. page.page_id == id) self.now.tables.pages }
     {
-        place_of(&self.pages, self.links.is_by_page(), id)
+        place_of(&self.pages, self.is_in_order, id)
     }
 
-    /// The namespace of the page's title, main where there is no such page.
-    fn namespace_of(&self, id: u64) -> i64
+    /// The namespace of the title of the page with this number, which stands at this place.
+    fn namespace_of(&self, id: u64, place: usize) -> i64
+        requires { position (λ page. page.page_id == id) self.now.tables.pages ≡ Some place }
         ensures { result ≡ namespace_of self.now.tables id }
     {
-        match self.page_place(id) {
-            Some(place) => self.pages[place].page_namespace,
-            None => 0,
-        }
+        self.pages[place].page_namespace
     }
 
     fn add_revision(&mut self, row: RevisionRow)
@@ -199,16 +194,16 @@ impl Tables {
         self.spare -= 1;
     }
 
-    fn set_rows(&mut self, page: u64, lists: PageRows)
-        requires room { edit_room (set_rows page lists) ≤ self.old.spare }
-        requires fits { edit_fits self.old.tables (set_rows page lists) ≡ true }
-        ensures tables { self.new.tables ≡ edited self.old.tables (set_rows page lists) }
-        ensures spare { self.new.spare + edit_room (set_rows page lists) ≡ self.old.spare }
+    fn set_rows(&mut self, page: u64, rows: PageRows)
+        requires room { edit_room (set_rows page rows) ≤ self.old.spare }
+        requires fits { edit_fits self.old.tables (set_rows page rows) ≡ true }
+        ensures tables { self.new.tables ≡ edited self.old.tables (set_rows page rows) }
+        ensures spare { self.new.spare + edit_room (set_rows page rows) ≡ self.old.spare }
     {
-        let namespace = self.namespace_of(page);
-        let room = lists_room(&lists).unwrap();
-        self.links.set_rows(page, namespace, lists);
-        self.spare -= room;
+        let place = self.page_place(page).unwrap();
+        let namespace = self.namespace_of(page, place);
+        self.spare -= lists_room(&rows).unwrap();
+        self.links.set_rows(place, page, namespace, rows);
     }
 
     fn add_job(&mut self, row: JobRow)
@@ -250,7 +245,7 @@ impl Tables {
         match edit {
             RowEdit::AddRevision(row) => self.add_revision(row),
             RowEdit::SetPage(row) => self.set_page(row),
-            RowEdit::SetRows(page, lists) => self.set_rows(u64::from(page), lists),
+            RowEdit::SetRows(page, rows) => self.set_rows(u64::from(page), rows),
             RowEdit::AddJob(row) => self.add_job(row),
             RowEdit::SetJob(row) => self.set_job(row),
             RowEdit::DropJob(id) => self.drop_job(id),
@@ -262,13 +257,15 @@ impl Tables {
 /// Puts the row at the place of its page, or at the end.
 fn put_page(pages: &mut Vec<PageRow>, links: &mut Links, place: Option<usize>, row: PageRow)
     requires place { place ≡ position (λ page. page.page_id == row.page_id) pages.old.items }
-    requires above { place ≡ None → IfSome links.old.pages (All (λ earlier. earlier < row.page_id)) }
-    requires room { (vec_len pages.old < vec_capacity pages.old) × (0 < links.old.spare) }
-    requires by_page { ArePagesOf links.old pages.old.items }
+    requires above { place ≡ None → All (λ earlier. earlier.page_id < row.page_id) pages.old.items }
+    requires room { (vec_len pages.old < vec_capacity pages.old) × HaveRoom links.old 1 }
+    requires by_page { ArePagesOf (pages_of links.old) pages.old.items }
     ensures pages { pages.new.items ≡ with_page pages.old.items row }
-    ensures links { links.new.rows ≡ links.old.rows }
-    ensures by_page { ArePagesOf links.new pages.new.items }
-    ensures room { (vec_len pages.new ≤ vec_len pages.old + 1) × (links.old.spare ≤ links.new.spare + 1) }
+    ensures links { lists_of links.new ≡ lists_of links.old }
+    ensures by_page { ArePagesOf (pages_of links.new) pages.new.items }
+    ensures rising { IsRising (λ page. page.page_id) pages.old.items → IsRising (λ page. page.page_id) pages.new.items }
+    ensures len { vec_len pages.new ≤ vec_len pages.old + 1 }
+    ensures room { (n m : ℕ) → n + 1 ≤ m → HaveRoom links.old m → HaveRoom links.new n }
     ensures capacity { vec_capacity pages.new ≡ vec_capacity pages.old }
 {
     match place {

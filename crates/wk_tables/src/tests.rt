@@ -4,12 +4,12 @@ ghost use Rattle.std.specs.List.{list_all, list_any};
 ghost use Rattle.wk_table_rules.specs.Changes.{edit_fits, edited};
 ghost use Rattle.wk_tables.specs.Edits.{edit_of};
 
-use crate::number::Numbered;
 use crate::*;
 use std::alloc::Global;
 use std::test::Fail;
 use wk_bytes::Text;
 use wk_memory::Memory;
+use wk_table_rows::Numbered;
 use wk_title::{Title, normalize};
 
 fn text(alloc: Global, bytes: &'static str) -> Result<Text, Fail> {
@@ -75,22 +75,6 @@ fn links_to(alloc: Global, names: &[&str]) -> Result<PageLists, Fail> {
     let mut lists = PageLists::new(alloc);
     lists.links = titles(alloc, names)?;
     Ok(lists)
-}
-
-impl Numbered for RevisionRow {
-    ghost number = { λ row. row.rev_id };
-
-    fn number(&self) -> u64 {
-        self.rev_id
-    }
-}
-
-impl Numbered for JobRow {
-    ghost number = { λ row. row.job_id };
-
-    fn number(&self) -> u64 {
-        self.job_id
-    }
 }
 
 /// Whether all numbers are below this one.

@@ -288,7 +288,7 @@ pub IsNumbered-all : (lists : JobLists) (pages : List ℕ) → IsNumbered lists 
 IsNumbered-all lists [] numbered = numbered
 IsNumbered-all lists (page ∷ pages) numbered = IsNumbered-all (refresh_queued lists page) pages (IsNumbered-queued lists page numbered)
 
-first-is : (fans : List FanEntry) (fan : FanEntry) → slice_get fans 0 ≡ Some fan → (rest : List FanEntry) × (fans ≡ fan ∷ rest)
+pub first-is : (fans : List FanEntry) (fan : FanEntry) → slice_get fans 0 ≡ Some fan → (rest : List FanEntry) × (fans ≡ fan ∷ rest)
 first-is [] fan there = absurd (let e : None ≡ Some fan = there in cc)
 first-is (f ∷ rest) fan there = (rest, let e : Some f ≡ Some fan = there in let is : f ≡ fan = cc in ap (λ g. g ∷ rest) is)
 

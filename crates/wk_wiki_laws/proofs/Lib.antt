@@ -13,3 +13,6 @@ pub mod ParamsBack
 pub mod PagesSorted
 pub mod StoresOpened
 pub mod KeptCalls
+pub mod TwoHalves
+pub mod SealedHistory
+pub mod NumberBounds

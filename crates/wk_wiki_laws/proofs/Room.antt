@@ -21,7 +21,7 @@ pub given : {X Y : Type 0} (P : Y → Type 0) (f : X → Y) (o : Option X) (y : 
 given P f None y there all = absurd (let e : None ≡ Some y = there in cc)
 given P f (Some x) y there all = let e : Some (f x) ≡ Some y = there in let same : f x ≡ y = cc in subst P same (all x refl)
 
-accept-room : (full : Bool) (v : Verdict) (title : PageTitle) (text : Option (List ℕ)) → with_room full v ≡ accept title text → full ≡ false
+pub accept-room : (full : Bool) (v : Verdict) (title : PageTitle) (text : Option (List ℕ)) → with_room full v ≡ accept title text → full ≡ false
 accept-room full (refuse r) title text is = absurd (let e : refuse r ≡ accept title text = is in cc)
 accept-room full (no_change t) title text is = absurd (let e : no_change t ≡ accept title text = is in cc)
 accept-room true (accept t x) title text is = absurd (let e : refuse journal_full ≡ accept title text = is in cc)

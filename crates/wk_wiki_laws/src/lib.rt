@@ -4,4 +4,7 @@
 
 pub mod journals;
 pub mod kept;
+pub mod listings;
+pub mod numbers;
+pub mod seals;
 pub mod tables;

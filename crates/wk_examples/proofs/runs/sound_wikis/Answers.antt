@@ -8,7 +8,7 @@ use Rattle.wk_state_laws.proofs.Formed.{IsWellFormed-none}
 use Rattle.wk_state_laws.proofs.Always.{IsSound-lives, IsSound-replayed}
 use Rattle.wk_examples.specs.Stores.{title_t}
 use Rattle.wk_examples.specs.Wikis.{race, race_12, users_journal, users_9, users_10}
-use Rattle.wk_examples.proofs.Replays.{IsWellFormed-replayed}
+use Rattle.wk_call_laws.proofs.Since.{IsSoundSince-replayed}
 use Rattle.wk_examples.proofs.runs.sound_wikis.Goals as goal
 
 race-lives : goal.returns-clause-lived
@@ -37,7 +37,7 @@ pub returns-clause-before_a_save : goal.returns-clause-before_a_save
 returns-clause-before_a_save c = IsSound-replayed 2 no_state users_9 users_journal IsWellFormed-none IsSound-none users-replayed
 
 pub returns-clause-formed_before_a_save : goal.returns-clause-formed_before_a_save
-returns-clause-formed_before_a_save c = IsWellFormed-replayed 2 no_state users_9 0 users_journal users-replayed IsWellFormed-none
+returns-clause-formed_before_a_save c = (IsSoundSince-replayed 2 no_state users_9 0 users_journal IsWellFormed-none users-replayed).formed
 
 pub returns-clause-before_a_fan : goal.returns-clause-before_a_fan
 returns-clause-before_a_fan c = IsSound-replayed 2 no_state users_10 (users_journal ++ Save title_t (Some (codes "x")) 12 ∷ []) IsWellFormed-none IsSound-none fan-replayed

@@ -1,21 +1,31 @@
-use Rattle.std.proofs.Common.{◌+◌, ◌<◌, ◌∷◌, [], ◌++◌, option_map, sym, ap, ◌∙◌, arith, vec_len}
-use Rattle.wk_page_rules.specs.History.{page_number}
+use Rattle.std.proofs.Common.{◌+◌, ◌≤◌, length, max, sym, ap, ap₂, ◌∙◌, subst}
 use Rattle.wk_page_rules.specs.Verdict.{max_pages}
-use Rattle.wk_revs.specs.Revs.{of_pages}
-use Rattle.wk_revs.proofs.PageLaws.{with_current-found, with_current-absent}
+use Rattle.wk_revs.specs.Revs.{existence, existing_in, pages_of}
+use Rattle.wk_revs.proofs.PageLaws.{current-entry, existing-put, few-entries, length-put, number-to-save, put-entry, title_eq_comm}
 use Rattle.wk_revs.proofs.pages.put_current.Goals as goal
 
-pub returns-in-None-clause-few : goal.returns-in-None-clause-few
-returns-in-None-clause-few c =
-    let number = ap (λ pages. page_number (of_pages pages) c.args.title) (sym c.deref.ensures.value) in
-    let fits : vec_len c.args.pages.now < max_pages = c.requires.fits (number ∙ ap (option_map (λ place. place + 1)) (sym (c.in-None.ensures.place))) in
-    omega arith
+pub returns-clause-pages : goal.returns-clause-pages
+returns-clause-pages c =
+    ap pages_of c.in-Ok.ensures.entries
+    ∙ put-entry _ c.args.title c.args.number (λ key. title_eq_comm key c.args.title) c.args.pages.now.entries
 
-pub returns-in-Some-clause-pages : goal.returns-in-Some-clause-pages
-returns-in-Some-clause-pages c =
-    with_current-found _ _ _ _ _ _ _ c.deref.ensures.value c.in-Some.ensures.place c.index_mut.ensures.value c.set_current.ensures
+pub returns-clause-page : goal.returns-clause-page
+returns-clause-page c =
+    ap (λ place. place + 1) c.in-Ok.ensures.index
+    ∙ sym (number-to-save c.args.title _ (λ key. title_eq_comm key c.args.title) c.args.pages.now.entries)
 
-pub returns-in-None-clause-pages : goal.returns-in-None-clause-pages
-returns-in-None-clause-pages c =
-    c.push_reserved.ensures.items ∙ ap (λ page. c.args.pages.now.items ++ page ∷ []) c.new.ensures
-    ∙ with_current-absent _ _ _ _ c.deref.ensures.value c.in-None.ensures.place
+pub returns-clause-len : goal.returns-clause-len
+returns-clause-len c =
+    ap length c.in-Ok.ensures.entries ∙ length-put _ c.args.title c.args.number c.args.pages.now.entries
+    ∙ ap (λ place. max (length c.args.pages.now.entries) (place + 1)) (sym c.in-Ok.ensures.index)
+
+pub returns-clause-few : goal.returns-clause-few
+returns-clause-few c =
+    subst (λ n. n ≤ max_pages) (sym (returns-clause-len c))
+    (few-entries c.args.title _ (λ key. title_eq_comm key c.args.title) c.args.pages.now.entries max_pages c.in-Ok.place c.in-Ok.ensures.index c.requires.within c.requires.fits)
+
+pub returns-clause-existing : goal.returns-clause-existing
+returns-clause-existing c =
+    ap₂ (λ entries current. existing_in entries + existence current) c.in-Ok.ensures.entries
+    (current-entry c.args.title _ (λ key. title_eq_comm key c.args.title) c.args.pages.now.entries)
+    ∙ existing-put _ c.args.title c.args.number c.args.pages.now.entries

@@ -1,7 +1,7 @@
-use Rattle.std.proofs.Common.{◌≡◌, ◌-◌, ◌<◌, ◌∙◌, refl, false, take, length, vec_len, sym, ap, subst, arith}
+use Rattle.std.proofs.Common.{◌≡◌, ◌-◌, ◌<◌, ◌≤◌, ◌∙◌, refl, false, take, length, vec_len, sym, ap, subst, arith}
 use Rattle.std.specs.Prelude.{is_some}
 use Rattle.wk_tables.specs.Jobs.{KeepsJobs, rows_in}
-use Rattle.wk_tables.proofs.JobLaws.{KeepsJobs-take, rows_in-popped}
+use Rattle.wk_tables.proofs.JobLaws.{KeepsJobs-take, rows-fit, rows_in-popped}
 use Rattle.wk_tables.proofs.job_list.drop_empty_end.Goals as goal
 
 pub loop-last-preserved : goal.loop-last-preserved
@@ -21,3 +21,9 @@ loop-last-preserved c =
       omega (arith, c.truncate.ensures.len),
       c.truncate.ensures.capacity ∙ before.3,
     )
+
+pub returns-in_default-clause-holds : goal.returns-in_default-clause-holds
+returns-in_default-clause-holds c = let fit = rows-fit c.loop-last.slots.items in omega (arith, fit)
+
+pub returns-then-is_some-clause-holds : goal.returns-then-is_some-clause-holds
+returns-then-is_some-clause-holds c = let fit = rows-fit c.loop-last.slots.items in omega (arith, fit)

@@ -1,6 +1,0 @@
-use Rattle.std.proofs.Common.{take}
-use Rattle.wk_tables.specs.Rising.{IsRising}
-use Rattle.wk_tables.proofs.number.is_rising.Given as goal
-
-abbrev pub invariant-loop-i : goal.invariant-loop-i
-invariant-loop-i g l = IsRising g.T.Numbered.number (take l.i l.items)
