@@ -21,6 +21,7 @@ use Rattle.wk_state_laws.specs.Kept.{IsKept}
 use Rattle.wk_state_laws.specs.Reached.{IsWithinFull}
 use Rattle.wk_state_laws.proofs.Kept.{IsKept-reopened}
 use Rattle.wk_wiki_rules.specs.Calls.{CallsMake, IsMade, no_call, one_more, by_claim, by_finish, by_give_back, by_fan}
+use Rattle.wk_wiki_rules.specs.Claims.{ClaimOutcome}
 use Rattle.wk_wiki_rules.specs.Fans.{fan_outcome}
 use Rattle.wk_wiki_rules.specs.Room.{is_claim_refused, is_fan_refused, tickets_out}
 use Rattle.wk_wiki_rules.specs.Staleness.{StaleRead, first_stale}
@@ -32,10 +33,10 @@ use Rattle.wk_wiki_laws.proofs.TicketSteps.{open-is-out, out-is-open, ticket-sta
 use Rattle.wk_answer_rules.specs.Values.{ApiReply}
 use Rattle.wk_answer_laws.proofs.Possible.{event-possible, made-by-call, possible-step, IsPossibleSave}
 use Rattle.wk_script_rules.specs.ScriptLines.{ScriptLine, empty_line, long_line, api_line, claim_line, read_line, finish_line, giveback_line, fan_line, restart_line, unknown_line, script_line}
-use Rattle.wk_script_rules.specs.WikiScripts.{TicketDraft, WikiScript, script_from, point_of, behind_event, draft_of, drafted, without_draft, given_back_by, all_given_back, restarted}
+use Rattle.wk_script_rules.specs.WikiScripts.{TicketDraft, WikiScript, script_from, point_of, after_event, draft_of, drafted, without_draft, given_back_by, all_given_back, restarted}
 use Rattle.wk_script_rules.specs.Replies.{claim_entries, nothing_entries, fan_entries, noread, needsread, notticket}
-use Rattle.wk_script_rules.specs.Steps.{LineStep, told, refused_line, journal_full_line, behind_answer, api_answer, claimed, read_step, read_by_need, present_read, finished, finish_by, finish_step, with_ticket_out, giveback_step, line_step}
-use Rattle.wk_script_rules.specs.Runs.{LineRun, as_told, api_starved, api_starved_late, save_failed, claim_starved, read_starved, finish_starved, finish_failed, fan_starved, fan_failed, WikiScriptRun, over, timed, untimed}
+use Rattle.wk_script_rules.specs.Steps.{LineStep, replied, refused_line, journal_full_line, after_answer, api_answer, claimed, read_step, read_by_need, present_read, finished, finish_by, finish_step, with_ticket_out, giveback_step, line_step}
+use Rattle.wk_script_rules.specs.Runs.{LineRun, as_answered, api_out_of_memory, api_out_of_memory_after, save_failed, claim_out_of_memory, read_out_of_memory, finish_out_of_memory, finish_failed, fan_out_of_memory, fan_failed, WikiScriptRun, over, timed, unread, untimed}
 use Rattle.wk_script_laws.specs.Lives.{IsLife}
 use Rattle.wk_script_laws.proofs.Drafts.{some-of, is-some, ticket, each-push, each-kept, each-weaker, found, each-read, tickets-read, rises-push, rises-kept, last-at, other-ticket}
 
@@ -53,56 +54,56 @@ module _ (most : MostHeld) (full : IsWithinFull most) where
     abbrev next : (x : State) × (step s.state (point_of s) event ≡ Some x)
     next = some-of (step s.state (point_of s) event) possible
 
-    after-is : (behind_event s event).state ≡ next.0
+    after-is : (after_event s event).state ≡ next.0
     after-is = ap (λ (o : Option State). unwrap_or o s.state) next.1
 
     before : replay_by fan_pages s.start s.journal ≡ Some s.state
     before = replay-calls fan_pages most s.start s.state s.journal life.made
 
-    pub made-behind : CallsMake fan_pages most s.start (s.journal ++ event ∷ []) (behind_event s event).state
+    pub made-behind : CallsMake fan_pages most s.start (s.journal ++ event ∷ []) (after_event s event).state
     made-behind =
         subst (λ (state : State). CallsMake fan_pages most s.start (s.journal ++ event ∷ []) state) (sym after-is)
         (one_more life.made is_made next.1)
 
-    pub replay-behind : replay_by fan_pages s.start (s.journal ++ event ∷ []) ≡ Some (behind_event s event).state
-    replay-behind = replay-calls fan_pages most s.start (behind_event s event).state (s.journal ++ event ∷ []) made-behind
+    pub replay-behind : replay_by fan_pages s.start (s.journal ++ event ∷ []) ≡ Some (after_event s event).state
+    replay-behind = replay-calls fan_pages most s.start (after_event s event).state (s.journal ++ event ∷ []) made-behind
 
     -- a ticket that the event doesn't bring in stays out
-    pub stays : (t : ℕ) → event ≢ Done t → event ≢ Back t → Out s t → Out (behind_event s event) t
+    pub stays : (t : ℕ) → event ≢ Done t → event ≢ Back t → Out s t → Out (after_event s event) t
     stays t not_done not_back out =
         let page = some-of (page_held_by s.state.jobs t) out in
-        is-some (page_held_by (behind_event s event).state.jobs t) page.0
-        (ticket-stays fan_pages s.start s.state (behind_event s event).state s.journal event t page.0 life.kept.one_page life.free before replay-behind page.1 not_done not_back)
+        is-some (page_held_by (after_event s event).state.jobs t) page.0
+        (ticket-stays fan_pages s.start s.state (after_event s event).state s.journal event t page.0 life.kept.one_page life.free before replay-behind page.1 not_done not_back)
 
     -- an event that brings no ticket in
-    pub plain-life : ((t : ℕ) → (event ≢ Done t) × (event ≢ Back t)) → IsLife most (behind_event s event)
+    pub plain-life : ((t : ℕ) → (event ≢ Done t) × (event ≢ Back t)) → IsLife most (after_event s event)
     plain-life plain = record {
       kept = life.kept;
       free = life.free;
       made = made-behind;
-      out = each-weaker (λ d. Out s (ticket d)) (λ d. Out (behind_event s event) (ticket d)) s.drafts (λ d out. stays (ticket d) (plain (ticket d)).0 (plain (ticket d)).1 out) life.out;
+      out = each-weaker (λ d. Out s (ticket d)) (λ d. Out (after_event s event) (ticket d)) s.drafts (λ d out. stays (ticket d) (plain (ticket d)).0 (plain (ticket d)).1 out) life.out;
       rises = life.rises;
     }
 
     -- one that brings this ticket in, whose draft goes
-    pub closing-life : (t : ℕ) → ((other : ℕ) → (other ≡ t → ⊥) → (event ≢ Done other) × (event ≢ Back other)) → IsLife most (without_draft (behind_event s event) t)
+    pub closing-life : (t : ℕ) → ((other : ℕ) → (other ≡ t → ⊥) → (event ≢ Done other) × (event ≢ Back other)) → IsLife most (without_draft (after_event s event) t)
     closing-life t closes_it = record {
       kept = life.kept;
       free = life.free;
       made = made-behind;
-      out = each-kept (λ d. Out s (ticket d)) (λ d. Out (behind_event s event) (ticket d)) (λ d. not (eqb (ticket d) t)) s.drafts
+      out = each-kept (λ d. Out s (ticket d)) (λ d. Out (after_event s event) (ticket d)) (λ d. not (eqb (ticket d) t)) s.drafts
           (λ d out other. let apart = closes_it (ticket d) (other-ticket (ticket d) t other) in stays (ticket d) apart.0 apart.1 out) life.out;
       rises = rises-kept (λ d. not (eqb (ticket d) t)) s.drafts life.rises;
     }
 
   -- ---- events of one kind each
 
-  save-life : (s : WikiScript) (event : Event) → IsLife most s → IsPossibleSave most s.state (point_of s) event → IsLife most (behind_event s event)
+  save-life : (s : WikiScript) (event : Event) → IsLife most s → IsPossibleSave most s.state (point_of s) event → IsLife most (after_event s event)
   save-life s event life save =
       plain-life s life event (made-by-call most s.state (point_of s) event save) (possible-step most s.state (point_of s) event save)
       (λ t. (λ e. let is : Save save.title save.text save.moment ≡ Done t = sym save.is ∙ e in cc, λ e. let is : Save save.title save.text save.moment ≡ Back t = sym save.is ∙ e in cc))
 
-  fan-life : (s : WikiScript) (fan : FanEntry) → IsLife most s → first_fan s.state.jobs ≡ Some fan → is_fan_refused most s.state (point_of s) ≡ false → IsLife most (behind_event s Fan)
+  fan-life : (s : WikiScript) (fan : FanEntry) → IsLife most s → first_fan s.state.jobs ≡ Some fan → is_fan_refused most s.state (point_of s) ≡ false → IsLife most (after_event s Fan)
   fan-life s fan life stands room =
       plain-life s life Fan (by_fan room)
       (ap (λ (o : Option FanEntry). is_some (option_map (λ jobs. with_jobs s.state jobs) (option_map (after_serving s.state.stored fan_pages s.state.jobs) o))) stands)
@@ -124,6 +125,10 @@ module _ (most : MostHeld) (full : IsWithinFull most) where
 
   -- ---- a claim
 
+  -- what a claim of this page tells
+  abbrev claim_of : WikiScript → ℕ → ClaimOutcome
+  claim_of s page = record { ticket = point_of s + 1; title = title_at s.state.history page }
+
   module _ (s : WikiScript) (page : ℕ) (life : IsLife most s) (queued : first_queued s.state.jobs ≡ Some page) (room : is_claim_refused most s.state (point_of s) ≡ false) where
     claim-possible : IsSome (step s.state (point_of s) Claim)
     claim-possible = ap (λ (o : Option ℕ). is_some (option_map (λ p. with_jobs s.state (claimed_by s.state.jobs (point_of s + 1))) o)) queued
@@ -138,9 +143,9 @@ module _ (most : MostHeld) (full : IsWithinFull most) where
           absurd (omega (arith, within, len, behind));
     }
 
-    claim-out : Out (behind_event s Claim) (point_of s + 1)
+    claim-out : Out (after_event s Claim) (point_of s + 1)
     claim-out =
-        open-is-out fan_pages s.start (behind_event s Claim).state (s.journal ++ Claim ∷ []) (point_of s + 1) life.kept.one_page life.free
+        open-is-out fan_pages s.start (after_event s Claim).state (s.journal ++ Claim ∷ []) (point_of s + 1) life.kept.one_page life.free
         (replay-behind s life Claim (by_claim room) claim-possible) claim-open
 
     below-claim : (t : ℕ) → Out s t → t < point_of s + 1
@@ -151,13 +156,13 @@ module _ (most : MostHeld) (full : IsWithinFull most) where
         let positive = opened.positive in
         omega (arith, within, positive)
 
-    claim-life : IsLife most (claimed s page)
+    claim-life : IsLife most (claimed s (claim_of s page))
     claim-life = record {
       kept = life.kept;
       free = life.free;
       made = made-behind s life Claim (by_claim room) claim-possible;
-      out = each-push (λ d. Out (behind_event s Claim) (ticket d)) s.drafts (record { ticket = point_of s + 1; title = title_at s.state.history page; seen = [] })
-          (each-weaker (λ d. Out s (ticket d)) (λ d. Out (behind_event s Claim) (ticket d)) s.drafts
+      out = each-push (λ d. Out (after_event s Claim) (ticket d)) s.drafts (record { ticket = point_of s + 1; title = title_at s.state.history page; seen = [] })
+          (each-weaker (λ d. Out s (ticket d)) (λ d. Out (after_event s Claim) (ticket d)) s.drafts
           (λ d out. stays s life Claim (by_claim room) claim-possible (ticket d) (λ e. cc) (λ e. cc) out) life.out)
           claim-out;
       rises = rises-push s.drafts (record { ticket = point_of s + 1; title = title_at s.state.history page; seen = [] }) life.rises
@@ -197,7 +202,7 @@ module _ (most : MostHeld) (full : IsWithinFull most) where
 
   -- ---- lines
 
-  answer-life : (s : WikiScript) (event : Option Event) → IsLife most s → ((e : Event) → event ≡ Some e → IsPossibleSave most s.state (point_of s) e) → IsLife most (behind_answer s event)
+  answer-life : (s : WikiScript) (event : Option Event) → IsLife most s → ((e : Event) → event ≡ Some e → IsPossibleSave most s.state (point_of s) e) → IsLife most (after_answer s event)
   answer-life s None life possible = life
   answer-life s (Some e) life possible = save-life s e life (possible e refl)
 
@@ -210,27 +215,27 @@ module _ (most : MostHeld) (full : IsWithinFull most) where
         let one = found (λ d. Out s (ticket d)) (λ d. eqb (ticket d) t) s.drafts draft life.out is in
         subst (λ (n : ℕ). Out s n) (eqb-true (ticket draft) t one.1) one.0
 
-    claim-line-life : (o : Option ℕ) → first_queued s.state.jobs ≡ o → IsLife most (elim o as (λ p. LineStep) [
-      | None ↦ told s (nothing_entries (codes "claim"))
-      | Some page ↦ cond (is_claim_refused most s.state (point_of s)) (journal_full_line s) (told (claimed s page) (claim_entries (point_of s + 1) (title_at s.state.history page)))
+    claim-line-life : (o : Option ℕ) → first_queued s.state.jobs ≡ o → IsLife most (elim (option_map (claim_of s) o) as (λ p. LineStep) [
+      | None ↦ replied s (nothing_entries (codes "claim"))
+      | Some claim ↦ cond (is_claim_refused most s.state (point_of s)) (journal_full_line s) (replied (claimed s claim) (claim_entries claim))
     ]).after
     claim-line-life None is = life
     claim-line-life (Some page) is = by (is_claim_refused most s.state (point_of s)) refl
       where
         by : (b : Bool) → is_claim_refused most s.state (point_of s) ≡ b
-            → IsLife most (cond b (journal_full_line s) (told (claimed s page) (claim_entries (point_of s + 1) (title_at s.state.history page)))).after
+            → IsLife most (cond b (journal_full_line s) (replied (claimed s (claim_of s page)) (claim_entries (claim_of s page)))).after
         by true full_journal = life
         by false room = claim-life s page life is room
 
     fan-line-life : (o : Option FanEntry) → first_fan s.state.jobs ≡ o → IsLife most (elim (option_map (fan_outcome fan_pages s.state) o) as (λ p. LineStep) [
-      | None ↦ told s (nothing_entries (codes "fan"))
-      | Some fan ↦ cond (is_fan_refused most s.state (point_of s)) (journal_full_line s) (told (behind_event s Fan) (fan_entries fan))
+      | None ↦ replied s (nothing_entries (codes "fan"))
+      | Some fan ↦ cond (is_fan_refused most s.state (point_of s)) (journal_full_line s) (replied (after_event s Fan) (fan_entries fan))
     ]).after
     fan-line-life None is = life
     fan-line-life (Some fan) is = by (is_fan_refused most s.state (point_of s)) refl
       where
         by : (b : Bool) → is_fan_refused most s.state (point_of s) ≡ b
-            → IsLife most (cond b (journal_full_line s) (told (behind_event s Fan) (fan_entries (fan_outcome fan_pages s.state fan)))).after
+            → IsLife most (cond b (journal_full_line s) (replied (after_event s Fan) (fan_entries (fan_outcome fan_pages s.state fan)))).after
         by true full_journal = life
         by false room = fan-life s fan life is room
 
@@ -267,10 +272,10 @@ module _ (most : MostHeld) (full : IsWithinFull most) where
         by (done expanded reads) = stale-life draft.ticket (first_stale (world_of s.state) reads) out
         by (need title kind reads) = life
 
-    ticket-life : (t : ℕ) (does : WikiScript → TicketDraft → LineStep) → ((draft : TicketDraft) → Out s (ticket draft) → IsLife most (does s draft).after) → IsLife most (with_ticket_out s t does).after
-    ticket-life t does each = by (draft_of s t) refl
+    ticket-life : (t : ℕ) (step_with : WikiScript → TicketDraft → LineStep) → ((draft : TicketDraft) → Out s (ticket draft) → IsLife most (step_with s draft).after) → IsLife most (with_ticket_out s t step_with).after
+    ticket-life t step_with each = by (draft_of s t) refl
       where
-        by : (o : Option TicketDraft) → draft_of s t ≡ o → IsLife most (elim o as (λ p. LineStep) [ None ↦ refused_line s notticket | Some draft ↦ does s draft ]).after
+        by : (o : Option TicketDraft) → draft_of s t ≡ o → IsLife most (elim o as (λ p. LineStep) [ None ↦ refused_line s notticket | Some draft ↦ step_with s draft ]).after
         by None is = life
         by (Some draft) is = each draft (out-of t draft is)
 
@@ -290,16 +295,16 @@ module _ (most : MostHeld) (full : IsWithinFull most) where
 
   line-life : (s : WikiScript) (moment : ℕ) (line : ScriptLine) (reply : Option ApiReply) (t : WikiScript)
       → LineRun most s moment line reply t → IsLife most s → IsLife most t
-  line-life s moment line reply t as_told life = told-life s life moment line
-  line-life s moment line reply t api_starved life = life
-  line-life s moment line reply t (api_starved_late {request = request} {event = event} made) life =
+  line-life s moment line reply t as_answered life = told-life s life moment line
+  line-life s moment line reply t api_out_of_memory life = life
+  line-life s moment line reply t (api_out_of_memory_after {request = request} {event = event} made) life =
       save-life s event life (event-possible most s.state (point_of s) moment request event made)
   line-life s moment line reply t (save_failed made) life = life
-  line-life s moment line reply t claim_starved life = life
-  line-life s moment line reply t (read_starved out) life = life
-  line-life s moment line reply t (finish_starved {ticket = n} {draft = draft} out) life = back-life s n life (out-by s life n draft out)
+  line-life s moment line reply t claim_out_of_memory life = life
+  line-life s moment line reply t (read_out_of_memory out) life = life
+  line-life s moment line reply t (finish_out_of_memory {ticket = n} {draft = draft} out) life = back-life s n life (out-by s life n draft out)
   line-life s moment line reply t (finish_failed {ticket = n} {draft = draft} out drafted current) life = back-life s n life (out-by s life n draft out)
-  line-life s moment line reply t fan_starved life = life
+  line-life s moment line reply t fan_out_of_memory life = life
   line-life s moment line reply t (fan_failed stands room) life = life
 
   -- ---- runs
@@ -309,5 +314,6 @@ module _ (most : MostHeld) (full : IsWithinFull most) where
   run-life s t lines moments replies over life = life
   run-life s t lines moments replies (timed {t = u} {line = line} {lines = more} {moment = moment} {moments = later} {reply = reply} {replies = rest} takes one run) life =
       run-life u t more later rest run (line-life s moment (script_line line) reply u one life)
+  run-life s t lines moments replies (unread {lines = more} {replies = rest} is run) life = run-life s t more moments rest run life
   run-life s t lines moments replies (untimed {t = u} {line = line} {lines = more} {moments = later} {reply = reply} {replies = rest} takes one run) life =
       run-life u t more later rest run (line-life s 0 (script_line line) reply u one life)

@@ -12,7 +12,7 @@ ghost use Rattle.wk_state_laws.specs.WellFormed.{IsWellFormed};
 ghost use Rattle.wk_wiki_rules.specs.Room.{tickets_out};
 ghost use Rattle.wk_answer_rules.specs.Values.{ApiReply};
 ghost use Rattle.wk_script_rules.specs.WikiScripts.{WikiScript, all_given_back, script_from};
-ghost use Rattle.wk_script_rules.specs.Runs.{IsUntroubled, WikiScriptRun, script_told, wiki_script_replies};
+ghost use Rattle.wk_script_rules.specs.Runs.{HasNoFailure, WikiScriptRun, script_answers, wiki_script_replies};
 ghost use Rattle.wk_script_laws.specs.Lives.{IsLife};
 
 /// A run goes on: one over some lines, and one over more lines from where it ended, are a run over all of them.
@@ -24,13 +24,13 @@ pub fn wiki_script_runs_join()
 
 /// Where no reply tells of want of memory or of a fault of the store, a run's replies are the stated function of its lines
 /// and of the moments that it took, and so is what stands behind it.
-pub fn an_untroubled_run_is_the_function()
+pub fn a_run_without_failures_is_the_function()
     ensures replies { (most : MostHeld) (s t : WikiScript) (lines : List (Option (List ℕ))) (moments : List ℕ) (replies : List ApiReply)
-        → WikiScriptRun most s lines moments replies t → AllByRecursion IsUntroubled replies
+        → WikiScriptRun most s lines moments replies t → AllByRecursion HasNoFailure replies
         → replies ≡ wiki_script_replies most s lines moments }
     ensures after { (most : MostHeld) (s t : WikiScript) (lines : List (Option (List ℕ))) (moments : List ℕ) (replies : List ApiReply)
-        → WikiScriptRun most s lines moments replies t → AllByRecursion IsUntroubled replies
-        → t ≡ (script_told most s lines moments).after }
+        → WikiScriptRun most s lines moments replies t → AllByRecursion HasNoFailure replies
+        → t ≡ (script_answers most s lines moments).after }
 {}
 
 /// Whatever its lines are answered, a script keeps a wiki sound and well formed, and so does the end of the input, at which
