@@ -44,10 +44,10 @@ limited o title body = elim o [ None ↦ accept title body | Some limit ↦ refu
 same-error : (a error : ApiError) (journal : ℕ) → Some a ≡ Some error → failed_at journal a ≡ failed_at journal error
 same-error a error journal e = let same : a ≡ error = cc in ap (failed_at journal) same
 
-module _ (told : SaveOutcome → Entries) (state : State) (journal moment : ℕ) where
+module _ (entries_of : SaveOutcome → Entries) (state : State) (journal moment : ℕ) where
   edit-error : (big there missing stale full : Bool) (current : ℕ) (rest : Verdict) (error : ApiError)
       → first_error (edit_list big there missing stale current) ≡ Some error
-      → save_answer told state journal moment (with_room full (edited big there missing stale current rest)) ≡ failed_at journal error
+      → save_answer entries_of state journal moment (with_room full (edited big there missing stale current rest)) ≡ failed_at journal error
   edit-error true there missing stale full current rest error e = same-error contenttoobig error journal e
   edit-error false true missing stale full current rest error e = same-error articleexists error journal e
   edit-error false false true stale full current rest error e = same-error missingtitle error journal e
@@ -64,7 +64,7 @@ module _ (told : SaveOutcome → Entries) (state : State) (journal moment : ℕ)
 
   change-error : (pages revisions texts full : Bool) (title : PageTitle) (body : Option (List ℕ)) (error : ApiError)
       → first_error (change_list pages revisions texts full) ≡ Some error
-      → save_answer told state journal moment (with_room full (limited (passed pages revisions texts) title body)) ≡ failed_at journal error
+      → save_answer entries_of state journal moment (with_room full (limited (passed pages revisions texts) title body)) ≡ failed_at journal error
   change-error true revisions texts full title body error e = same-error (wikifull Pages) error journal e
   change-error false true texts full title body error e = same-error (wikifull Revisions) error journal e
   change-error false false true full title body error e = same-error (wikifull Text) error journal e
@@ -129,43 +129,43 @@ pub early : (most : MostHeld) (state : State) (journal moment : ℕ) (request : 
 unfolding answer_to_request
 early most state journal moment request is = ap (λ b. cond b (failed_at journal (futurepoint journal)) (answer_to_ask most state journal moment request.ask)) is
 
-module _ (told : SaveOutcome → Entries) (most : MostHeld) (state : State) (journal moment : ℕ) (edit : EditAsked) where
-  pub bad-title : real_title edit.title ≡ None → save_answer told state journal moment (verdict_in most state journal edit) ≡ failed_at journal invalidtitle
-  bad-title none = ap (save_answer told state journal moment) (untitled most state journal edit none)
+module _ (entries_of : SaveOutcome → Entries) (most : MostHeld) (state : State) (journal moment : ℕ) (edit : EditAsked) where
+  pub bad-title : real_title edit.title ≡ None → save_answer entries_of state journal moment (verdict_in most state journal edit) ≡ failed_at journal invalidtitle
+  bad-title none = ap (save_answer entries_of state journal moment) (untitled most state journal edit none)
 
   pub of-an-edit : (title : PageTitle) (error : ApiError) → real_title edit.title ≡ Some title → first_error (errors_of_an_edit state.history edit title) ≡ Some error
-      → save_answer told state journal moment (verdict_in most state journal edit) ≡ failed_at journal error
+      → save_answer entries_of state journal moment (verdict_in most state journal edit) ≡ failed_at journal error
   of-an-edit title error named first =
-      ap (save_answer told state journal moment) (titled most state journal edit title named)
-      ∙ edit-error told state journal moment (ltb max_text (body_bytes (body most state journal edit))) (edit.create_only && page_exists state.history title)
+      ap (save_answer entries_of state journal moment) (titled most state journal edit title named)
+      ∙ edit-error entries_of state journal moment (ltb max_text (body_bytes (body most state journal edit))) (edit.create_only && page_exists state.history title)
       ((edit.no_create || is_none (body most state journal edit)) && not (page_exists state.history title)) (is_conflict edit.base (current_revision state.history title))
       (full most state journal edit) (current_revision state.history title) (rest most state journal edit title) error first
 
   pub of-a-change : (title : PageTitle) (error : ApiError) → real_title edit.title ≡ Some title → first_error (errors_of_an_edit state.history edit title) ≡ None
       → is_same_text (current_text state.history title) (option_map kept edit.body) ≡ false
       → first_error (errors_of_a_change most state journal edit title) ≡ Some error
-      → save_answer told state journal moment (verdict_in most state journal edit) ≡ failed_at journal error
+      → save_answer entries_of state journal moment (verdict_in most state journal edit) ≡ failed_at journal error
   of-a-change title error named none differs first =
-      ap (save_answer told state journal moment) (changing most state journal edit title named none differs)
-      ∙ change-error told state journal moment (is_none (page_number state.history title) && leb most.pages (length state.history.pages))
+      ap (save_answer entries_of state journal moment) (changing most state journal edit title named none differs)
+      ∙ change-error entries_of state journal moment (is_none (page_number state.history title) && leb most.pages (length state.history.pages))
       (leb most.revisions (length state.history.revisions)) (ltb most.text (text_bytes state.history + body_bytes (option_map kept edit.body)))
       (full most state journal edit) title (option_map kept edit.body) error first
 
   pub unchanged-none : (title : PageTitle) → real_title edit.title ≡ Some title → first_error (errors_of_an_edit state.history edit title) ≡ None
       → is_same_text (current_text state.history title) (option_map kept edit.body) ≡ true
-      → (save_answer told state journal moment (verdict_in most state journal edit)).event ≡ None
+      → (save_answer entries_of state journal moment (verdict_in most state journal edit)).event ≡ None
   unchanged-none title named none is =
-      ap (λ v. (save_answer told state journal moment v).event)
+      ap (λ v. (save_answer entries_of state journal moment v).event)
       (behind most state journal edit title named none
       ∙ ap (λ b. with_room (full most state journal edit) (cond b (no_change title) (limited (limit_passed state.history most title (option_map kept edit.body)) title (option_map kept edit.body)))) is)
 
   pub accepted-event : (title : PageTitle) → real_title edit.title ≡ Some title → first_error (errors_of_an_edit state.history edit title) ≡ None
       → is_same_text (current_text state.history title) (option_map kept edit.body) ≡ false
       → first_error (errors_of_a_change most state journal edit title) ≡ None
-      → (save_answer told state journal moment (verdict_in most state journal edit)).event ≡ Some (Save title (option_map kept edit.body) moment)
+      → (save_answer entries_of state journal moment (verdict_in most state journal edit)).event ≡ Some (Save title (option_map kept edit.body) moment)
   accepted-event title named none differs free =
-      ap (λ v. (save_answer told state journal moment v).event)
+      ap (λ v. (save_answer entries_of state journal moment v).event)
       (changing most state journal edit title named none differs
-      ∙ change-none told state journal moment (is_none (page_number state.history title) && leb most.pages (length state.history.pages))
+      ∙ change-none entries_of state journal moment (is_none (page_number state.history title) && leb most.pages (length state.history.pages))
       (leb most.revisions (length state.history.revisions)) (ltb most.text (text_bytes state.history + body_bytes (option_map kept edit.body)))
       (full most state journal edit) title (option_map kept edit.body) free)

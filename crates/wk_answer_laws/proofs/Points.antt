@@ -6,13 +6,13 @@ use Rattle.wk_page_rules.specs.Verdict.{MostHeld, Verdict, refuse, no_change, ac
 use Rattle.wk_state_rules.specs.States.{State}
 use Rattle.wk_state_rules.specs.Verdicts.{verdict_in}
 use Rattle.wk_wiki_rules.specs.SaveOutcomes.{SaveOutcome, deletion}
-use Rattle.wk_request_rules.specs.Requests.{Ask, edit, delete, parse, expand_text, backlinks, embedded, members, changes, revisions, tokens, site_info, Request, RequestRead, asks, refused}
+use Rattle.wk_request_rules.specs.Requests.{Ask, edit, delete, parse, expand_text, backlinks, embedded, members, changes, revisions, tokens, site_info, Request, ParsedRequest, valid, invalid}
 use Rattle.wk_answer_rules.specs.Values.{Entries}
 use Rattle.wk_answer_rules.specs.ApiErrors.{ApiError, futurepoint}
 use Rattle.wk_answer_rules.specs.Pages.{ReadAnswer, shows, fails, parse_answer, expand_answer}
 use Rattle.wk_answer_rules.specs.Lists.{backlinks_answer, embedded_answer, members_answer, changes_answer, revisions_answer}
 use Rattle.wk_answer_rules.specs.Saves.{Answered, failed_at, save_answer, edit_entries, delete_entries}
-use Rattle.wk_answer_rules.specs.Answers.{asks_to_save, read_at, answer_to_ask, answer_to_request, answer_to_read}
+use Rattle.wk_answer_rules.specs.Answers.{asks_to_save, read_at, answer_to_ask, answer_to_request, answer_to_parsed}
 
 read-none : (journal : ℕ) (answer : ReadAnswer) → (read_at journal answer).event ≡ None
 read-none journal (shows entries) = refl
@@ -54,10 +54,10 @@ read-placed journal (fails error) = omega arith
 failed-placed : (journal : ℕ) (error : ApiError) → Placed journal (failed_at journal error)
 failed-placed journal error = omega arith
 
-save-placed : (told : SaveOutcome → Entries) (state : State) (journal moment : ℕ) (v : Verdict) → Placed journal (save_answer told state journal moment v)
-save-placed told state journal moment (refuse refusal) = omega arith
-save-placed told state journal moment (no_change title) = omega arith
-save-placed told state journal moment (accept title text) = refl
+save-placed : (entries_of : SaveOutcome → Entries) (state : State) (journal moment : ℕ) (v : Verdict) → Placed journal (save_answer entries_of state journal moment v)
+save-placed entries_of state journal moment (refuse refusal) = omega arith
+save-placed entries_of state journal moment (no_change title) = omega arith
+save-placed entries_of state journal moment (accept title text) = refl
 
 ask-placed : (most : MostHeld) (state : State) (journal moment : ℕ) (ask : Ask) → Placed journal (answer_to_ask most state journal moment ask)
 ask-placed most state journal moment (edit asked) = save-placed edit_entries state journal moment (verdict_in most state journal asked)
@@ -72,9 +72,9 @@ ask-placed most state journal moment (revisions listing content) = read-placed j
 ask-placed most state journal moment tokens = omega arith
 ask-placed most state journal moment site_info = omega arith
 
-pub placed : (most : MostHeld) (state : State) (journal moment : ℕ) (read : RequestRead) → Placed journal (answer_to_read most state journal moment read)
+pub placed : (most : MostHeld) (state : State) (journal moment : ℕ) (read : ParsedRequest) → Placed journal (answer_to_parsed most state journal moment read)
 unfolding answer_to_request
-placed most state journal moment (refused refusal) = omega arith
-placed most state journal moment (asks request) =
+placed most state journal moment (invalid refusal) = omega arith
+placed most state journal moment (valid request) =
     either (nat_lt journal request.least) (Placed journal) (failed_at journal (futurepoint journal)) (answer_to_ask most state journal moment request.ask)
     (λ early. failed-placed journal (futurepoint journal)) (λ reached. ask-placed most state journal moment request.ask)

@@ -18,11 +18,11 @@ use Rattle.wk_state_laws.specs.WellFormed.{IsWellFormed}
 use Rattle.wk_state_laws.proofs.Saved.{IsSound-saved}
 use Rattle.wk_wiki_rules.specs.Calls.{IsMade, by_save}
 use Rattle.wk_wiki_rules.specs.SaveOutcomes.{SaveOutcome, deletion}
-use Rattle.wk_request_rules.specs.Requests.{Ask, edit, delete, parse, expand_text, backlinks, embedded, members, changes, revisions, tokens, site_info, RequestRead, asks, refused}
+use Rattle.wk_request_rules.specs.Requests.{Ask, edit, delete, parse, expand_text, backlinks, embedded, members, changes, revisions, tokens, site_info, ParsedRequest, valid, invalid}
 use Rattle.wk_answer_rules.specs.Values.{Entries}
 use Rattle.wk_answer_rules.specs.ApiErrors.{futurepoint}
 use Rattle.wk_answer_rules.specs.Saves.{Answered, failed_at, save_answer, edit_entries, delete_entries}
-use Rattle.wk_answer_rules.specs.Answers.{asks_to_save, answer_to_ask, answer_to_request, answer_to_read}
+use Rattle.wk_answer_rules.specs.Answers.{asks_to_save, answer_to_ask, answer_to_request, answer_to_parsed}
 use Rattle.wk_answer_laws.proofs.Points.{either, ask-none}
 
 -- ---- a title that a save can have
@@ -122,11 +122,11 @@ pub record IsPossibleSave (most : MostHeld) (state : State) (journal : ℕ) (eve
 abbrev Possible : MostHeld → State → ℕ → Answered → Type 0
 Possible most state journal answer = (event : Event) → answer.event ≡ Some event → IsPossibleSave most state journal event
 
-save-event : (told : SaveOutcome → Entries) (most : MostHeld) (state : State) (journal moment : ℕ) (asked : EditAsked) (v : Verdict)
-    → verdict_in most state journal asked ≡ v → Possible most state journal (save_answer told state journal moment v)
-save-event told most state journal moment asked (refuse refusal) is event made = absurd (let none : None ≡ Some event = made in cc)
-save-event told most state journal moment asked (no_change title) is event made = absurd (let none : None ≡ Some event = made in cc)
-save-event told most state journal moment asked (accept title text) is event made =
+save-event : (entries_of : SaveOutcome → Entries) (most : MostHeld) (state : State) (journal moment : ℕ) (asked : EditAsked) (v : Verdict)
+    → verdict_in most state journal asked ≡ v → Possible most state journal (save_answer entries_of state journal moment v)
+save-event entries_of most state journal moment asked (refuse refusal) is event made = absurd (let none : None ≡ Some event = made in cc)
+save-event entries_of most state journal moment asked (no_change title) is event made = absurd (let none : None ≡ Some event = made in cc)
+save-event entries_of most state journal moment asked (accept title text) is event made =
     let some : Some (Save title text moment) ≡ Some event = made in
     record { asked = asked; title = title; text = text; moment = moment; accepted = is; is = cc; can = accepted-possible most state journal asked title text is }
 
@@ -148,10 +148,10 @@ ask-event most state journal moment (revisions listing content) = none-made most
 ask-event most state journal moment tokens = none-made most state journal moment tokens refl
 ask-event most state journal moment site_info = none-made most state journal moment site_info refl
 
-pub event-possible : (most : MostHeld) (state : State) (journal moment : ℕ) (read : RequestRead) → Possible most state journal (answer_to_read most state journal moment read)
+pub event-possible : (most : MostHeld) (state : State) (journal moment : ℕ) (read : ParsedRequest) → Possible most state journal (answer_to_parsed most state journal moment read)
 unfolding answer_to_request
-event-possible most state journal moment (refused refusal) = λ event made. absurd (let none : None ≡ Some event = made in cc)
-event-possible most state journal moment (asks request) =
+event-possible most state journal moment (invalid refusal) = λ event made. absurd (let none : None ≡ Some event = made in cc)
+event-possible most state journal moment (valid request) =
     either (nat_lt journal request.least) (Possible most state journal) (failed_at journal (futurepoint journal)) (answer_to_ask most state journal moment request.ask)
     (λ early event made. absurd (let none : None ≡ Some event = made in cc)) (λ reached. ask-event most state journal moment request.ask)
 

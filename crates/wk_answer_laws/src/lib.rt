@@ -14,11 +14,11 @@ ghost use Rattle.wk_state_rules.specs.Verdicts.{verdict_in};
 ghost use Rattle.wk_state_laws.specs.WellFormed.{IsWellFormed};
 ghost use Rattle.wk_wiki_rules.specs.Calls.{IsMade};
 ghost use Rattle.wk_wiki_rules.specs.SaveOutcomes.{SaveOutcome};
-ghost use Rattle.wk_request_rules.specs.Requests.{Request, RequestRead};
+ghost use Rattle.wk_request_rules.specs.Requests.{Request, ParsedRequest};
 ghost use Rattle.wk_answer_rules.specs.Values.{Entries};
 ghost use Rattle.wk_answer_rules.specs.ApiErrors.{ApiError, futurepoint, invalidtitle};
 ghost use Rattle.wk_answer_rules.specs.Saves.{failed_at, save_answer};
-ghost use Rattle.wk_answer_rules.specs.Answers.{asks_to_save, answer_to_read, answer_to_request};
+ghost use Rattle.wk_answer_rules.specs.Answers.{asks_to_save, answer_to_parsed, answer_to_request};
 ghost use Rattle.wk_answer_laws.specs.Orders.{first_error, errors_of_an_edit, errors_of_a_change};
 
 /// A request that asks for no save makes no event.
@@ -29,21 +29,21 @@ pub fn reads_make_no_event()
 
 /// The point of a reply is the journal's length, and one more where the request makes an event.
 pub fn points_count_the_event()
-    ensures { (most : MostHeld) (state : State) (journal moment : ℕ) (read : RequestRead)
-        → (answer_to_read most state journal moment read).reply.point
-        ≡ journal + length (option_to_list (answer_to_read most state journal moment read).event) }
+    ensures { (most : MostHeld) (state : State) (journal moment : ℕ) (read : ParsedRequest)
+        → (answer_to_parsed most state journal moment read).reply.point
+        ≡ journal + length (option_to_list (answer_to_parsed most state journal moment read).event) }
 {}
 
 /// The event that a request makes is possible, and the state behind it is sound where the state before it was. It is one
 /// that a call makes.
 pub fn events_are_possible()
-    ensures possible { (most : MostHeld) (state : State) (journal moment : ℕ) (read : RequestRead) (event : Event)
-        → (answer_to_read most state journal moment read).event ≡ Some event → IsSome (step state journal event) }
-    ensures sound { (most : MostHeld) (state next : State) (journal moment : ℕ) (read : RequestRead) (event : Event)
-        → (answer_to_read most state journal moment read).event ≡ Some event → step state journal event ≡ Some next
+    ensures possible { (most : MostHeld) (state : State) (journal moment : ℕ) (read : ParsedRequest) (event : Event)
+        → (answer_to_parsed most state journal moment read).event ≡ Some event → IsSome (step state journal event) }
+    ensures sound { (most : MostHeld) (state next : State) (journal moment : ℕ) (read : ParsedRequest) (event : Event)
+        → (answer_to_parsed most state journal moment read).event ≡ Some event → step state journal event ≡ Some next
         → IsWellFormed state → IsSound state → IsSound next }
-    ensures made { (most : MostHeld) (state : State) (journal moment : ℕ) (read : RequestRead) (event : Event)
-        → (answer_to_read most state journal moment read).event ≡ Some event → IsMade most state journal event }
+    ensures made { (most : MostHeld) (state : State) (journal moment : ℕ) (read : ParsedRequest) (event : Event)
+        → (answer_to_parsed most state journal moment read).event ≡ Some event → IsMade most state journal event }
 {}
 
 /// A least point that isn't reached comes before all else that is asked. Of a save, an edit or a deletion, a bad title
@@ -53,25 +53,25 @@ pub fn refusals_come_in_order()
     ensures point { (most : MostHeld) (state : State) (journal moment : ℕ) (request : Request)
         → nat_lt journal request.least ≡ true
         → answer_to_request most state journal moment request ≡ failed_at journal (futurepoint journal) }
-    ensures title { (told : SaveOutcome → Entries) (most : MostHeld) (state : State) (journal moment : ℕ) (edit : EditAsked)
+    ensures title { (entries_of : SaveOutcome → Entries) (most : MostHeld) (state : State) (journal moment : ℕ) (edit : EditAsked)
         → real_title edit.title ≡ None
-        → save_answer told state journal moment (verdict_in most state journal edit) ≡ failed_at journal invalidtitle }
-    ensures edit { (told : SaveOutcome → Entries) (most : MostHeld) (state : State) (journal moment : ℕ) (edit : EditAsked) (title : PageTitle) (error : ApiError)
+        → save_answer entries_of state journal moment (verdict_in most state journal edit) ≡ failed_at journal invalidtitle }
+    ensures edit { (entries_of : SaveOutcome → Entries) (most : MostHeld) (state : State) (journal moment : ℕ) (edit : EditAsked) (title : PageTitle) (error : ApiError)
         → real_title edit.title ≡ Some title → first_error (errors_of_an_edit state.history edit title) ≡ Some error
-        → save_answer told state journal moment (verdict_in most state journal edit) ≡ failed_at journal error }
-    ensures change { (told : SaveOutcome → Entries) (most : MostHeld) (state : State) (journal moment : ℕ) (edit : EditAsked) (title : PageTitle) (error : ApiError)
+        → save_answer entries_of state journal moment (verdict_in most state journal edit) ≡ failed_at journal error }
+    ensures change { (entries_of : SaveOutcome → Entries) (most : MostHeld) (state : State) (journal moment : ℕ) (edit : EditAsked) (title : PageTitle) (error : ApiError)
         → real_title edit.title ≡ Some title → first_error (errors_of_an_edit state.history edit title) ≡ None
         → is_same_text (current_text state.history title) (option_map kept edit.body) ≡ false
         → first_error (errors_of_a_change most state journal edit title) ≡ Some error
-        → save_answer told state journal moment (verdict_in most state journal edit) ≡ failed_at journal error }
-    ensures same { (told : SaveOutcome → Entries) (most : MostHeld) (state : State) (journal moment : ℕ) (edit : EditAsked) (title : PageTitle)
+        → save_answer entries_of state journal moment (verdict_in most state journal edit) ≡ failed_at journal error }
+    ensures same { (entries_of : SaveOutcome → Entries) (most : MostHeld) (state : State) (journal moment : ℕ) (edit : EditAsked) (title : PageTitle)
         → real_title edit.title ≡ Some title → first_error (errors_of_an_edit state.history edit title) ≡ None
         → is_same_text (current_text state.history title) (option_map kept edit.body) ≡ true
-        → (save_answer told state journal moment (verdict_in most state journal edit)).event ≡ None }
-    ensures saved { (told : SaveOutcome → Entries) (most : MostHeld) (state : State) (journal moment : ℕ) (edit : EditAsked) (title : PageTitle)
+        → (save_answer entries_of state journal moment (verdict_in most state journal edit)).event ≡ None }
+    ensures saved { (entries_of : SaveOutcome → Entries) (most : MostHeld) (state : State) (journal moment : ℕ) (edit : EditAsked) (title : PageTitle)
         → real_title edit.title ≡ Some title → first_error (errors_of_an_edit state.history edit title) ≡ None
         → is_same_text (current_text state.history title) (option_map kept edit.body) ≡ false
         → first_error (errors_of_a_change most state journal edit title) ≡ None
-        → (save_answer told state journal moment (verdict_in most state journal edit)).event
+        → (save_answer entries_of state journal moment (verdict_in most state journal edit)).event
         ≡ Some (Save title (option_map kept edit.body) moment) }
 {}

@@ -2,7 +2,7 @@
 use Rattle.std.specs.Prelude.{ℕ, Bool, true, false, nat_lt, List, if◌then◌else◌}
 use Rattle.wk_page_rules.specs.Verdict.{MostHeld}
 use Rattle.wk_state_rules.specs.States.{State}
-use Rattle.wk_request_rules.specs.Requests.{Ask, edit, delete, parse, expand_text, backlinks, embedded, members, changes, revisions, tokens, site_info, Request, RequestRead, asks, refused}
+use Rattle.wk_request_rules.specs.Requests.{Ask, edit, delete, parse, expand_text, backlinks, embedded, members, changes, revisions, tokens, site_info, Request, ParsedRequest, valid, invalid}
 use Rattle.wk_request_rules.specs.Reading.{requested}
 use Rattle.wk_answer_rules.specs.ApiErrors.{futurepoint, request_error}
 use Rattle.wk_answer_rules.specs.Pages.{ReadAnswer, shows, fails, parse_answer, expand_answer, tokens_entries, site_entries}
@@ -41,10 +41,10 @@ answer_to_request most state journal moment request =
     else answer_to_ask most state journal moment request.ask
 
 -- The first refusal, else the answer: of parameters, then of the point, then of what is asked.
-abbrev pub answer_to_read : MostHeld → State → ℕ → ℕ → RequestRead → Answered
-answer_to_read most state journal moment (refused refusal) = failed_at journal (request_error refusal)
-answer_to_read most state journal moment (asks request) = answer_to_request most state journal moment request
+abbrev pub answer_to_parsed : MostHeld → State → ℕ → ℕ → ParsedRequest → Answered
+answer_to_parsed most state journal moment (invalid refusal) = failed_at journal (request_error refusal)
+answer_to_parsed most state journal moment (valid request) = answer_to_request most state journal moment request
 
 -- what a query and a body are answered with, posted or not
 abbrev pub act : MostHeld → State → ℕ → ℕ → List ℕ → List ℕ → Bool → Answered
-act most state journal moment query body posted = answer_to_read most state journal moment (requested query body posted)
+act most state journal moment query body posted = answer_to_parsed most state journal moment (requested query body posted)

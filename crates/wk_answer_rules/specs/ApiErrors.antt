@@ -39,11 +39,12 @@ pub record ErrorRow : Type 0 where
   pub info : List ℕ
   pub further : Entries
 
-abbrev pub row : List ℕ → List ℕ → Entries → ErrorRow
-row code info further = record { code = code; info = info; further = further }
+-- an error of the table
+abbrev pub error_of : List ℕ → List ℕ → Entries → ErrorRow
+error_of code info further = record { code = code; info = info; further = further }
 
-abbrev pub about : List ℕ → Entries
-about parameter = (codes "parameter", string parameter) ∷ []
+abbrev pub parameter_entry : List ℕ → Entries
+parameter_entry parameter = (codes "parameter", string parameter) ∷ []
 
 abbrev pub limit_word : Limit → List ℕ
 limit_word Pages = codes "pages"
@@ -51,26 +52,26 @@ limit_word Revisions = codes "revisions"
 limit_word Text = codes "text"
 
 abbrev pub error_row : ApiError → ErrorRow
-error_row (badvalue parameter) = row (codes "badvalue") (codes "Unrecognized value.") (about parameter)
-error_row mustbeposted = row (codes "mustbeposted") (codes "This action must be posted.") []
-error_row badtoken = row (codes "badtoken") (codes "Invalid token.") []
-error_row (notitle parameter) = row (codes "notitle") (codes "The title must be set.") (about parameter)
-error_row notext = row (codes "notext") (codes "The text must be set.") []
-error_row (badinteger parameter) = row (codes "badinteger") (codes "Invalid whole number.") (about parameter)
+error_row (badvalue parameter) = error_of (codes "badvalue") (codes "Unrecognized value.") (parameter_entry parameter)
+error_row mustbeposted = error_of (codes "mustbeposted") (codes "This action must be posted.") []
+error_row badtoken = error_of (codes "badtoken") (codes "Invalid token.") []
+error_row (notitle parameter) = error_of (codes "notitle") (codes "The title must be set.") (parameter_entry parameter)
+error_row notext = error_of (codes "notext") (codes "The text must be set.") []
+error_row (badinteger parameter) = error_of (codes "badinteger") (codes "Invalid whole number.") (parameter_entry parameter)
 error_row (futurepoint latest) =
-    row (codes "futurepoint") (codes "That point is not reached yet.") ((codes "latest", whole latest) ∷ [])
-error_row invalidtitle = row (codes "invalidtitle") (codes "Bad title.") []
-error_row invalidcategory = row (codes "invalidcategory") (codes "The title is not in the Category namespace.") []
-error_row contenttoobig = row (codes "contenttoobig") (codes "The text is longer than 2097152 bytes.") []
-error_row articleexists = row (codes "articleexists") (codes "The page exists already.") []
-error_row missingtitle = row (codes "missingtitle") (codes "The page does not exist.") []
+    error_of (codes "futurepoint") (codes "That point is not reached yet.") ((codes "latest", whole latest) ∷ [])
+error_row invalidtitle = error_of (codes "invalidtitle") (codes "Bad title.") []
+error_row invalidcategory = error_of (codes "invalidcategory") (codes "The title is not in the Category namespace.") []
+error_row contenttoobig = error_of (codes "contenttoobig") (codes "The text is longer than 2097152 bytes.") []
+error_row articleexists = error_of (codes "articleexists") (codes "The page exists already.") []
+error_row missingtitle = error_of (codes "missingtitle") (codes "The page does not exist.") []
 error_row (editconflict current) =
-    row (codes "editconflict") (codes "Edit conflict.") ((codes "current", whole current) ∷ [])
+    error_of (codes "editconflict") (codes "Edit conflict.") ((codes "current", whole current) ∷ [])
 error_row (wikifull limit) =
-    row (codes "wikifull") (codes "A limit of the wiki is reached.") ((codes "limit", string (limit_word limit)) ∷ [])
-error_row journalfull = row (codes "journalfull") (codes "The journal is full.") []
-error_row nomemory = row (codes "nomemory") (codes "Out of memory.") []
-error_row storefault = row (codes "storefault") (codes "The store failed.") []
+    error_of (codes "wikifull") (codes "A limit of the wiki is reached.") ((codes "limit", string (limit_word limit)) ∷ [])
+error_row journalfull = error_of (codes "journalfull") (codes "The journal is full.") []
+error_row nomemory = error_of (codes "nomemory") (codes "Out of memory.") []
+error_row storefault = error_of (codes "storefault") (codes "The store failed.") []
 
 -- ---- as replies
 

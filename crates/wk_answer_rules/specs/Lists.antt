@@ -1,12 +1,12 @@
 -- What is listed (MediaWiki's API:Backlinks, API:Embeddedin, API:Categorymembers, API:RecentChanges and API:Revisions; what
--- a listing goes on by is own). Each listing is asked for one entry more than it lists, so that it is known whether more
+-- a listing goes on by, and that a deletion is a revision that is listed, are own). Each listing is asked for one entry more than it lists, so that it is known whether more
 -- is left. Stored rows count, also those of a page that is missing and not yet refreshed.
 use Rattle.std.specs.Prelude.{ℕ, ◌+◌, pos, ◌==◌, Bool, true, not, nat_lt, List, [], ◌∷◌, ◌++◌, length, map, take, codes, Option, Some, None, is_none, unwrap_or, option_map, if◌then◌else◌}
 use Rattle.std.specs.List.{last_or}
 use Rattle.std.specs.Option.{option_to_list}
 use Rattle.std.specs.Ordering.{int_eq}
-use Rattle.serde_json.specs.Data.{Data, boolean, string}
-use Rattle.wk_text_rules.specs.Titles.{PageTitle, normal}
+use Rattle.serde_json.specs.Data.{boolean, string}
+use Rattle.wk_text_rules.specs.Titles.{PageTitle}
 use Rattle.wk_page_rules.specs.History.{History, Revision, next_revision, page_number}
 use Rattle.wk_row_rules.specs.declared.Reach.TheVariants.{Text}
 use Rattle.wk_job_rules.specs.Users.{users}
@@ -16,22 +16,23 @@ use Rattle.wk_listing_rules.specs.Members.{MemberPage, members_behind}
 use Rattle.wk_listing_rules.specs.Revisions.{changes_below, page_revisions_below}
 use Rattle.wk_request_rules.specs.Requests.{Listing}
 use Rattle.wk_answer_rules.specs.Values.{whole, Entries, object_of, array_of, title_entries}
-use Rattle.wk_answer_rules.specs.ApiErrors.{invalidtitle, invalidcategory, missingtitle}
-use Rattle.wk_answer_rules.specs.Pages.{ReadAnswer, shows, fails, query_entries}
+use Rattle.wk_answer_rules.specs.ApiErrors.{invalidcategory, missingtitle}
+use Rattle.wk_answer_rules.specs.Pages.{ReadAnswer, shows, fails, for_title, query_entries}
 
 -- ---- every listing
 
 abbrev pub continue_entries : Option ℕ → Entries
 continue_entries place = option_to_list (option_map (λ n. (codes "continue", whole n)) place)
 
--- a list under its name; `continue` stands beside `query` where more is left
-abbrev pub list_entries : List ℕ → List Data → Option ℕ → Entries
-list_entries name values place = continue_entries place ++ query_entries ((name, array_of values) ∷ [])
-
--- the number of the last of these entries, where there are more than are listed
+-- the number of the last entry that is listed, where there are more than are listed
 abbrev pub last_listed : {X : Type 0} → (X → ℕ) → ℕ → List X → Option ℕ
-last_listed number limit entries =
-    if nat_lt limit (length entries) then option_map number (last_or None (take limit entries)) else None
+last_listed number limit found =
+    if nat_lt limit (length found) then option_map number (last_or None (take limit found)) else None
+
+-- a list under its name, at most so many of what was found; `continue` stands beside `query` where more is left
+abbrev pub listed : {X : Type 0} → List ℕ → (X → Entries) → Option ℕ → ℕ → List X → ReadAnswer
+listed name entries_of place limit found =
+    shows (continue_entries place ++ query_entries ((name, array_of (map (λ x. object_of (entries_of x)) (take limit found))) ∷ []))
 
 -- ---- pages by their numbers
 
@@ -40,25 +41,24 @@ abbrev pub page_entries : History → ℕ → Entries
 page_entries h page = (codes "pageid", whole page) ∷ title_entries (title_at h page)
 
 abbrev pub pages_listed : List ℕ → History → ℕ → List ℕ → ReadAnswer
-pages_listed name h limit pages =
-    shows (list_entries name (map (λ page. object_of (page_entries h page)) (take limit pages)) (last_listed (λ page. page) limit pages))
+pages_listed name h limit pages = listed name (page_entries h) (last_listed (λ page. page) limit pages) limit pages
 
 -- the pages above the number that the listing goes on by
+abbrev pub backlinks_of : State → Listing → PageTitle → ReadAnswer
+backlinks_of state listing title =
+    pages_listed (codes "backlinks") state.history listing.limit
+    (linking_pages state.stored title (unwrap_or listing.from 0) (listing.limit + 1))
+
 abbrev pub backlinks_answer : State → Listing → ReadAnswer
-backlinks_answer state listing = elim (normal listing.title (pos 0)) [
-  | None ↦ fails invalidtitle
-  | Some title ↦
-      pages_listed (codes "backlinks") state.history listing.limit
-      (linking_pages state.stored title (unwrap_or listing.from 0) (listing.limit + 1))
-]
+backlinks_answer state listing = for_title listing.title (backlinks_of state listing)
+
+abbrev pub embedding_of : State → Listing → PageTitle → ReadAnswer
+embedding_of state listing title =
+    pages_listed (codes "embeddedin") state.history listing.limit
+    (users state.stored title Text (unwrap_or listing.from 0) (listing.limit + 1))
 
 abbrev pub embedded_answer : State → Listing → ReadAnswer
-embedded_answer state listing = elim (normal listing.title (pos 0)) [
-  | None ↦ fails invalidtitle
-  | Some title ↦
-      pages_listed (codes "embeddedin") state.history listing.limit
-      (users state.stored title Text (unwrap_or listing.from 0) (listing.limit + 1))
-]
+embedded_answer state listing = for_title listing.title (embedding_of state listing)
 
 -- ---- members of a category
 
@@ -67,23 +67,21 @@ member_entries h member = (codes "sortkeyprefix", string member.prefix) ∷ page
 
 -- how many members were passed over so far, where more is left
 abbrev pub members_passed : ℕ → ℕ → List MemberPage → Option ℕ
-members_passed passed limit members = if nat_lt limit (length members) then Some (passed + limit) else None
-
-abbrev pub members_listed : State → PageTitle → ℕ → ℕ → ReadAnswer
-members_listed state category passed limit =
-    let members = members_behind state.stored category passed (limit + 1) in
-    shows (list_entries (codes "categorymembers")
-    (map (λ member. object_of (member_entries state.history member)) (take limit members))
-    (members_passed passed limit members))
+members_passed passed limit found = if nat_lt limit (length found) then Some (passed + limit) else None
 
 -- the members behind as many as the listing goes on by
+abbrev pub members_listed : State → PageTitle → ℕ → ℕ → ReadAnswer
+members_listed state category passed limit =
+    let found = members_behind state.stored category passed (limit + 1) in
+    listed (codes "categorymembers") (member_entries state.history) (members_passed passed limit found) limit found
+
+abbrev pub members_of : State → Listing → PageTitle → ReadAnswer
+members_of state listing title =
+    if not (int_eq title.ns (pos 14)) then fails invalidcategory
+    else members_listed state title (unwrap_or listing.from 0) listing.limit
+
 abbrev pub members_answer : State → Listing → ReadAnswer
-members_answer state listing = elim (normal listing.title (pos 0)) [
-  | None ↦ fails invalidtitle
-  | Some title ↦
-      if not (int_eq title.ns (pos 14)) then fails invalidcategory
-      else members_listed state title (unwrap_or listing.from 0) listing.limit
-]
+members_answer state listing = for_title listing.title (members_of state listing)
 
 -- ---- revisions
 
@@ -104,12 +102,13 @@ change_entries h (number, revision) =
 abbrev pub below : History → Listing → ℕ
 below h listing = unwrap_or listing.from (next_revision h)
 
+abbrev pub revisions_listed : List ℕ → (ℕ × Revision → Entries) → ℕ → List (ℕ × Revision) → ReadAnswer
+revisions_listed name entries_of limit found = listed name entries_of (last_listed (λ revision. revision.0) limit found) limit found
+
 abbrev pub changes_answer : State → Listing → ReadAnswer
 changes_answer state listing =
-    let revisions = changes_below state.history (below state.history listing) (listing.limit + 1) in
-    shows (list_entries (codes "recentchanges")
-    (map (λ revision. object_of (change_entries state.history revision)) (take listing.limit revisions))
-    (last_listed (λ revision. revision.0) listing.limit revisions))
+    revisions_listed (codes "recentchanges") (change_entries state.history) listing.limit
+    (changes_below state.history (below state.history listing) (listing.limit + 1))
 
 -- `deleted` stands only with a deletion, whose text is empty
 abbrev pub deleted_entries : Revision → Entries
@@ -126,19 +125,14 @@ revision_entries content (number, revision) =
     ∷ (codes "timestamp", whole revision.moment)
     ∷ deleted_entries revision ++ content_entries content revision
 
-abbrev pub revisions_listed : History → ℕ → Listing → Bool → ReadAnswer
-revisions_listed h page listing content =
-    let revisions = page_revisions_below h page (below h listing) (listing.limit + 1) in
-    shows (list_entries (codes "revisions")
-    (map (λ revision. object_of (revision_entries content revision)) (take listing.limit revisions))
-    (last_listed (λ revision. revision.0) listing.limit revisions))
-
 -- a title whose page was never saved is missing; one whose page was deleted isn't
-abbrev pub revisions_answer : State → Listing → Bool → ReadAnswer
-revisions_answer state listing content = elim (normal listing.title (pos 0)) [
-  | None ↦ fails invalidtitle
-  | Some title ↦ elim (page_number state.history title) [
-    | None ↦ fails missingtitle
-    | Some page ↦ revisions_listed state.history page listing content
-  ]
+abbrev pub revisions_of : History → Listing → Bool → PageTitle → ReadAnswer
+revisions_of h listing content title = elim (page_number h title) [
+  | None ↦ fails missingtitle
+  | Some page ↦
+      revisions_listed (codes "revisions") (revision_entries content) listing.limit
+      (page_revisions_below h page (below h listing) (listing.limit + 1))
 ]
+
+abbrev pub revisions_answer : State → Listing → Bool → ReadAnswer
+revisions_answer state listing content = for_title listing.title (revisions_of state.history listing content)

@@ -12,7 +12,6 @@ use Rattle.wk_row_rules.specs.PageRows.{Member, PageRows}
 use Rattle.wk_view_rules.specs.Plans.{Outcome, done, need}
 use Rattle.wk_view_rules.specs.Rows.{rows}
 use Rattle.wk_view_rules.specs.Views.{Expanded}
-use Rattle.wk_job_rules.specs.Jobs.{left}
 use Rattle.wk_state_rules.specs.States.{State, world_of}
 use Rattle.wk_listing_rules.specs.Revisions.{count_existing}
 use Rattle.wk_wiki_rules.specs.Passes.{drafted_in, shown_number}
@@ -24,6 +23,10 @@ use Rattle.wk_answer_rules.specs.ApiErrors.{ApiError, invalidtitle, contenttoobi
 pub data ReadAnswer : Type 0 where
   shows : Entries → ReadAnswer
   fails : ApiError → ReadAnswer
+
+-- the title that a text names, in main by default, and what is answered for it; else the title is bad
+abbrev pub for_title : List ℕ → (PageTitle → ReadAnswer) → ReadAnswer
+for_title text answer = elim (normal text (pos 0)) [ None ↦ fails invalidtitle | Some title ↦ answer title ]
 
 -- the text of an expansion. A world needs nothing, so it is done.
 abbrev pub text_shown : Outcome Expanded → List ℕ
@@ -85,14 +88,15 @@ parse_answer state page = elim (real_title page) [
 abbrev pub expand_entries : List ℕ → Entries
 expand_entries text = (codes "expandtemplates", object_of ((codes "wikitext", string text) ∷ [])) ∷ []
 
--- The title may be in a virtual namespace. The length is that of the text as it is given.
+-- what a text expands to in the place of a title's page; the length is that of the text as it is given
+abbrev pub expanded_in : State → List ℕ → PageTitle → ReadAnswer
+expanded_in state text title =
+    if nat_lt max_text (length text) then fails contenttoobig
+    else shows (expand_entries (text_shown (drafted_in (world_of state) title (Some text))))
+
+-- the title may be in a virtual namespace
 abbrev pub expand_answer : State → List ℕ → List ℕ → ReadAnswer
-expand_answer state text page = elim (normal page (pos 0)) [
-  | None ↦ fails invalidtitle
-  | Some title ↦
-      if nat_lt max_text (length text) then fails contenttoobig
-      else shows (expand_entries (text_shown (drafted_in (world_of state) title (Some text))))
-]
+expand_answer state text page = for_title page (expanded_in state text)
 
 -- ---- the wiki
 
@@ -109,13 +113,16 @@ namespace_numbers = negsuc 1 ∷ negsuc 0 ∷ map pos (range_with_len 0 16)
 abbrev pub namespace_value : ℤ → Data
 namespace_value ns = object_of ((codes "id", integer ns) ∷ (codes "name", string (namespace_name ns)) ∷ [])
 
--- how many revisions, jobs of both kinds and existing pages there are
+-- the jobs of both kinds
+abbrev pub count_jobs : State → ℕ
+count_jobs state = length state.jobs.refreshes + length state.jobs.fans
+
+-- how many revisions, jobs and existing pages there are
 abbrev pub statistics_value : State → Data
 statistics_value state =
-    let jobs = left state.jobs in
     object_of (
     (codes "edits", whole (length state.history.revisions))
-    ∷ (codes "jobs", whole (jobs.queued + jobs.claimed + jobs.fans))
+    ∷ (codes "jobs", whole (count_jobs state))
     ∷ (codes "pages", whole (count_existing state.history))
     ∷ [])
 

@@ -34,41 +34,41 @@ changed_entries title numbers =
     (codes "newrevid", whole numbers.new) ∷ (codes "oldrevid", whole numbers.old) ∷ saved_entries title numbers.page
 
 -- `new` stands only where the page was missing, `nochange` only where it has the text already
-abbrev pub edit_members : SaveOutcome → Entries
-edit_members (created title numbers) = (codes "new", boolean true) ∷ changed_entries title numbers
-edit_members (changed title numbers) = changed_entries title numbers
-edit_members (unchanged title page) = (codes "nochange", boolean true) ∷ saved_entries title page
+abbrev pub entries_of_edit : SaveOutcome → Entries
+entries_of_edit (created title numbers) = (codes "new", boolean true) ∷ changed_entries title numbers
+entries_of_edit (changed title numbers) = changed_entries title numbers
+entries_of_edit (unchanged title page) = (codes "nochange", boolean true) ∷ saved_entries title page
 
 abbrev pub edit_entries : SaveOutcome → Entries
-edit_entries outcome = (codes "edit", object_of (edit_members outcome)) ∷ []
+edit_entries outcome = (codes "edit", object_of (entries_of_edit outcome)) ∷ []
 
-abbrev pub deleted_members : PageTitle → SaveNumbers → Entries
-deleted_members title numbers =
+abbrev pub entries_of_deletion : PageTitle → SaveNumbers → Entries
+entries_of_deletion title numbers =
     (codes "oldrevid", whole numbers.old) ∷ (codes "revid", whole numbers.new) ∷ (codes "title", string (shown title)) ∷ []
 
 -- a deletion always changes a page that exists, so of the three only the second is met
-abbrev pub delete_members : SaveOutcome → Entries
-delete_members (created title numbers) = deleted_members title numbers
-delete_members (changed title numbers) = deleted_members title numbers
-delete_members (unchanged title page) = saved_entries title page
+abbrev pub entries_of_delete : SaveOutcome → Entries
+entries_of_delete (created title numbers) = entries_of_deletion title numbers
+entries_of_delete (changed title numbers) = entries_of_deletion title numbers
+entries_of_delete (unchanged title page) = saved_entries title page
 
 abbrev pub delete_entries : SaveOutcome → Entries
-delete_entries outcome = (codes "delete", object_of (delete_members outcome)) ∷ []
+delete_entries outcome = (codes "delete", object_of (entries_of_delete outcome)) ∷ []
 
 -- ---- the answers
 
 -- what is told of an outcome, where there is one
 abbrev pub outcome_entries : (SaveOutcome → Entries) → Option SaveOutcome → Entries
-outcome_entries told None = []
-outcome_entries told (Some outcome) = told outcome
+outcome_entries entries_of None = []
+outcome_entries entries_of (Some outcome) = entries_of outcome
 
 -- By the verdict: a refusal, or that nothing changes; or the save's event, which is in the journal when it is told.
 abbrev pub save_answer : (SaveOutcome → Entries) → State → ℕ → ℕ → Verdict → Answered
-save_answer told state journal moment (refuse refusal) = failed_at journal (save_error refusal)
-save_answer told state journal moment (no_change title) =
-    shown_at journal (outcome_entries told (save_outcome state.history (no_change title)))
-save_answer told state journal moment (accept title text) = record {
-  reply = reply_beside (outcome_entries told (save_outcome state.history (accept title text))) (journal + 1);
+save_answer entries_of state journal moment (refuse refusal) = failed_at journal (save_error refusal)
+save_answer entries_of state journal moment (no_change title) =
+    shown_at journal (outcome_entries entries_of (save_outcome state.history (no_change title)))
+save_answer entries_of state journal moment (accept title text) = record {
+  reply = reply_beside (outcome_entries entries_of (save_outcome state.history (accept title text))) (journal + 1);
   event = event_of (accept title text) moment;
 }
 

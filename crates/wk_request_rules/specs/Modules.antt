@@ -39,21 +39,24 @@ named_in table parameter params = elim (first_value parameter params) [
 abbrev pub is_given : List ℕ → Parameters → Bool
 is_given parameter params = is_some (first_value parameter params)
 
--- A query has the first of `list`, `prop` and `meta` that is there; with none of them `list` is missing.
-abbrev pub query_module : Parameters → ModuleCalled
-query_module params =
-    if is_given (codes "list") params then named_in query_lists (codes "list") params
-    else if is_given (codes "prop") params then named_in query_props (codes "prop") params
-    else if is_given (codes "meta") params then named_in query_metas (codes "meta") params
-    else unknown (codes "list")
+-- the first value of the parameter is this one
+abbrev pub has_value : List ℕ → List ℕ → Parameters → Bool
+has_value parameter value params = elim (first_value parameter params) [ None ↦ false | Some given ↦ bytes_eq given value ]
 
-abbrev pub is_query : Option (List ℕ) → Bool
-is_query None = false
-is_query (Some action) = bytes_eq action (codes "query")
+-- the parameters that name the modules of a query
+abbrev pub query_kinds : List (List ℕ × List (List ℕ × Module))
+query_kinds = (codes "list", query_lists) ∷ (codes "prop", query_props) ∷ (codes "meta", query_metas) ∷ []
+
+-- A query has the first of `list`, `prop` and `meta` that is there (own); with none of them `list` is missing.
+abbrev pub query_module : Parameters → ModuleCalled
+query_module params = elim (find (λ kind. is_given kind.0 params) query_kinds) [
+  | None ↦ unknown (codes "list")
+  | Some kind ↦ named_in kind.1 kind.0 params
+]
 
 abbrev pub module_called : Parameters → ModuleCalled
 module_called params =
-    if is_query (first_value (codes "action") params) then query_module params
+    if has_value (codes "action") (codes "query") params then query_module params
     else named_in actions (codes "action") params
 
 -- ---- what each module takes

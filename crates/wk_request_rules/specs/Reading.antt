@@ -1,11 +1,11 @@
 -- What parameters ask, or why they are refused (MediaWiki's API:Data formats and the page of each module; the checks,
 -- their order and the limits are own). Parameters that nothing here names are ignored.
-use Rattle.std.specs.Prelude.{ℕ, Bool, false, ◌&&◌, ◌==◌, not, min, List, [], ◌∷◌, bytes_eq, codes, Option, Some, None, is_none, unwrap_or, option_and_then, if◌then◌else◌}
+use Rattle.std.specs.Prelude.{ℕ, Bool, ◌&&◌, ◌==◌, not, min, List, [], ◌∷◌, bytes_eq, codes, Option, Some, None, is_none, unwrap_or, option_and_then, if◌then◌else◌}
 use Rattle.std.specs.Option.{option_or}
 use Rattle.wk_text_rules.specs.Decimal.{decimal_number}
 use Rattle.wk_form.specs.Parameters.{Parameters, first_value, parameters}
-use Rattle.wk_request_rules.specs.Requests.{Listing, Ask, edit, delete, parse, expand_text, backlinks, embedded, members, changes, revisions, tokens, site_info, Request, RequestRefusal, bad_value, must_be_posted, bad_token, no_title, no_text, bad_integer, RequestRead, asks, refused}
-use Rattle.wk_request_rules.specs.Modules.{known, unknown, is_given, module_called, saves, title_parameter, needs_text, base_parameter, limit_parameter, continue_parameter}
+use Rattle.wk_request_rules.specs.Requests.{Listing, Ask, edit, delete, parse, expand_text, backlinks, embedded, members, changes, revisions, tokens, site_info, Request, RequestRefusal, bad_value, must_be_posted, bad_token, no_title, no_text, bad_integer, ParsedRequest, valid, invalid}
+use Rattle.wk_request_rules.specs.Modules.{known, unknown, is_given, has_value, module_called, saves, title_parameter, needs_text, base_parameter, limit_parameter, continue_parameter}
 use Rattle.wk_request_rules.specs.declared.Module.{Module}
 use Rattle.wk_request_rules.specs.declared.Module.TheVariants.{Edit, Delete, Parse, ExpandTemplates, Backlinks, EmbeddedIn, CategoryMembers, RecentChanges, Revisions, Tokens, SiteInfo}
 
@@ -23,8 +23,8 @@ abbrev pub max_limit : ℕ
 max_limit = 500
 
 -- A limit is a decimal number from 1 on, or `max`; above the most it counts as the most.
-abbrev pub limit_said : List ℕ → Option ℕ
-limit_said value =
+abbrev pub limit_value : List ℕ → Option ℕ
+limit_value value =
     if bytes_eq value (codes "max") then Some max_limit
     else option_and_then (λ n. if n == 0 then None else Some (min n max_limit)) (decimal_number value)
 
@@ -43,7 +43,7 @@ abbrev pub refuse_where : Bool → RequestRefusal → Option RequestRefusal
 refuse_where fails refusal = if fails then Some refusal else None
 
 abbrev pub has_token : Parameters → Bool
-has_token params = elim (first_value (codes "token") params) [ None ↦ false | Some token ↦ bytes_eq token edit_token ]
+has_token params = has_value (codes "token") edit_token params
 
 abbrev pub title_refused : Parameters → List ℕ → Option RequestRefusal
 title_refused params parameter = refuse_where (not (is_given parameter params)) (no_title parameter)
@@ -65,13 +65,14 @@ checks params posted m =
     ∷ refuse_where (needs_text m && not (is_given (codes "text") params)) no_text
     ∷ option_and_then (number_refused decimal_number params) (base_parameter m)
     ∷ number_refused decimal_number params (codes "minpoint")
-    ∷ option_and_then (number_refused limit_said params) (limit_parameter m)
+    ∷ option_and_then (number_refused limit_value params) (limit_parameter m)
     ∷ option_and_then (number_refused decimal_number params) (continue_parameter m)
     ∷ []
 
-abbrev pub first_refusal : List (Option RequestRefusal) → Option RequestRefusal
-first_refusal [] = None
-first_refusal (said ∷ later) = option_or said (first_refusal later)
+-- the first of these that is there
+abbrev pub first_some : {A : Type 0} → List (Option A) → Option A
+first_some [] = None
+first_some (first ∷ later) = option_or first (first_some later)
 
 -- ---- what is asked, where no check fails
 
@@ -87,13 +88,13 @@ base_given params = number_given (codes "baserevid") params
 abbrev pub listing_given : Parameters → Module → Listing
 listing_given params m = record {
   title = title_given params m;
-  limit = unwrap_or (option_and_then limit_said (value_given (limit_parameter m) params)) default_limit;
+  limit = unwrap_or (option_and_then limit_value (value_given (limit_parameter m) params)) default_limit;
   from = option_and_then decimal_number (value_given (continue_parameter m) params);
 }
 
 -- the text of each revision is asked for: just this value
 abbrev pub asks_content : Parameters → Bool
-asks_content params = elim (first_value (codes "rvprop") params) [ None ↦ false | Some value ↦ bytes_eq value (codes "content") ]
+asks_content params = has_value (codes "rvprop") (codes "content") params
 
 -- with the text of revisions one is listed at most
 abbrev pub revisions_given : Listing → Bool → Ask
@@ -124,19 +125,19 @@ request_given params m = record { least = unwrap_or (number_given (codes "minpoi
 
 -- ---- requests
 
-abbrev pub read_for : Parameters → Bool → Module → RequestRead
-read_for params posted m = elim (first_refusal (checks params posted m)) [
-  | None ↦ asks (request_given params m)
-  | Some refusal ↦ refused refusal
+abbrev pub read_for : Parameters → Bool → Module → ParsedRequest
+read_for params posted m = elim (first_some (checks params posted m)) [
+  | None ↦ valid (request_given params m)
+  | Some refusal ↦ invalid refusal
 ]
 
 -- What parameters ask, posted or not: the first refusal, else the request.
-unfoldable pub request_of : Parameters → Bool → RequestRead
+unfoldable pub request_of : Parameters → Bool → ParsedRequest
 request_of params posted = elim (module_called params) [
-  | unknown parameter ↦ refused (bad_value parameter)
+  | unknown parameter ↦ invalid (bad_value parameter)
   | known m ↦ read_for params posted m
 ]
 
 -- what a query and a body ask
-abbrev pub requested : List ℕ → List ℕ → Bool → RequestRead
+abbrev pub requested : List ℕ → List ℕ → Bool → ParsedRequest
 requested query body posted = request_of (parameters query body) posted

@@ -62,6 +62,6 @@ parameter_of_refusal no_text = []
 parameter_of_refusal (bad_integer parameter) = parameter
 
 -- what parameters say: a request, or a refusal
-pub data RequestRead : Type 0 where
-  asks : Request → RequestRead
-  refused : RequestRefusal → RequestRead
+pub data ParsedRequest : Type 0 where
+  valid : Request → ParsedRequest
+  invalid : RequestRefusal → ParsedRequest

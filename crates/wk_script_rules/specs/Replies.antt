@@ -1,17 +1,18 @@
 -- The replies to a script's lines, but for those of requests (own).
-use Rattle.std.specs.Prelude.{ℕ, ◌+◌, List, [], ◌∷◌, codes}
+use Rattle.std.specs.Prelude.{ℕ, List, [], ◌∷◌, codes}
 use Rattle.serde_json.specs.Data.{null, string}
 use Rattle.wk_text_rules.specs.Titles.{PageTitle, shown}
 use Rattle.wk_view_rules.specs.Worlds.{Read, mark}
 use Rattle.wk_view_rules.specs.declared.Kind.{Kind}
 use Rattle.wk_view_rules.specs.declared.Kind.TheVariants.{View, Include, Exists}
-use Rattle.wk_job_rules.specs.Jobs.{left}
 use Rattle.wk_state_rules.specs.States.{State}
 use Rattle.wk_listing_rules.specs.Revisions.{count_existing}
+use Rattle.wk_wiki_rules.specs.Claims.{ClaimOutcome}
 use Rattle.wk_wiki_rules.specs.Fans.{FanOutcome}
 use Rattle.wk_wiki_rules.specs.Staleness.{StaleRead}
 use Rattle.wk_answer_rules.specs.Values.{ApiReply, whole, Entries, object_of, reply_beside}
-use Rattle.wk_answer_rules.specs.ApiErrors.{ErrorRow, row, row_entries}
+use Rattle.wk_answer_rules.specs.ApiErrors.{ErrorRow, error_of, row_entries}
+use Rattle.wk_answer_rules.specs.Pages.{count_jobs}
 
 abbrev pub kind_name : Kind → List ℕ
 kind_name View = codes "view"
@@ -29,12 +30,12 @@ pub data LineError : Type 0 where
   needsread : PageTitle → Kind → LineError
 
 abbrev pub line_row : LineError → ErrorRow
-line_row badline = row (codes "badline") (codes "Unknown line.") []
-line_row linetoolong = row (codes "linetoolong") (codes "The line is longer than 8388608 bytes.") []
-line_row notticket = row (codes "notticket") (codes "No such ticket.") []
-line_row noread = row (codes "noread") (codes "Nothing is left to read.") []
+line_row badline = error_of (codes "badline") (codes "Unknown line.") []
+line_row linetoolong = error_of (codes "linetoolong") (codes "The line is longer than 8388608 bytes.") []
+line_row notticket = error_of (codes "notticket") (codes "No such ticket.") []
+line_row noread = error_of (codes "noread") (codes "Nothing is left to read.") []
 line_row (needsread title kind) =
-    row (codes "needsread") (codes "A read is missing.") ((codes "kind", string (kind_name kind)) ∷ (codes "title", string (shown title)) ∷ [])
+    error_of (codes "needsread") (codes "A read is missing.") ((codes "kind", string (kind_name kind)) ∷ (codes "title", string (shown title)) ∷ [])
 
 abbrev pub line_error : LineError → ℕ → ApiReply
 line_error error point = reply_beside (row_entries (line_row error)) point
@@ -42,9 +43,9 @@ line_error error point = reply_beside (row_entries (line_row error)) point
 -- ---- answers
 
 -- a ticket and its page's title
-abbrev pub claim_entries : ℕ → PageTitle → Entries
-claim_entries ticket title =
-    (codes "claim", object_of ((codes "ticket", whole ticket) ∷ (codes "title", string (shown title)) ∷ [])) ∷ []
+abbrev pub claim_entries : ClaimOutcome → Entries
+claim_entries claim =
+    (codes "claim", object_of ((codes "ticket", whole claim.ticket) ∷ (codes "title", string (shown claim.title)) ∷ [])) ∷ []
 
 -- nothing is to be done
 abbrev pub nothing_entries : List ℕ → Entries
@@ -85,8 +86,4 @@ fan_entries fan = (
 -- the jobs of both kinds, and the pages that exist
 abbrev pub restart_entries : State → Entries
 restart_entries state =
-    let jobs = left state.jobs in (
-      codes "restart",
-      object_of (
-          (codes "jobs", whole (jobs.queued + jobs.claimed + jobs.fans)) ∷ (codes "pages", whole (count_existing state.history)) ∷ []),
-    ) ∷ []
+    (codes "restart", object_of ((codes "jobs", whole (count_jobs state)) ∷ (codes "pages", whole (count_existing state.history)) ∷ [])) ∷ []

@@ -1,10 +1,9 @@
 -- What a line of a script is (own).
 use Rattle.std.specs.Prelude.{ℕ, Bool, true, false, List, [], ◌∷◌, ◌++◌, bytes_eq, codes, Option, Some, None, unwrap_or, option_map, option_and_then, if◌then◌else◌}
-use Rattle.std.specs.Option.{option_or}
 use Rattle.wk_text_rules.specs.Decimal.{decimal_number}
 use Rattle.wk_text_rules.specs.Shapes.{exactly}
-use Rattle.wk_request_rules.specs.Requests.{RequestRead, asks}
-use Rattle.wk_request_rules.specs.Reading.{requested}
+use Rattle.wk_request_rules.specs.Requests.{ParsedRequest, valid}
+use Rattle.wk_request_rules.specs.Reading.{first_some, requested}
 use Rattle.wk_answer_rules.specs.Answers.{asks_to_save}
 
 pub data ScriptLine : Type 0 where
@@ -13,7 +12,7 @@ pub data ScriptLine : Type 0 where
   -- more bytes than a line may have
   long_line : ScriptLine
   -- a request, by what its query says; it counts as posted
-  api_line : RequestRead → ScriptLine
+  api_line : ParsedRequest → ScriptLine
   claim_line : ScriptLine
   -- with a ticket
   read_line : ℕ → ScriptLine
@@ -36,16 +35,17 @@ with_ticket word meant line = option_map meant (option_and_then decimal_number (
 abbrev pub as_request : List ℕ → Option ScriptLine
 as_request line = option_map (λ query. api_line (requested query [] true)) (exactly (codes "api ") line)
 
--- one of the forms that are known
+-- the first of the forms that are known
 abbrev pub known_line : List ℕ → Option ScriptLine
-known_line line =
-    option_or (as_request line)
-    (option_or (is_word (codes "claim") claim_line line)
-    (option_or (with_ticket (codes "read") read_line line)
-    (option_or (with_ticket (codes "finish") finish_line line)
-    (option_or (with_ticket (codes "giveback") giveback_line line)
-    (option_or (is_word (codes "fan") fan_line line)
-    (is_word (codes "restart") restart_line line))))))
+known_line line = first_some (
+    as_request line
+    ∷ is_word (codes "claim") claim_line line
+    ∷ with_ticket (codes "read") read_line line
+    ∷ with_ticket (codes "finish") finish_line line
+    ∷ with_ticket (codes "giveback") giveback_line line
+    ∷ is_word (codes "fan") fan_line line
+    ∷ is_word (codes "restart") restart_line line
+    ∷ [])
 
 -- What a line is, as lines are cut: nothing stands in the place of a line that is too long.
 unfoldable pub script_line : Option (List ℕ) → ScriptLine
@@ -53,7 +53,8 @@ script_line None = long_line
 script_line (Some []) = empty_line
 script_line (Some (b ∷ bytes)) = unwrap_or (known_line (b ∷ bytes)) unknown_line
 
--- one moment of the clock is taken for each request that is an edit or a delete, also where it is refused in the end
+-- One moment of the clock is taken for each request that is an edit or a delete, also where the answer is an error.
+-- Parameters that ask nothing take none.
 abbrev pub takes_moment : ScriptLine → Bool
-takes_moment (api_line (asks request)) = asks_to_save request.ask
+takes_moment (api_line (valid request)) = asks_to_save request.ask
 takes_moment _ = false

@@ -33,9 +33,9 @@ script_from state = record { start = state; journal = []; state = state; drafts 
 abbrev pub point_of : WikiScript → ℕ
 point_of s = length s.journal
 
--- behind an event; one that isn't possible changes no state, and none such is met
-abbrev pub behind_event : WikiScript → Event → WikiScript
-behind_event s event = record s {
+-- after an event; one that isn't possible changes no state, and none such is met
+abbrev pub after_event : WikiScript → Event → WikiScript
+after_event s event = record s {
   journal = s.journal ++ event ∷ [];
   state = unwrap_or (step s.state (point_of s) event) s.state;
 }
@@ -67,12 +67,12 @@ without_draft s ticket = record s { drafts = filter (λ draft. not (draft.ticket
 
 -- the ticket's page is given back
 abbrev pub given_back_by : WikiScript → ℕ → WikiScript
-given_back_by s ticket = without_draft (behind_event s (Back ticket)) ticket
+given_back_by s ticket = without_draft (after_event s (Back ticket)) ticket
 
 -- all tickets that are out are given back, in the order of their numbers
 abbrev pub all_given_back : WikiScript → WikiScript
 all_given_back s = fold given_back_by s (map (λ draft. draft.ticket) (by_number (λ draft. draft.ticket) s.drafts))
 
--- behind a restart: the tickets come in, and a new life begins
+-- after a restart: the tickets come in, and a new life begins
 abbrev pub restarted : WikiScript → WikiScript
 restarted s = script_from (reopened (all_given_back s).state)

@@ -48,15 +48,15 @@ abbrev pub with_text : List ℕ → Drawn → Drawn
 with_text text drawn = record drawn { text = drawn.text ++ text }
 
 -- with a number that is drawn, from `least` on, of n numbers
-abbrev pub with_drawn : ℕ → ℕ → Drawn → Drawn
-with_drawn least n drawn =
+abbrev pub with_number : ℕ → ℕ → Drawn → Drawn
+with_number least n drawn =
     record { text = drawn.text ++ decimal (least + draw n drawn.seed); seed = next_seed drawn.seed }
 
 -- a field is there where 1 is drawn of 0 and 1, and has a value from v0 to v99
 abbrev pub with_field : Drawn → ℕ → Drawn
 with_field drawn j =
     let behind = record drawn { seed = next_seed drawn.seed } in
-    if draw 2 drawn.seed == 1 then with_drawn 0 100 (with_text (codes "|" ++ field_name j ++ codes "=v") behind) else behind
+    if draw 2 drawn.seed == 1 then with_number 0 100 (with_text (codes "|" ++ field_name j ++ codes "=v") behind) else behind
 
 abbrev pub page_name : ℕ → List ℕ
 page_name i = codes "Page " ++ decimal i
@@ -66,9 +66,9 @@ abbrev pub page_drawn : ℕ → ℕ → ℕ → Drawn
 page_drawn pages i seed =
     let named : Drawn = record { text = codes "{{Infobox|name=" ++ page_name i; seed = seed } in
     let boxed = fold with_field named fields in
-    let linked = with_drawn 1 pages (with_text (codes "}} [[Page ") boxed) in
-    let noted = with_drawn 0 10 (with_text (codes "]] {{Note|") linked) in
-    with_text (codes "]]") (with_drawn 0 5 (with_text (codes "}}[[Category:C") noted))
+    let linked = with_number 1 pages (with_text (codes "}} [[Page ") boxed) in
+    let noted = with_number 0 10 (with_text (codes "]] {{Note|") linked) in
+    with_text (codes "]]") (with_number 0 5 (with_text (codes "}}[[Category:C") noted))
 
 -- ---- saves
 
