@@ -10,6 +10,7 @@ pub mod Kept
 pub mod Levels
 pub mod Machines
 pub mod Nodes
+pub mod Rounds
 pub mod Running
 pub mod Runs
 pub mod Searches

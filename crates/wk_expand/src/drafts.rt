@@ -1,6 +1,7 @@
 //! What a page or a given text expands to.
 ghost use Rattle.std.specs.Prelude.{◌≡◌, map};
 ghost use Rattle.std.specs.Option.{option_copied};
+ghost use Rattle.wk_view_rules.specs.Worlds.{IsSeen};
 ghost use Rattle.wk_expand.specs.Answers.{counters_of};
 ghost use Rattle.wk_expand.specs.Drafts.{IsDraft, with_mark, turned_by};
 
@@ -96,7 +97,9 @@ impl Draft {
 
     /// What was read, each pair of a title and a kind once, in the order of first reading. Takes no memory.
     pub fn reads(&self) -> &[Read]
-        ensures { result.now ≡ map with_mark self.now.reads }
+        ensures value { result.now ≡ map with_mark self.now.reads }
+        // What is known of each draft's reads: no pair is read twice, and each answer has the form that its kind asks for.
+        ensures seen { IsSeen self.now.reads }
     {
         &self.reads
     }

@@ -32,7 +32,9 @@ mod work;
 pub use answer::{Answer, Counts, Read, mark};
 pub use drafting::draft;
 pub use drafts::{Draft, Root, Step, Trees};
-pub use laws::{longer_seens_agree, steps_tell_of_worlds};
+pub use laws::{
+    longer_seens_agree, rounds_of_drafts_come_to_an_end, steps_stay_true, steps_tell_of_worlds,
+};
 pub use machine::{Machine, Ran};
 pub use seen::Seen;
 pub use shared_draft::SharedDraft;

@@ -2,7 +2,7 @@
 ghost use Rattle.std.specs.Prelude.{◌≡◌, [], ◌∷◌, ◌++◌, map, option_map, None, IfOk, IfSome, IsTrue, OnOk, OnErr};
 ghost use Rattle.std.specs.Option.{option_copied};
 ghost use Rattle.wk_view_rules.specs.Plans.{noted};
-ghost use Rattle.wk_view_rules.specs.Worlds.{ask, fits_kind, of_seen};
+ghost use Rattle.wk_view_rules.specs.Worlds.{IsSeen, ask, fits_kind, of_seen};
 ghost use Rattle.wk_expand.specs.Answers.{answer_of, read_with};
 ghost use Rattle.wk_expand.specs.Drafts.{with_mark};
 ghost use Rattle.wk_expand.specs.Entries.{entry_reads};
@@ -93,7 +93,9 @@ impl Seen {
 
     /// The reads with their marks, in order.
     pub(crate) fn with_marks(&self, alloc: Global) -> Result<Vec<Read>, Memory>
-        ensures { IfOk result (λ reads. reads.items ≡ map with_mark self.now) }
+        ensures items { IfOk result (λ reads. reads.items ≡ map with_mark self.now) }
+        // What is known of all that was seen.
+        ensures seen { IsSeen self.now }
     {
         marks(alloc, &self.answers)
     }

@@ -72,22 +72,32 @@ goes_on a b (asks title kind more) before wanted as_kind found after agrees agre
     (λ answer reads here next. goes_on a b (more answer) reads wanted as_kind found after here agrees_b e_found next)
     (ask a title kind) refl end
 
--- a pair that a source needs isn't among the reads before it
-needed-unread : {A : Type 0} (a : Source) (p : Plan A) (title : PageTitle) (kind : Kind) (reads : List Read) → run a p [] ≡ need title kind reads → list_any (is_read_of title kind) reads ≡ false
-needed-unread a p title kind reads end = elim (cases_Bool (list_any (is_read_of title kind) reads)) [
-  | inl there ↦
-      let own : Agrees a reads = subst (λ o. Agrees a (reads_of o)) end (agrees-itself a p [] (All-nil _)) in
-      let found = Any-from_list_any (is_read_of title kind) reads there in
-      let r : Read = found.1 in
-      let parts = both_parts (title_eq r.title title) (kind_eq r.kind kind) found.4 in
-      let by_a : ask a r.title r.kind ≡ Some r.answer = rw found.3 at (own found.0 r found.2) in
-      let answered : ask a title kind ≡ Some r.answer =
+-- a source that agrees with reads answers each pair among them
+pub read-answered : (a : Source) (title : PageTitle) (kind : Kind) (reads : List Read) → Agrees a reads → list_any (is_read_of title kind) reads ≡ true → (answer : Answer) × (ask a title kind ≡ Some answer)
+read-answered a title kind reads agrees there =
+    let found = Any-from_list_any (is_read_of title kind) reads there in
+    let r : Read = found.1 in
+    let parts = both_parts (title_eq r.title title) (kind_eq r.kind kind) found.4 in
+    let by_a : ask a r.title r.kind ≡ Some r.answer = rw found.3 at (agrees found.0 r found.2) in (
+      r.answer,
       subst (λ t. ask a t kind ≡ Some r.answer) (title_eq-true r.title title parts.0)
-      (subst (λ k. ask a r.title k ≡ Some r.answer) (kind_eq-true r.kind kind parts.1) by_a)
-      in
-      absurd (let wrong : None ≡ Some r.answer = sym (need-unanswered a p [] title kind reads end) ∙ answered in cc)
+          (subst (λ k. ask a r.title k ≡ Some r.answer) (kind_eq-true r.kind kind parts.1) by_a),
+    )
+
+-- so a pair that it doesn't answer isn't among them
+pub unanswered-unread : (a : Source) (title : PageTitle) (kind : Kind) (reads : List Read) → Agrees a reads → ask a title kind ≡ None → list_any (is_read_of title kind) reads ≡ false
+unanswered-unread a title kind reads agrees none = elim (cases_Bool (list_any (is_read_of title kind) reads)) [
+  | inl there ↦
+      let found = read-answered a title kind reads agrees there in
+      absurd (let wrong : None ≡ Some found.0 = sym none ∙ found.1 in cc)
   | inr missing ↦ missing
 ]
+
+-- nor is a pair that a source needs among the reads before it
+needed-unread : {A : Type 0} (a : Source) (p : Plan A) (title : PageTitle) (kind : Kind) (reads : List Read) → run a p [] ≡ need title kind reads → list_any (is_read_of title kind) reads ≡ false
+needed-unread a p title kind reads end =
+    let own : Agrees a reads = subst (λ o. Agrees a (reads_of o)) end (agrees-itself a p [] (All-nil (λ (r : Read). ask a r.title r.kind ≡ Some r.answer))) in
+    unanswered-unread a title kind reads own (need-unanswered a p [] title kind reads end)
 
 -- where another source agrees with the reads before a need and answers it, it goes on with the pair read last
 pub leads-on : {A : Type 0} (a b : Source) (p : Plan A) (title : PageTitle) (kind : Kind) (answer : Answer) (reads : List Read) → Agrees b reads → ask b title kind ≡ Some answer → run a p [] ≡ need title kind reads → GoesOn b p [] (reads ++ read_of title kind answer ∷ [])
@@ -151,7 +161,7 @@ ask-longer (r ∷ seen) more title kind answer e = elim (cases_Bool (is_read_of 
   | inr missing ↦ rw missing (ask-longer seen more title kind answer (rw missing at e))
 ]
 
-ask-last : (seen : Seen) (title : PageTitle) (kind : Kind) (answer : Answer) → ask (of_seen seen) title kind ≡ None → ask (of_seen (seen ++ read_of title kind answer ∷ [])) title kind ≡ Some answer
+pub ask-last : (seen : Seen) (title : PageTitle) (kind : Kind) (answer : Answer) → ask (of_seen seen) title kind ≡ None → ask (of_seen (seen ++ read_of title kind answer ∷ [])) title kind ≡ Some answer
 ask-last [] title kind answer e = rw (is_read_of-same (read_of title kind answer)) refl
 ask-last (r ∷ seen) title kind answer e = elim (cases_Bool (is_read_of title kind r)) [
   | inl there ↦ let wrong : Some r.answer ≡ None = rw there at e in cc
