@@ -1,4 +1,4 @@
--- Scripts of the worked examples, and what their lines are answered with. Each save is at moment 0.
+-- Scripts of the worked examples, and what their lines are answered with. Where no moments are given, each save is at moment 0.
 use Rattle.std.specs.Prelude.{ℕ, List, [], ◌∷◌, ◌++◌, map, codes, Some}
 use Rattle.std.specs.Option.{option_to_list}
 use Rattle.serde_json.specs.Written.{compact_text}
@@ -25,19 +25,31 @@ abbrev pub first_output : List ℕ → List ℕ
 first_output bytes = replies_text (wiki_script_replies full_limits nothing_saved (lines max_line bytes) [])
 
 -- the replies to these lines as they are written, but for the newlines
-abbrev pub told_to : MostHeld → WikiScript → List (List ℕ) → List (List ℕ)
-told_to most s script = map (λ reply. compact_text reply.value) (wiki_script_replies most s (map (λ line. Some line) script) [])
+abbrev pub replies_at : List ℕ → MostHeld → WikiScript → List (List ℕ) → List (List ℕ)
+replies_at moments most s script = map (λ reply. compact_text reply.value) (wiki_script_replies most s (map (λ line. Some line) script) moments)
+
+abbrev pub replies_to : MostHeld → WikiScript → List (List ℕ) → List (List ℕ)
+replies_to most s script = replies_at [] most s script
 
 -- the same with full limits, in an empty wiki
-abbrev pub told_first : List (List ℕ) → List (List ℕ)
-told_first script = told_to full_limits nothing_saved script
+abbrev pub first_replies : List (List ℕ) → List (List ℕ)
+first_replies script = replies_to full_limits nothing_saved script
 
 -- the limits of wikis that are full soon
 abbrev pub journal_of_three : MostHeld
 journal_of_three = record full_limits { journal = 3 }
 
+abbrev pub journal_of_four : MostHeld
+journal_of_four = record full_limits { journal = 4 }
+
 abbrev pub one_page : MostHeld
 one_page = record full_limits { pages = 1 }
+
+abbrev pub one_revision : MostHeld
+one_revision = record full_limits { revisions = 1 }
+
+abbrev pub one_byte : MostHeld
+one_byte = record full_limits { text = 1 }
 
 -- a script over the store of version 1
 abbrev pub first_version : WikiScript

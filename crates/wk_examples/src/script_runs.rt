@@ -1,11 +1,11 @@
 //! Scripts over the whole wiki, line by line, and the lines of their replies.
 ghost use Rattle.std.specs.Prelude.{◌≡◌, codes, ◌∷◌, []};
-ghost use Rattle.wk_examples.specs.Scripts.{first_output, told_first};
+ghost use Rattle.wk_examples.specs.Scripts.{first_output, first_replies};
 
 /// The first save of a page, and a later one; a base that isn't current; a text that is there already.
 pub fn edits()
     ensures first { first_output (codes "api action=edit&title=a_b&text=x&token=%2B%5C\n") ≡ codes "{\"edit\":{\"new\":true,\"newrevid\":1,\"oldrevid\":0,\"pageid\":1,\"result\":\"Success\",\"title\":\"A b\"},\"point\":1}\n" }
-    ensures conflict { told_first (codes "api action=edit&title=A&text=1&token=%2B%5C"
+    ensures conflict { first_replies (codes "api action=edit&title=A&text=1&token=%2B%5C"
         ∷ codes "api action=edit&title=A&text=2&token=%2B%5C"
         ∷ codes "api action=edit&title=A&text=3&baserevid=1&token=%2B%5C"
         ∷ codes "api action=edit&title=A&text=2&token=%2B%5C"
@@ -21,7 +21,7 @@ pub fn edits()
 
 /// A page is refreshed while a template of it is saved.
 pub fn race()
-    ensures { told_first (codes "api action=edit&title=P&text={{T}}{{U}}&token=%2B%5C"
+    ensures { first_replies (codes "api action=edit&title=P&text={{T}}{{U}}&token=%2B%5C"
         ∷ codes "api action=edit&title=Template:T&text=t1&token=%2B%5C"
         ∷ codes "api action=edit&title=Template:U&text=u1&token=%2B%5C"
         ∷ codes "claim"

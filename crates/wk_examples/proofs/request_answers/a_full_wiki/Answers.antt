@@ -2,6 +2,14 @@ use Rattle.std.proofs.Common.{refl}
 use Rattle.wk_script_rules.specs.Computing.{computing as scripts}
 use Rattle.wk_examples.proofs.request_answers.a_full_wiki.Goals as goal
 
-pub returns : goal.returns
+pub returns-clause-revisions : goal.returns-clause-revisions
 unfolding scripts
-returns c = refl
+returns-clause-revisions c = refl
+
+pub returns-clause-texts : goal.returns-clause-texts
+unfolding scripts
+returns-clause-texts c = refl
+
+pub returns-clause-pages : goal.returns-clause-pages
+unfolding scripts
+returns-clause-pages c = refl

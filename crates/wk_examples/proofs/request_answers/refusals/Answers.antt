@@ -42,6 +42,18 @@ pub returns-clause-no_ticket : goal.returns-clause-no_ticket
 unfolding scripts
 returns-clause-no_ticket c = refl
 
+pub returns-clause-virtual_page : goal.returns-clause-virtual_page
+unfolding scripts
+returns-clause-virtual_page c = refl
+
+pub returns-clause-virtual_category : goal.returns-clause-virtual_category
+unfolding scripts
+returns-clause-virtual_category c = refl
+
+pub returns-clause-base_of_a_missing_page : goal.returns-clause-base_of_a_missing_page
+unfolding scripts
+returns-clause-base_of_a_missing_page c = refl
+
 pub returns-clause-exists : goal.returns-clause-exists
 unfolding scripts
 returns-clause-exists c = refl

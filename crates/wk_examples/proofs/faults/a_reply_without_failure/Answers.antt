@@ -2,7 +2,7 @@ use Rattle.std.proofs.Common.{◌≡◌, ℕ, List, [], ap, codes}
 use Rattle.serde_json.specs.Data.{Data, null, boolean, number, string, array, object, no_members, member}
 use Rattle.wk_answer_rules.specs.Values.{ApiReply}
 use Rattle.wk_script_rules.specs.Computing.{computing as scripts}
-use Rattle.wk_examples.proofs.faults.an_untroubled_reply.Goals as goal
+use Rattle.wk_examples.proofs.faults.a_reply_without_failure.Goals as goal
 
 -- the first key of a reply
 first_key_of : Data → List ℕ
