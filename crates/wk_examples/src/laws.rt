@@ -3,8 +3,11 @@ ghost use Rattle.std.specs.Prelude.{◌≡◌, ◌≢◌, codes, ◌∷◌, [], 
 ghost use Rattle.wk_text_rules.specs.Titles.{PageTitle};
 ghost use Rattle.wk_row_rules.specs.PageRows.{names};
 ghost use Rattle.wk_row_rules.specs.declared.Reach.TheVariants.{Text, Both};
-ghost use Rattle.wk_view_rules.specs.Expansions.{no_progress};
-ghost use Rattle.wk_view_rules.specs.Plans.{need};
+ghost use Rattle.wk_tree_rules.specs.Tree.{tree};
+ghost use Rattle.wk_tree_rules.specs.declared.Mode.TheVariants as mode;
+ghost use Rattle.wk_view_rules.specs.Expand.{expand};
+ghost use Rattle.wk_view_rules.specs.Expansions.{most_open, no_progress};
+ghost use Rattle.wk_view_rules.specs.Plans.{need, run};
 ghost use Rattle.wk_view_rules.specs.Rows.{rows};
 ghost use Rattle.wk_view_rules.specs.Views.{reads, view};
 ghost use Rattle.wk_view_rules.specs.Worlds.{Agrees, IsSeen, of_seen, of_world, page};
@@ -28,12 +31,23 @@ pub fn a_page_that_is_tested()
     ensures named { names (rows world_before page_p) (titled (pos 0) (codes "Q")) Both ≡ true }
 {}
 
-/// A need, with a world that agrees with the reads before it.
+/// A need, with a world that agrees with the reads before it; and the same need of what stands behind the first read.
 pub fn a_need()
     ensures needed { view
         (of_seen
         (record { title = page_p; kind = View; answer = page (world_before page_p) } ∷ [])) page_p
         ≡ need (titled (pos 10) (codes "A")) Include
+        (record { title = page_p; kind = View; answer = page (world_before page_p) } ∷ []) }
+    ensures middle { run
+        (of_seen
+        (record { title = page_p; kind = View; answer = page (world_before page_p) } ∷ []))
+        (expand most_open page_p [] (tree mode.View (codes "{{A}}{{#ifexist:Q|y}}")) no_progress)
+        (record { title = page_p; kind = View; answer = page (world_before page_p) } ∷ [])
+        ≡ need (titled (pos 10) (codes "A")) Include
+        (record { title = page_p; kind = View; answer = page (world_before page_p) } ∷ []) }
+    ensures answered { Agrees
+        (of_seen
+        (record { title = page_p; kind = View; answer = page (world_before page_p) } ∷ []))
         (record { title = page_p; kind = View; answer = page (world_before page_p) } ∷ []) }
     ensures agrees { Agrees (of_world world_before)
         (record { title = page_p; kind = View; answer = page (world_before page_p) } ∷ []) }
