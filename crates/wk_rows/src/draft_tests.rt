@@ -10,10 +10,7 @@ use std::alloc::Global;
 use std::test::Fail;
 use std::thread;
 use wk_bytes::Text;
-use wk_expand::{
-    Answer, Draft, Kind, Machine, Ran, Read, Root, Seen, SharedDraft, Step, Trees, draft,
-    longer_seens_agree, mark,
-};
+use wk_expand::{Answer, Draft, Kind, Root, Seen, SharedDraft, Step, Trees, draft, mark};
 use wk_memory::Memory;
 use wk_title::{Title, TitleRefusal, normalize};
 
@@ -287,52 +284,5 @@ fn drafts_go_to_other_threads(rt: HostRuntime) -> Result<(), Fail> {
     assert_eq!(rt; reads, 1);
     assert_eq!(rt; other.draft().page().key(), "P");
     assert_eq!(rt; other.draft().out().text(), "");
-    Ok(())
-}
-
-/// The draft of one machine, to which the answers are given one at a time, and the number of its runs.
-fn resumed(alloc: Global, pages: &[Page], root: &Root) -> Result<(Draft, u64), Fail> {
-    longer_seens_agree();
-    let page = title(alloc, "P")?;
-    let mut seen = Seen::new(alloc);
-    let mut trees = Trees::new(alloc, 16)?;
-    let mut machine = Machine::new(alloc, &page, root)?;
-    'rounds: for round in 1..500 {
-        match machine.run(&seen, &mut trees) {
-            Ok(Ran::Done(draft)) => return Ok((draft, round)),
-            Ok(Ran::Needs(title, kind, next)) => {
-                let answer = answer_to(pages, &title, kind)?;
-                seen.add(title, kind, answer)?;
-                machine = next;
-            }
-            Err((_machine, _memory)) => return Err(Fail::from("memory ran out")),
-        }
-    }
-    Err(Fail::from("too many reads"))
-}
-
-/// Whether two reads are of one title, with one mark.
-fn same_read(one: &Read, other: &Read) -> bool {
-    one.title == other.title && one.mark == other.mark
-}
-
-#[test]
-fn a_machine_goes_on_where_it_stopped(rt: HostRuntime) -> Result<(), Fail> {
-    let alloc = rt.alloc();
-    let mut pages = Vec::new(alloc);
-    add_page(alloc, &mut pages, "P", short(alloc, "{{T}}{{U}}")?)?;
-    add_page(alloc, &mut pages, "Template:T", short(alloc, "t1")?)?;
-    add_page(alloc, &mut pages, "Template:U", short(alloc, "u1")?)?;
-    let (draft, runs) = resumed(alloc, &pages, &Root::Page)?;
-    let whole = settled(alloc, &pages, &Root::Page)?;
-    assert_eq!(rt; runs, 4);
-    assert_eq!(rt; draft.out().text(), "t1u1");
-    assert_eq!(rt; draft.out().text(), whole.out().text());
-    assert_eq!(rt; draft.counts(), whole.counts());
-    assert_eq!(rt; draft.reads().len(), 3);
-    assert_eq!(rt; whole.reads().len(), 3);
-    for (one, other) in draft.reads().iter().zip(whole.reads()) {
-        assert!(rt; same_read(one, other));
-    }
     Ok(())
 }
