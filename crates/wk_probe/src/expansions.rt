@@ -3,19 +3,16 @@ ghost use Rattle.std.specs.Prelude.{◌≡◌, IfOk, None};
 ghost use Rattle.wk_expand.specs.Steps.{given_text};
 ghost use Rattle.wk_probe.specs.Drafted.{IsOf};
 
-use crate::known::{Known, known_of};
 use crate::links::links_in;
 use crate::members::{add, shared_text, string_of};
-use crate::pages::Pages;
+use crate::pages::{Pages, pages_of};
 use crate::refusal::Refusal;
 use crate::rows::rows_value;
-use crate::seen::{keep, kind_word};
+use crate::seen::{keep, kind_word, seen_of};
 use crate::titles::{shown_text, title_of};
 use serde_json::{Value, json};
 use std::alloc::Global;
-use wk_expand::{
-    Counts, Draft, Machine, Ran, Read, Root, Seen, Step, Trees, draft, longer_seens_agree,
-};
+use wk_expand::{Counts, Draft, Kind, Read, Root, Seen, Step, Trees, draft};
 use wk_memory::Memory;
 use wk_out::Out;
 use wk_rows::rows;
@@ -67,41 +64,20 @@ fn drafted_over(alloc: Global, page: &Title, root: &Root, pages: &Pages) -> Resu
     draft(alloc, page, root, &seen, &mut trees)
 }
 
-/// The draft over what is known.
-fn drafted(alloc: Global, page: &Title, root: &Root, known: &Known) -> Result<Step, Memory>
+/// The draft over the answers of the member `seen`, or without it over those that the pages give.
+fn drafted(alloc: Global, request: &Value, page: &Title, root: &Root) -> Result<Step, Refusal>
     ensures { IfOk result (IsOf root.now) }
 {
-    match known {
-        Known::Pages(pages) => drafted_over(alloc, page, root, pages),
-        Known::Answers(seen) => {
-            let mut trees = Trees::new(alloc, MOST_TREES)?;
-            draft(alloc, page, root, seen, &mut trees)
-        }
-    }
-}
-
-/// The draft of one machine, to which what is known is given one answer at a time, and the number of its runs.
-fn resumed(alloc: Global, page: &Title, root: &Root, known: &Known) -> Result<(Step, u64), Memory>
-    ensures { IfOk result (λ found. IsOf root.now found.0) }
-{
-    longer_seens_agree();
+    let Some(member) = request.get("seen") else {
+        let pages = pages_of(alloc, request)?;
+        return Ok(drafted_over(alloc, page, root, &pages)?);
+    };
+    let Some(entries) = member.as_array() else {
+        return Err(Refusal::NoSeen);
+    };
+    let seen = seen_of(alloc, entries.as_slice())?;
     let mut trees = Trees::new(alloc, MOST_TREES)?;
-    let mut seen = Seen::new(alloc);
-    let mut machine = Machine::new(alloc, page, root)?;
-    'rounds: for round in 1..MOST_READS {
-        match machine.run(&seen, &mut trees) {
-            Ok(Ran::Done(draft)) => return Ok((Step::Done(draft), round)),
-            Ok(Ran::Needs(title, kind, next)) => {
-                let Some(answer) = known.answer(&title, kind)? else {
-                    return Ok((Step::Needs(title, kind), round));
-                };
-                seen.add(title, kind, answer)?;
-                machine = next;
-            }
-            Err((_machine, memory)) => return Err(memory),
-        }
-    }
-    Err(Memory)
+    Ok(draft(alloc, page, root, &seen, &mut trees)?)
 }
 
 /// What the expansion cost.
@@ -182,46 +158,16 @@ fn draft_value(alloc: Global, root: &Root, draft: &Draft) -> Result<Value, Memor
     Ok(value)
 }
 
-/// What a draft comes to, as it is answered.
-fn step_value(alloc: Global, root: &Root, step: &Step) -> Result<Value, Memory>
-    requires { IsOf root.now step.now }
-{
-    match step {
-        Step::Done(draft) => draft_value(alloc, root, draft),
-        Step::Needs(title, kind) => {
-            let title = shown_text(alloc, title)?;
-            let kind = kind_word(*kind);
-            Ok(json!(in alloc; {"needs": [&title, kind]})?)
-        }
-    }
-}
-
-/// What one machine comes to, with the number of its runs.
-fn resumed_value(alloc: Global, page: &Title, root: &Root, known: &Known) -> Result<Value, Memory> {
-    let (step, rounds) = resumed(alloc, page, root, known)?;
-    let mut value = step_value(alloc, root, &step)?;
-    if let Some(members) = value.as_object_mut() {
-        members.insert(String::from_str(alloc, "rounds")?, json!(in alloc; rounds)?)?;
-    }
-    Ok(value)
-}
-
-/// Whether one machine is asked for, by the member `resume`.
-fn is_resumed(request: &Value) -> bool {
-    match request.get("resume") {
-        Some(member) => member.as_bool() == Some(true),
-        None => false,
-    }
-}
-
 /// What a page, or a text in the place of its own, expands to; or what is needed for that and wasn't seen.
 pub fn expand_value(alloc: Global, request: &Value) -> Result<Value, Refusal> {
     let page = viewed_page(alloc, request)?;
     let root = root_of(alloc, request)?;
-    let known = known_of(alloc, request)?;
-    if is_resumed(request) {
-        return Ok(resumed_value(alloc, &page, &root, &known)?);
+    match drafted(alloc, request, &page, &root)? {
+        Step::Done(draft) => Ok(draft_value(alloc, &root, &draft)?),
+        Step::Needs(title, kind) => {
+            let title = shown_text(alloc, &title)?;
+            let kind = kind_word(kind);
+            Ok(json!(in alloc; {"needs": [&title, kind]})?)
+        }
     }
-    let step = drafted(alloc, &page, &root, &known)?;
-    Ok(step_value(alloc, &root, &step)?)
 }

@@ -29,8 +29,6 @@
 //! - `{"op":"expand","page":P,"seen":[[T,KIND,A],..]}`, also with a member `text`, asks what is known by these answers,
 //!   each to another pair of a title and a kind. A is `[revision,text]`, or `null` where the page is missing; of
 //!   existence it is `true` or `false`. Where they are too few, the answer is `{"needs":[title,kind]}`.
-//! - With a member `"resume":true` these two ask the same of one machine, to which the answers are given one at a time.
-//!   The answer has `rounds` too, the number of its runs.
 //! - `{"op":"http","pieces":[T,..]}` asks for the messages of a connection whose bytes come in these pieces: each
 //!   character, which is one of the first 256, is one byte. The answer is `{"end":E,"messages":[..]}`, where E is `peer`
 //!   between messages, `cut` within one, `closed` after a message that is the last, or `{"bad":STATUS}`. A message has
@@ -48,7 +46,6 @@
 mod answers;
 mod atoms;
 mod expansions;
-mod known;
 mod links;
 mod members;
 mod numerals;
