@@ -1,0 +1,4 @@
+pub mod Runs
+pub mod RunRoom
+pub mod RunTickets
+pub mod Lives

@@ -27,9 +27,9 @@ begun state limits whole = record {
 }
 
 -- this is what a wiki keeps that has this start, and no event yet
-pub record Begins (life : Life) (start : Start) : Type 0 where
+pub record Begins (life : Life) (told : Start) : Type 0 where
   pub is : IsLife life
-  pub start : start_of life ≡ start
+  pub start : start_of life ≡ told
   pub journal : journal_of life ≡ []
 
 -- ---- an event
