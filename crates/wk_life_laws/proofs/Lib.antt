@@ -1,4 +1,4 @@
-pub mod Runs
+pub mod RunFacts
 pub mod RunRoom
 pub mod RunTickets
 pub mod Lives

@@ -13,7 +13,7 @@ use Rattle.wk_wiki_laws.proofs.Parts.{replay-push}
 use Rattle.wk_wiki_laws.proofs.TicketSteps.{open-is-out, out-is-open, ticket-stays, tickets-differ}
 use Rattle.wk_wiki_laws.proofs.Tickets.{within-claim}
 use Rattle.wk_life_laws.specs.Runs.{IsRun}
-use Rattle.wk_life_laws.proofs.Runs.{run-replayed}
+use Rattle.wk_life_laws.proofs.RunFacts.{run_replayed}
 
 -- ---- a new ticket
 
@@ -36,33 +36,33 @@ find-new ticket (j ∷ jobs) job queued fresh = elim (cases_Bool (is_queued j)) 
 -- ---- a run
 
 module _ (start : Start) (journal : List Event) (state : State) (run : IsRun start journal state) where
-  pub run-out : (ticket page : ℕ) → page_held_by state.jobs ticket ≡ Some page → IsOpenClaim journal ticket
-  run-out ticket page holds = out-is-open fan_pages start.state state journal ticket page run.kept.one_page run.none_out (run-replayed start journal state run) holds
+  pub run_out : (ticket page : ℕ) → page_held_by state.jobs ticket ≡ Some page → IsOpenClaim journal ticket
+  run_out ticket page holds = out-is-open fan_pages start.state state journal ticket page run.kept.one_page run.none_out (run_replayed start journal state run) holds
 
-  pub run-open : (ticket : ℕ) → IsOpenClaim journal ticket → IsSome (page_held_by state.jobs ticket)
-  run-open ticket is_open = open-is-out fan_pages start.state state journal ticket run.kept.one_page run.none_out (run-replayed start journal state run) is_open
+  pub run_open : (ticket : ℕ) → IsOpenClaim journal ticket → IsSome (page_held_by state.jobs ticket)
+  run_open ticket is_open = open-is-out fan_pages start.state state journal ticket run.kept.one_page run.none_out (run_replayed start journal state run) is_open
 
-  pub run-differ : IsDistinct nat_eq (tickets_of state.jobs)
-  run-differ = tickets-differ fan_pages start.state state journal run.kept.one_page run.none_out (run-replayed start journal state run)
+  pub run_differ : IsDistinct nat_eq (tickets_of state.jobs)
+  run_differ = tickets-differ fan_pages start.state state journal run.kept.one_page run.none_out (run_replayed start journal state run)
 
-  pub run-numbers : (ticket page : ℕ) → page_held_by state.jobs ticket ≡ Some page → (1 ≤ ticket) × (ticket ≤ length journal)
-  run-numbers ticket page holds = let is_open = run-out ticket page holds in (is_open.positive, within-claim journal ticket is_open)
+  pub run_numbers : (ticket page : ℕ) → page_held_by state.jobs ticket ≡ Some page → (1 ≤ ticket) × (ticket ≤ length journal)
+  run_numbers ticket page holds = let is_open = run_out ticket page holds in (is_open.positive, within-claim journal ticket is_open)
 
-  pub run-new : page_held_by state.jobs (length journal + 1) ≡ None
-  run-new = by (page_held_by state.jobs (length journal + 1)) refl
+  pub run_new : page_held_by state.jobs (length journal + 1) ≡ None
+  run_new = by (page_held_by state.jobs (length journal + 1)) refl
     where
       by : (o : Option ℕ) → page_held_by state.jobs (length journal + 1) ≡ o → o ≡ None
       by None is = refl
-      by (Some page) is = absurd (let within = (run-numbers (length journal + 1) page is).1 in omega (arith, within))
+      by (Some page) is = absurd (let within = (run_numbers (length journal + 1) page is).1 in omega (arith, within))
 
-  pub run-claimed : (page : ℕ) → first_queued state.jobs ≡ Some page → page_held_by (claimed_by state.jobs (length journal + 1)) (length journal + 1) ≡ Some page
-  run-claimed page first = by (find is_queued state.jobs.refreshes) refl first
+  pub run_claimed : (page : ℕ) → first_queued state.jobs ≡ Some page → page_held_by (claimed_by state.jobs (length journal + 1)) (length journal + 1) ≡ Some page
+  run_claimed page first = by (find is_queued state.jobs.refreshes) refl first
     where
       by : (o : Option RefreshEntry) → find is_queued state.jobs.refreshes ≡ o → option_map (λ (j : RefreshEntry). j.page) o ≡ Some page → page_held_by (claimed_by state.jobs (length journal + 1)) (length journal + 1) ≡ Some page
       by None is none = absurd (let e : None ≡ Some page = none in cc)
-      by (Some job) is got = find-new (length journal + 1) state.jobs.refreshes job is run-new ∙ got
+      by (Some job) is got = find-new (length journal + 1) state.jobs.refreshes job is run_new ∙ got
 
-  pub run-stays : (next : State) (event : Event) (ticket page : ℕ) → step state (length journal) event ≡ Some next → page_held_by state.jobs ticket ≡ Some page → event ≢ Done ticket → event ≢ Back ticket → page_held_by next.jobs ticket ≡ Some page
-  run-stays next event ticket page done holds not_done not_back =
-      let before = run-replayed start journal state run in
+  pub run_stays : (next : State) (event : Event) (ticket page : ℕ) → step state (length journal) event ≡ Some next → page_held_by state.jobs ticket ≡ Some page → event ≢ Done ticket → event ≢ Back ticket → page_held_by next.jobs ticket ≡ Some page
+  run_stays next event ticket page done holds not_done not_back =
+      let before = run_replayed start journal state run in
       ticket-stays fan_pages start.state state next journal event ticket page run.kept.one_page run.none_out before (replay-push fan_pages start.state state next journal event before done) holds not_done not_back
