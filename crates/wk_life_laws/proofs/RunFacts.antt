@@ -58,6 +58,15 @@ run_next start journal state next event run made may done = record {
   seal = seal-next start.sealed journal event may run.seal;
 }
 
+pub run_whole : (start : Start) (journal : List Event) (state : State) (whole : Bool) → IsRun start journal state → IsRun (record start { whole = whole }) journal state
+run_whole start journal state whole run = record {
+  full = run.full;
+  kept = run.kept;
+  none_out = run.none_out;
+  calls = run.calls;
+  seal = run.seal;
+}
+
 -- ---- what follows
 
 module _ (start : Start) (journal : List Event) (state : State) (run : IsRun start journal state) where
