@@ -10,7 +10,7 @@ use Rattle.wk_job_rules.specs.Jobs.{FanEntry}
 use Rattle.wk_job_rules.specs.Steps.{fan_pages, next_served}
 use Rattle.wk_job_rules.specs.Users.{users}
 use Rattle.wk_state_rules.specs.States.{State}
-use Rattle.wk_state_rules.specs.Verdicts.{journal_use, verdict_in}
+use Rattle.wk_state_rules.specs.Verdicts.{verdict_in}
 use Rattle.wk_state_laws.specs.Reached.{IsWithinFull}
 use Rattle.wk_state_laws.proofs.Formed.{numbered}
 use Rattle.wk_state_laws.proofs.Kept.{accepted}
