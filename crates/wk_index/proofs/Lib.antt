@@ -1,7 +1,9 @@
+mod EntryLaws
 mod FindsLaws
 mod LoadLaws
 mod MembersLaws
 mod NamedLaws
+mod OrderLaws
 mod OwnRows
 mod PagesLaws
 mod PlaceLaws

@@ -1,7 +1,9 @@
+pub mod Entries
 pub mod Found
 pub mod Held
+pub mod InOrder
 pub mod Loadable
-pub mod MemberPages
+pub mod Listing
 pub mod Named
 pub use Rattle.wk_row_rules.specs.PageRows
 pub use Rattle.wk_table_rules.specs.GoodStore

@@ -28,18 +28,19 @@ use wk_table_rows::{PageRows, TableRows, share_all};
 use wk_tables::Tables;
 use wk_title::Title;
 
-/// The stored link rows of each page, which other owners' texts and titles are shared with, and the pages that are found
-/// by a title. Contracts see the rows page by page, where pages are numbered from 1, and for how many pages more there
-/// is room. A page that isn't there counts as one without rows.
+/// The stored link rows of each page, which other owners' texts and titles are shared with, and the pages and members
+/// that are found by a title. Contracts see the rows page by page, where pages are numbered from 1, and for how many
+/// pages more there is room. A page that isn't there counts as one without rows.
 ///
-/// The pages of a title are listed in a time that grows with those that are listed, with the titles of their rows, and
-/// with the logarithm of all. The members of a category are found by going over the rows of all pages. A change of a
-/// page's rows takes a time that grows with the product of the titles that it has and of those that it gets.
+/// The pages of a title and the members of a category are listed in a time that grows with those that are listed or
+/// passed over, with the rows of these pages, and with the logarithm of all. A change of a page's rows takes a time that
+/// grows with the rows that it has and those that it gets, times a logarithm, where these are in the order of their
+/// titles, as those of a draft and of a good store are.
 #[derive(Debug, Drop)]
 pub struct Index {
     rows: Vec<SharedRows>,
-    /// Each page is found by each title of its rows, and may be found by others, so what is found is looked up in the
-    /// rows. A change that memory ran out for may leave such titles.
+    /// Each page is found by all that its rows have, and may be found by more, so what is found is looked up in the rows.
+    /// A change that memory ran out for may leave such more.
     found: Found,
     /// For the pages that there is room for.
     blanks: Blanks,
@@ -230,7 +231,14 @@ impl Index {
         ensures { IfOk result (λ members. members.items ≡ members_behind self.now.stored category.now passed most) }
     {
         let alloc = *self.rows.allocator();
-        members(alloc, &self.rows, category, passed, most)
+        members(
+            alloc,
+            &self.found.members,
+            &self.rows,
+            category,
+            passed,
+            most,
+        )
     }
 }
 

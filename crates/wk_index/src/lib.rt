@@ -2,12 +2,15 @@
 #![tactic(auto)]
 
 mod blanks;
+mod entries;
 mod found;
 mod index;
 mod joined;
 mod load;
+mod lookup;
 mod members;
 mod named;
+mod order;
 mod pages;
 mod row_titles;
 mod same;
