@@ -9,4 +9,5 @@ mod PagesLaws
 mod PlaceLaws
 mod SameLaws
 mod TitleLaws
+mod TitleMapLaws
 mod UsersLaws

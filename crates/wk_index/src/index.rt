@@ -20,6 +20,7 @@ use crate::members::{MemberPage, members};
 use crate::named::{Kind, kind_of, pages};
 use crate::pages::{joined_at, replace_rows, rows_at};
 use crate::shared_rows::SharedRows;
+use crate::title_map::TitleMap;
 use std::alloc::Global;
 use std::marker::Model;
 use wk_memory::Memory;
@@ -242,16 +243,17 @@ impl Index {
     }
 }
 
-/// The rows of each page.
+/// The rows of each page, in one walk over the pages. Rows that name one title share it.
 fn of_rows(rows: &TableRows) -> Result<Index, Memory>
     requires { AreLoadable rows.now }
     ensures { IfOk result (λ index. index.stored ≡ stored_rows rows.now) }
 {
     let pages = rows.pages.as_slice();
     let alloc = *rows.pages.allocator();
+    let mut made = TitleMap::new(alloc);
     let mut index = Index::new(alloc);
     for page in pages {
-        index.push(page_rows(alloc, rows, page.page_id)?)?;
+        index.push(page_rows(alloc, &mut made, rows, page.page_id)?)?;
     }
     Ok(index)
 }

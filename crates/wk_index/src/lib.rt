@@ -17,6 +17,7 @@ mod same;
 mod shared_rows;
 #[cfg(test)]
 mod tests;
+mod title_map;
 
 pub use index::Index;
 pub use members::MemberPage;
