@@ -13,32 +13,38 @@ ghost use Rattle.wk_index.specs.Held.{rows_of};
 ghost use Rattle.wk_index.specs.Loadable.{AreLoadable};
 ghost use Rattle.wk_index.specs.Named.{listed, rows_at};
 
+use crate::blanks::Blanks;
 use crate::found::Found;
 use crate::load::page_rows;
 use crate::members::{MemberPage, members};
 use crate::named::{Kind, kind_of, pages};
 use crate::pages::{joined_at, replace_rows, rows_at};
+use crate::shared_rows::SharedRows;
+use crate::title_map::TitleMap;
 use std::alloc::Global;
 use std::marker::Model;
 use wk_memory::Memory;
 use wk_row_rules::Reach;
-use wk_table_rows::{PageRows, TableRows};
+use wk_table_rows::{PageRows, TableRows, share_all};
 use wk_tables::Tables;
 use wk_title::Title;
 
-/// The stored link rows of each page, which other owners' texts and titles are shared with, and the pages that are found
-/// by a title. Contracts see the rows page by page, where pages are numbered from 1, and for how many pages more there
-/// is room. A page that isn't there counts as one without rows.
+/// The stored link rows of each page, which other owners' texts and titles are shared with, and the pages and members
+/// that are found by a title. Contracts see the rows page by page, where pages are numbered from 1, and for how many
+/// pages more there is room. A page that isn't there counts as one without rows.
 ///
-/// The pages of a title are listed in a time that grows with those that are listed, with the titles of their rows, and
-/// with the logarithm of all. The members of a category are found by going over the rows of all pages. A change of a
-/// page's rows takes a time that grows with the product of the titles that it has and of those that it gets.
+/// The pages of a title and the members of a category are listed in a time that grows with those that are listed or
+/// passed over, with the rows of these pages, and with the logarithm of all. A change of a page's rows takes a time that
+/// grows with the rows that it has and those that it gets, times a logarithm, where these are in the order of their
+/// titles, as those of a draft and of a good store are.
 #[derive(Debug, Drop)]
 pub struct Index {
-    rows: Vec<PageRows>,
-    /// Each page is found by each title of its rows, and may be found by others, so what is found is looked up in the
-    /// rows. A change that memory ran out for may leave such titles.
+    rows: Vec<SharedRows>,
+    /// Each page is found by all that its rows have, and may be found by more, so what is found is looked up in the rows.
+    /// A change that memory ran out for may leave such more.
     found: Found,
+    /// For the pages that there is room for.
+    blanks: Blanks,
     spare: usize,
 }
 
@@ -53,7 +59,7 @@ impl Model for Index {
     ghost view = { λ i. record { stored = i.rows.items; spare = i.spare } };
 
     ghost invariant = { λ i. (i.spare + vec_len i.rows ≤ vec_capacity i.rows) × (vec_len i.rows ≤ max_pages)
-        × FindsAll i.rows.items i.found };
+        × FindsAll i.rows.items i.found × (i.spare ≤ i.blanks) };
 }
 
 impl Index {
@@ -64,6 +70,7 @@ impl Index {
         Index {
             rows: Vec::new(alloc),
             found: Found::new(alloc),
+            blanks: Blanks::new(alloc),
             spare: 0,
         }
     }
@@ -84,7 +91,7 @@ impl Index {
     {
         self.make_room(1)?;
         self.found.add(&rows, self.rows.len() as u32 + 1)?;
-        self.rows.push_reserved(rows);
+        self.rows.push_reserved(SharedRows::new(rows)?);
         self.spare -= 1;
         Ok(())
     }
@@ -96,6 +103,7 @@ impl Index {
         ensures not_less { self.old.spare ≤ self.new.spare }
     {
         self.rows.reserve(pages)?;
+        self.blanks.fill(pages)?;
         self.spare = self.spare.max(pages);
         Ok(())
     }
@@ -107,7 +115,7 @@ impl Index {
         ensures stored { self.new.stored ≡ self.old.stored ++ no_rows ∷ [] }
         ensures spare { self.new.spare + 1 ≡ self.old.spare }
     {
-        let rows = PageRows::new(*self.rows.allocator());
+        let rows = self.blanks.take();
         self.rows.push_reserved(rows);
         self.spare -= 1;
     }
@@ -121,10 +129,18 @@ impl Index {
 
     /// The rows of the page with this number, `None` exactly where there is no such page, which then counts as one
     /// without rows. Takes no memory.
-    pub fn rows(&self, page: u32) -> Option<&PageRows>
+    pub fn rows(&self, page: u32) -> Option<&SharedRows>
         ensures { option_copied result ≡ rows_at self.now.stored page }
     {
         rows_at(&self.rows, page)
+    }
+
+    /// The rows of each page, for a further owner: a pointer a page.
+    pub fn stored(&self) -> Result<Vec<SharedRows>, Memory>
+        ensures { IfOk result (λ stored. stored.items ≡ self.now.stored) }
+    {
+        let stored = share_all(*self.rows.allocator(), &self.rows)?;
+        Ok(stored)
     }
 
     /// Adds the rows to those of the page, which is there: from now on it is found by the old ones and by the new.
@@ -135,14 +151,14 @@ impl Index {
         ensures refused { OnErr result (self.new.stored ≡ self.old.stored) }
         ensures spare { self.new.spare ≡ self.old.spare }
     {
-        let joined = joined_at(&self.rows, page, rows)?;
+        let joined = SharedRows::new(joined_at(&self.rows, page, rows)?)?;
         self.found.add(rows, page)?;
         replace_rows(&mut self.rows, page, joined);
         Ok(())
     }
 
     /// Makes these all rows of the page, which is there, and has each of them. Takes no memory.
-    pub fn shed(&mut self, page: u32, rows: PageRows)
+    pub fn shed(&mut self, page: u32, rows: SharedRows)
         requires there { IsSome (rows_at self.old.stored page) }
         requires among { AreAmong rows (rows_of self.old.stored page) }
         ensures stored { self.new.stored ≡ with_rows_at self.old.stored page rows }
@@ -216,20 +232,28 @@ impl Index {
         ensures { IfOk result (λ members. members.items ≡ members_behind self.now.stored category.now passed most) }
     {
         let alloc = *self.rows.allocator();
-        members(alloc, &self.rows, category, passed, most)
+        members(
+            alloc,
+            &self.found.members,
+            &self.rows,
+            category,
+            passed,
+            most,
+        )
     }
 }
 
-/// The rows of each page.
+/// The rows of each page, in one walk over the pages. Rows that name one title share it.
 fn of_rows(rows: &TableRows) -> Result<Index, Memory>
     requires { AreLoadable rows.now }
     ensures { IfOk result (λ index. index.stored ≡ stored_rows rows.now) }
 {
     let pages = rows.pages.as_slice();
     let alloc = *rows.pages.allocator();
+    let mut made = TitleMap::new(alloc);
     let mut index = Index::new(alloc);
     for page in pages {
-        index.push(page_rows(alloc, rows, page.page_id)?)?;
+        index.push(page_rows(alloc, &mut made, rows, page.page_id)?)?;
     }
     Ok(index)
 }

@@ -188,7 +188,7 @@ fn empty(alloc: Global, index: &mut Index) -> Result<(), Fail> {
     if index.rows(1).is_none() {
         return Err(Fail::from("no page"));
     }
-    index.shed(1, PageRows::new(alloc));
+    index.shed(1, SharedRows::new(PageRows::new(alloc))?);
     Ok(())
 }
 
@@ -202,6 +202,20 @@ fn rows_change_in_two_halves(rt: HostRuntime) -> Result<(), Fail> {
     empty(alloc, &mut index)?;
     assert!(rt; is_answered(alloc, &index, &expected("Template:T", TEXT, 0, 9, &[3]))?);
     assert_eq!(rt; index.page_count(), 4);
+    Ok(())
+}
+
+#[test]
+fn stored_rows_are_shared(rt: HostRuntime) -> Result<(), Fail> {
+    let alloc = rt.alloc();
+    let index = loaded(alloc)?;
+    let stored = index.stored()?;
+    let [first, second, _] = stored.as_slice() else {
+        return Err(Fail::from("not three pages"));
+    };
+    let shared = first.share()?;
+    assert!(rt; is_same(first.rows(), shared.rows()));
+    assert!(rt; !is_same(first.rows(), second.rows()));
     Ok(())
 }
 

@@ -1,4 +1,4 @@
-use Rattle.std.proofs.Common.{ap, sym, subst, arith}
+use Rattle.std.proofs.Common.{sym, subst, arith}
 use Rattle.std.specs.Option.{IsSome}
 use Rattle.wk_listing_rules.specs.Names.{AreAmong}
 use Rattle.wk_index.specs.Found.{SparesAll}
@@ -16,4 +16,5 @@ invariant_of-self c = (
       (subst (λ h. AreAmong c.args.rows (rows_of h.stored c.args.page)) (sym c.self.view_is) c.requires.among)
       c.self.invariant.2
       (subst (λ l. SparesAll (rows_of l c.args.page) c.args.page c.self.inside.found c.shed.new.self) c.deref.ensures.value c.shed.ensures),
+  c.self.invariant.3,
 )
