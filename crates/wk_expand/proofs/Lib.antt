@@ -12,6 +12,7 @@ pub mod NodeLaws
 pub mod PageLaws
 pub mod PartLaws
 pub mod ReadLaws
+pub mod ResumedLaws
 pub mod RoundLaws
 pub mod RunLaws
 pub mod SeenLaws
