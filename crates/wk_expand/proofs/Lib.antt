@@ -20,5 +20,6 @@ pub mod StepLaws
 pub mod SwitchLaws
 pub mod TemplateLaws
 pub mod TextLaws
+pub mod TreeLaws
 pub mod WorkLaws
 pub mod WrittenLaws

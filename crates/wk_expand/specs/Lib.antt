@@ -18,4 +18,5 @@ pub mod Searches
 pub mod Stack
 pub mod State
 pub mod Steps
+pub mod Trees
 pub mod Work

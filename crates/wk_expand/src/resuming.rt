@@ -7,9 +7,10 @@ ghost use Rattle.wk_expand.specs.Steps.{IsStep, IsUnseen};
 ghost use Rattle.wk_expand.specs.declared.drafts.Root.{Root as RootValue};
 ghost use Rattle.std.specs.Prelude.{ℕ};
 
-use crate::drafts::{Root, Step, Trees};
+use crate::drafts::{Root, Step};
 use crate::machine::{Machine, Ran};
 use crate::seen::Seen;
+use crate::trees::Trees;
 use std::alloc::Global;
 use wk_memory::Memory;
 use wk_title::Title;
