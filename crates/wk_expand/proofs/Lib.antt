@@ -12,6 +12,7 @@ pub mod NodeLaws
 pub mod PageLaws
 pub mod PartLaws
 pub mod ReadLaws
+pub mod ResumedLaws
 pub mod RoundLaws
 pub mod RunLaws
 pub mod SeenLaws
@@ -19,5 +20,6 @@ pub mod StepLaws
 pub mod SwitchLaws
 pub mod TemplateLaws
 pub mod TextLaws
+pub mod TreeLaws
 pub mod WorkLaws
 pub mod WrittenLaws

@@ -22,11 +22,11 @@ use Rattle.wk_expand.proofs.DraftLaws.{nothing-agrees}
 use Rattle.wk_expand.proofs.StepLaws.{longer-agrees, need-is}
 
 -- what is read of a page, or of a given text, by what was seen
-abbrev read_by : Seen → PageTitle → Root → Seen
+abbrev pub read_by : Seen → PageTitle → Root → Seen
 read_by seen page root = reads_of (drafted (of_seen seen) page (given_text root))
 
 -- what was seen answers it
-own-reads : (seen : Seen) (page : PageTitle) (root : Root) → Agrees (of_seen seen) (read_by seen page root)
+pub own-reads : (seen : Seen) (page : PageTitle) (root : Root) → Agrees (of_seen seen) (read_by seen page root)
 own-reads seen page root = agrees-itself (of_seen seen) (plan_of page (given_text root)) [] (nothing-agrees seen)
 
 -- and so does what was seen with more behind it
@@ -35,26 +35,37 @@ longer-reads seen more page root = longer-agrees seen more (read_by seen page ro
 
 -- ---- with more seen
 
-pub done-longer : (page : PageTitle) (root : Root) (seen more : Seen) (d : DraftShown) → IsStep page root seen (Done d) → IsStep page root (seen ++ more) (Done d)
-done-longer page root seen more d step =
-    let agrees : Agrees (of_seen (seen ++ more)) d.reads = subst (λ o. Agrees (of_seen (seen ++ more)) (reads_of o)) step.2 (longer-reads seen more page root) in (
+-- by what answers alike all that was read for a draft, it is the same draft
+pub done-by : (page : PageTitle) (root : Root) (seen known : Seen) (d : DraftShown) → Agrees (of_seen known) (read_by seen page root) → IsStep page root seen (Done d) → IsStep page root known (Done d)
+done-by page root seen known d alike step =
+    let agrees : Agrees (of_seen known) d.reads = subst (λ o. Agrees (of_seen known) (reads_of o)) step.2 alike in (
       step.0,
       step.1,
-      done-elsewhere (of_seen seen) (of_seen (seen ++ more)) (plan_of page (given_text root)) [] d.expanded d.reads (nothing-agrees seen) agrees step.2,
+      done-elsewhere (of_seen seen) (of_seen known) (plan_of page (given_text root)) [] d.expanded d.reads (nothing-agrees seen) agrees step.2,
     )
 
-need-longer : (page title : PageTitle) (root : Root) (seen more : Seen) (kind : Kind) → IsStep page root seen (Needs title kind) → NeedsOrReads title kind (read_by seen page root) (drafted (of_seen (seen ++ more)) page (given_text root))
-need-longer page title root seen more kind step =
-    need-elsewhere (of_seen seen) (of_seen (seen ++ more)) (plan_of page (given_text root)) [] title kind (read_by seen page root) (nothing-agrees seen) (longer-reads seen more page root)
+-- and a need is the same, or it is among what is read then
+need-by : (page title : PageTitle) (root : Root) (seen known : Seen) (kind : Kind) → Agrees (of_seen known) (read_by seen page root) → IsStep page root seen (Needs title kind) → NeedsOrReads title kind (read_by seen page root) (drafted (of_seen known) page (given_text root))
+need-by page title root seen known kind alike step =
+    need-elsewhere (of_seen seen) (of_seen known) (plan_of page (given_text root)) [] title kind (read_by seen page root) (nothing-agrees seen) alike
     (need-is (drafted (of_seen seen) page (given_text root)) title kind step)
 
-pub needed-longer : (page title : PageTitle) (root : Root) (seen more : Seen) (kind : Kind) → IsStep page root seen (Needs title kind) → ask (of_seen (seen ++ more)) title kind ≡ None → IsStep page root (seen ++ more) (Needs title kind)
-needed-longer page title root seen more kind step unseen = elim (need-longer page title root seen more kind step) [
+pub needed-by : (page title : PageTitle) (root : Root) (seen known : Seen) (kind : Kind) → Agrees (of_seen known) (read_by seen page root) → IsStep page root seen (Needs title kind) → ask (of_seen known) title kind ≡ None → IsStep page root known (Needs title kind)
+needed-by page title root seen known kind alike step unseen = elim (need-by page title root seen known kind alike step) [
   | inl needs ↦ ap needed needs
   | inr there ↦
-      let unread : list_any (is_read_of title kind) (read_by (seen ++ more) page root) ≡ false = unanswered-unread (of_seen (seen ++ more)) title kind (read_by (seen ++ more) page root) (own-reads (seen ++ more) page root) unseen in
+      let unread : list_any (is_read_of title kind) (read_by known page root) ≡ false = unanswered-unread (of_seen known) title kind (read_by known page root) (own-reads known page root) unseen in
       absurd (let wrong : false ≡ true = sym unread ∙ there in cc)
 ]
+
+pub done-longer : (page : PageTitle) (root : Root) (seen more : Seen) (d : DraftShown) → IsStep page root seen (Done d) → IsStep page root (seen ++ more) (Done d)
+done-longer page root seen more d = done-by page root seen (seen ++ more) d (longer-reads seen more page root)
+
+need-longer : (page title : PageTitle) (root : Root) (seen more : Seen) (kind : Kind) → IsStep page root seen (Needs title kind) → NeedsOrReads title kind (read_by seen page root) (drafted (of_seen (seen ++ more)) page (given_text root))
+need-longer page title root seen more kind = need-by page title root seen (seen ++ more) kind (longer-reads seen more page root)
+
+pub needed-longer : (page title : PageTitle) (root : Root) (seen more : Seen) (kind : Kind) → IsStep page root seen (Needs title kind) → ask (of_seen (seen ++ more)) title kind ≡ None → IsStep page root (seen ++ more) (Needs title kind)
+needed-longer page title root seen more kind = needed-by page title root seen (seen ++ more) kind (longer-reads seen more page root)
 
 pub read-longer : (page title : PageTitle) (root : Root) (seen more : Seen) (kind : Kind) (answer : Answer) → IsStep page root seen (Needs title kind) → ask (of_seen (seen ++ more)) title kind ≡ Some answer → IsTrue (list_any (is_read_of title kind) (read_by (seen ++ more) page root))
 read-longer page title root seen more kind answer step answered = elim (need-longer page title root seen more kind step) [

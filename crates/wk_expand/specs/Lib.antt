@@ -10,6 +10,7 @@ pub mod Kept
 pub mod Levels
 pub mod Machines
 pub mod Nodes
+pub mod Resumed
 pub mod Rounds
 pub mod Running
 pub mod Runs
@@ -17,4 +18,5 @@ pub mod Searches
 pub mod Stack
 pub mod State
 pub mod Steps
+pub mod Trees
 pub mod Work

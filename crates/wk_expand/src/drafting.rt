@@ -2,9 +2,10 @@
 ghost use Rattle.std.specs.Prelude.{IfOk};
 ghost use Rattle.wk_expand.specs.Steps.{IsStep, IsUnseen};
 
-use crate::drafts::{Root, Step, Trees};
+use crate::drafts::{Root, Step};
 use crate::machine::{Machine, Ran};
 use crate::seen::Seen;
+use crate::trees::Trees;
 use std::alloc::Global;
 use wk_memory::Memory;
 use wk_title::Title;

@@ -24,19 +24,6 @@ pub enum Root {
     Given(Text),
 }
 
-/// A cache of parsed texts. It keeps nothing yet: each draft parses anew.
-#[derive(Debug, Drop)]
-pub struct Trees {
-    capacity: usize,
-}
-
-impl Trees {
-    /// A cache of at most so many texts.
-    pub fn new(_alloc: Global, capacity: usize) -> Result<Trees, Memory> {
-        Ok(Trees { capacity })
-    }
-}
-
 /// What a page, or a text in the place of its own, expands to: the output, what it cost, and what was read for it.
 ///
 /// Contracts see the page, the given text, the output and what it cost, and the reads with their answers. By its type

@@ -6,6 +6,7 @@ ghost use Rattle.wk_tree.specs.Parsed.{list_with};
 ghost use Rattle.wk_expand.specs.Levels.{tree_in, look_in, HasLists};
 ghost use Rattle.wk_expand.specs.declared.levels.Level.{Level as LevelValue};
 
+use crate::tree::Tree;
 use std::alloc::Global;
 use std::marker::Model;
 use wk_args::Args;
@@ -30,7 +31,7 @@ pub struct Level {
     /// The title whose text it is.
     pub title: Title,
     /// The text.
-    pub tree: Parsed,
+    pub tree: Tree,
     /// What is bound in it.
     pub args: Args<Bound>,
 }
@@ -40,7 +41,7 @@ pub struct Level {
 /// the text behind it.
 #[derive(Drop)]
 pub struct Levels {
-    root: Parsed,
+    root: Tree,
     included: Vec<Level>,
 }
 
@@ -68,7 +69,7 @@ fn is_among(included: &[Level], title: &Title) -> bool
 
 impl Levels {
     /// A text alone, with no page included. Takes no memory.
-    pub fn new(alloc: Global, root: Parsed) -> Levels
+    pub fn new(alloc: Global, root: Tree) -> Levels
         ensures { result ≡ record { root = root; included = [] } }
     {
         Levels {
@@ -82,8 +83,8 @@ impl Levels {
         ensures { result.now ≡ tree_in self.now.root self.now.included }
     {
         match self.included.last() {
-            Some(level) => &level.tree,
-            None => &self.root,
+            Some(level) => level.tree.parsed(),
+            None => self.root.parsed(),
         }
     }
 

@@ -19,6 +19,7 @@ mod limits;
 mod machine;
 mod parts;
 mod reads;
+mod resuming;
 mod search;
 mod seen;
 mod shared_draft;
@@ -26,16 +27,20 @@ mod stack;
 mod state;
 mod template;
 mod texts;
+mod tree;
+mod trees;
 mod words;
 mod work;
 
 pub use answer::{Answer, Counts, Read, mark};
 pub use drafting::draft;
-pub use drafts::{Draft, Root, Step, Trees};
+pub use drafts::{Draft, Root, Step};
 pub use laws::{
     longer_seens_agree, rounds_of_drafts_come_to_an_end, steps_stay_true, steps_tell_of_worlds,
 };
 pub use machine::{Machine, Ran};
+pub use resuming::resumed;
 pub use seen::Seen;
 pub use shared_draft::SharedDraft;
+pub use trees::Trees;
 pub use wk_view_rules::Kind;

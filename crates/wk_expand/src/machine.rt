@@ -12,12 +12,14 @@ ghost use Rattle.wk_expand.specs.State.{IsBegun};
 ghost use Rattle.wk_expand.specs.Steps.{given_text};
 
 use crate::answer::Counts;
-use crate::drafts::{Draft, Root, Trees};
+use crate::drafts::{Draft, Root};
 use crate::laws::steps_tell_of_worlds;
 use crate::levels::Levels;
 use crate::seen::Seen;
 use crate::stack::{Listing, Now, Turn};
 use crate::state::Expander;
+use crate::tree::Tree;
+use crate::trees::Trees;
 use crate::work::Work;
 use std::alloc::Global;
 use std::marker::Model;
@@ -26,7 +28,6 @@ use wk_memory::Memory;
 use wk_out::Out;
 use wk_redirect::redirect_target;
 use wk_title::Title;
-use wk_tree::{Parsed, parse};
 use wk_tree_rules::Mode;
 use wk_view_laws::done_by_the_reads_alone;
 use wk_view_rules::Kind;
@@ -155,7 +156,7 @@ fn made(
 }
 
 /// The expansion of a parsed text as the page's own, at its start, behind the reads that there are.
-fn at_start(alloc: Global, page: &Title, tree: Parsed, reads: Seen) -> Result<Expander, Memory>
+fn at_start(alloc: Global, page: &Title, tree: Tree, reads: Seen) -> Result<Expander, Memory>
     ensures { IfOk result (IsBegun page.now tree reads) }
 {
     let page = page.share()?;
@@ -176,6 +177,7 @@ fn go_on(
     given: &Option<Text>,
     begun: Begun,
     seen: &Seen,
+    trees: &mut Trees,
 ) -> Result<Driven, Memory>
     requires left { IsLeft page.now given.now begun.work begun.now }
     requires answered { Agrees (of_seen seen.now) begun.work.expander.reads }
@@ -187,7 +189,7 @@ fn go_on(
     let mut now = now;
     // No expansion has so many steps: each opens one of 1,000,000 nodes, or goes on in a list or a node that is open.
     'steps: for _step in 0..u64::MAX {
-        match work.step(seen, now)? {
+        match work.step(seen, trees, now)? {
             Turn::On(next) => {
                 now = next;
             }
@@ -215,13 +217,14 @@ fn expand_text(
     text: &Text,
     reads: Seen,
     seen: &Seen,
+    trees: &mut Trees,
 ) -> Result<Driven, Memory>
     requires left { (later : Answers) → Agrees (of_seen later) reads → drafted (of_seen later) page.now given.now
         ≡ run (of_seen later) (text_plan page.now text.now) reads }
     requires answered { Agrees (of_seen seen.now) reads }
     ensures { IfOk result (IsDriven page.now given.now seen.now) }
 {
-    let tree = parse(alloc, text, Mode::View)?;
+    let tree = trees.tree(alloc, text, Mode::View)?;
     let list = tree.root();
     let work = Work {
         expander: at_start(alloc, page, tree, reads)?,
@@ -232,11 +235,16 @@ fn expand_text(
         at: 0,
         out: Out::new(alloc),
     });
-    Ok(go_on(alloc, page, given, Begun { work, now }, seen)?)
+    Ok(go_on(alloc, page, given, Begun { work, now }, seen, trees)?)
 }
 
 /// Begins with a page's own text.
-fn expand_page(alloc: Global, page: &Title, seen: &Seen) -> Result<Driven, Memory>
+fn expand_page(
+    alloc: Global,
+    page: &Title,
+    seen: &Seen,
+    trees: &mut Trees,
+) -> Result<Driven, Memory>
     ensures { IfOk result (IsDriven page.now None seen.now) }
 {
     done_by_the_reads_alone();
@@ -246,7 +254,7 @@ fn expand_page(alloc: Global, page: &Title, seen: &Seen) -> Result<Driven, Memor
     let mut reads = Seen::new(alloc);
     reads.note(page, Kind::View, answer)?;
     match answer.text() {
-        Some(text) => Ok(expand_text(alloc, page, &None, text, reads, seen)?),
+        Some(text) => Ok(expand_text(alloc, page, &None, text, reads, seen, trees)?),
         None => {
             let draft = made(alloc, page, &None, Out::new(alloc), NO_COUNTS, reads)?;
             Ok(Driven::Drafted(draft))
@@ -261,17 +269,18 @@ fn drive(
     given: &Option<Text>,
     begun: Option<Begun>,
     seen: &Seen,
+    trees: &mut Trees,
 ) -> Result<Driven, Memory>
     requires paused { IsPaused page.now given.now begun }
     requires answered { Agrees (of_seen seen.now) (reads_of begun) }
     ensures { IfOk result (IsDriven page.now given.now seen.now) }
 {
     if let Some(begun) = begun {
-        return go_on(alloc, page, given, begun, seen);
+        return go_on(alloc, page, given, begun, seen, trees);
     }
     match given {
-        Some(text) => expand_text(alloc, page, given, text, Seen::new(alloc), seen),
-        None => expand_page(alloc, page, seen),
+        Some(text) => expand_text(alloc, page, given, text, Seen::new(alloc), seen, trees),
+        None => expand_page(alloc, page, seen, trees),
     }
 }
 
@@ -298,7 +307,7 @@ impl Machine {
     /// Done with the draft where all that is asked was seen. Else the first pair of a title and a kind that wasn't, with
     /// the machine, which goes on from there. Where memory runs out the machine begins anew. `trees` keeps parsed texts
     /// from one run to the next. Nothing is waited for.
-    pub fn run(self, seen: &Seen, _trees: &mut Trees) -> Result<Ran, (Machine, Memory)>
+    pub fn run(self, seen: &Seen, trees: &mut Trees) -> Result<Ran, (Machine, Memory)>
         requires { Agrees (of_seen seen.now) self.reads }
         ensures ran { IfOk result (IsRan self seen.now) }
         ensures again { IfErr result (λ refused. refused.0 ≡ record self { reads = [] }) }
@@ -310,7 +319,7 @@ impl Machine {
             given,
             begun,
         } = self;
-        match drive(alloc, &page, &given, begun, seen) {
+        match drive(alloc, &page, &given, begun, seen, trees) {
             Ok(Driven::Drafted(draft)) => Ok(Ran::Done(draft)),
             Ok(Driven::Stopped(title, kind, begun)) => {
                 let machine = Machine {

@@ -21,11 +21,12 @@ use crate::seen::Seen;
 use crate::stack::{Binder, Inclusion, Next, Pending, Waiting};
 use crate::state::{Expander, Stop};
 use crate::texts::node_error;
+use crate::trees::Trees;
 use wk_args::Args;
 use wk_memory::Memory;
 use wk_out::Out;
 use wk_title::Title;
-use wk_tree::{NodeId, parse};
+use wk_tree::NodeId;
 use wk_tree_rules::Mode;
 
 impl Expander {
@@ -117,7 +118,13 @@ impl Expander {
     }
 
     /// Binds the next of a node's further parts, or begins to expand its name; behind the last the page is included.
-    pub fn bind(&mut self, node: NodeId, page: Inclusion, binder: Binder) -> Result<Next, Memory>
+    pub fn bind(
+        &mut self,
+        trees: &mut Trees,
+        node: NodeId,
+        page: Inclusion,
+        binder: Binder,
+    ) -> Result<Next, Memory>
         requires there { IsSome (node_with (current self.old) node) }
         requires lists { HasLists (current self.old) binder.args }
         requires few { binder.numbered ≤ binder.at }
@@ -126,7 +133,7 @@ impl Expander {
     {
         let Binder { args, numbered, at } = binder;
         if self.tree().parts(node) <= at {
-            return Ok(self.enter_page(page, args)?);
+            return Ok(self.enter_page(trees, page, args)?);
         }
         let part = self.tree().part(node, at);
         let bound = Bound {
@@ -153,13 +160,18 @@ impl Expander {
     }
 
     /// Includes a page, in which this is bound.
-    fn enter_page(&mut self, page: Inclusion, args: Args<Bound>) -> Result<Next, Memory>
+    fn enter_page(
+        &mut self,
+        trees: &mut Trees,
+        page: Inclusion,
+        args: Args<Bound>,
+    ) -> Result<Next, Memory>
         requires { HasLists (current self.old) args }
         ensures { IfOk result (λ next. (seen : Answers) (p : Place) (id : NodeName) (bindings : List Binding)
             → IsHere self.old id p → ShowsBindings (text_at p) args bindings
             → LeadsTo seen p (included_with p page bindings) self.old next self.new) }
     {
-        let tree = parse(self.alloc, &page.text, Mode::Include)?;
+        let tree = trees.tree(self.alloc, &page.text, Mode::Include)?;
         let root = tree.root();
         let Inclusion { title, source, .. } = page;
         self.levels.enter(Level {

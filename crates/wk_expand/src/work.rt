@@ -15,6 +15,7 @@ use crate::seen::Seen;
 use crate::stack::{Listing, Next, Now, Opened, Pending, Turn, Waiting};
 use crate::state::{Expander, Stop};
 use crate::texts::{nesting_error, node_error};
+use crate::trees::Trees;
 use wk_memory::Memory;
 use wk_out::Out;
 use wk_tree::{Item, ListId, NodeId};
@@ -149,6 +150,7 @@ impl Work {
     fn go_on(
         &mut self,
         seen: &Seen,
+        trees: &mut Trees,
         node: NodeId,
         behind: Listing,
         pending: Pending,
@@ -179,21 +181,21 @@ impl Work {
                 }
             }
             Pending::Binds(page, binder) => {
-                let next = self.expander.bind(node, page, binder)?;
+                let next = self.expander.bind(trees, node, page, binder)?;
                 Ok(self.follow(node, behind, next)?)
             }
         }
     }
 
     /// One step.
-    pub fn step(&mut self, seen: &Seen, now: Now) -> Result<Turn, Memory>
+    pub fn step(&mut self, seen: &Seen, trees: &mut Trees, now: Now) -> Result<Turn, Memory>
         requires { (e : Expansion Output) × IsNow self.old now e }
         ensures { IfOk result (λ turn. (e : Expansion Output)
             → IsNow self.old now e → IsTurn seen.now e self.old.expander turn self.new) }
     {
         match now {
             Now::List(listing) => Ok(self.expand_list(listing)?),
-            Now::Node(node, behind, pending) => Ok(self.go_on(seen, node, behind, pending)?),
+            Now::Node(node, behind, pending) => Ok(self.go_on(seen, trees, node, behind, pending)?),
         }
     }
 }
