@@ -1,5 +1,8 @@
 -- Refusals as the rules give them.
 use Rattle.std.specs.Prelude.{◌≡◌, ℕ, List, Option, Some, None, Result, Ok, Err}
+use Rattle.wk_form.specs.Parameters.{Parameters}
+use Rattle.wk_request_rules.specs.Reading.{request_given}
+use Rattle.wk_request_rules.specs.declared.Module.{Module}
 use Rattle.wk_request_rules.specs.Requests.{RequestRefusal as Refused, bad_value, must_be_posted, bad_token, no_title, no_text, bad_integer, number_of_refusal, parameter_of_refusal, ParsedRequest, valid, invalid}
 use Rattle.wk_request.specs.declared.refusal.Refusal.{Refusal}
 use Rattle.wk_request.specs.declared.refusal.Refusal.TheVariants.{BadValue, MustBePosted, BadToken, NoTitle, NoText, BadInteger}
@@ -19,6 +22,11 @@ refusal_of (BadInteger parameter) = bad_integer parameter.now
 abbrev pub failed : {T : Type 0} → Result T Refusal → Option Refused
 failed (Ok passed) = None
 failed (Err refusal) = Some (refusal_of refusal)
+
+-- what is asked of the module that is called, where no check fails
+abbrev pub checked_as : Parameters → Result Module Refusal → ParsedRequest
+checked_as params (Ok m) = valid (request_given params m)
+checked_as params (Err refusal) = invalid (refusal_of refusal)
 
 -- the number and the parameter of a refusal; want of memory has none
 abbrev pub told : RequestRefusal → Option (ℕ × List ℕ)

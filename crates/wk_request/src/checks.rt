@@ -1,10 +1,10 @@
 //! The checks of the parameters, in their order (own).
-ghost use Rattle.std.specs.Prelude.{◌≡◌, ◌&&◌, not, codes, option_and_then, option_copied, IfOk, IfErr};
+ghost use Rattle.std.specs.Prelude.{◌≡◌, ◌&&◌, not, codes, option_and_then, option_copied};
 ghost use Rattle.wk_text_rules.specs.Decimal.{decimal_number};
 ghost use Rattle.wk_request_rules.specs.Modules.{base_parameter, continue_parameter, is_given, limit_parameter, needs_text, saves, title_parameter};
-ghost use Rattle.wk_request_rules.specs.Reading.{checks, first_some, has_token, limit_value, number_refused, refuse_where, request_given, request_of, title_refused};
-ghost use Rattle.wk_request_rules.specs.Requests.{bad_token, must_be_posted, no_text, valid, invalid};
-ghost use Rattle.wk_request.specs.Refusals.{failed, refusal_of};
+ghost use Rattle.wk_request_rules.specs.Reading.{checks, first_some, has_token, limit_value, number_refused, read_for, refuse_where, request_of, title_refused};
+ghost use Rattle.wk_request_rules.specs.Requests.{bad_token, must_be_posted, no_text};
+ghost use Rattle.wk_request.specs.Refusals.{checked_as, failed};
 
 use crate::flags::{has_value, is_given};
 use crate::modules::module_called;
@@ -106,15 +106,22 @@ fn check(params: &Params, posted: bool, kind: Module) -> Result<(), Refusal>
     check_own_number(params, continue_parameter(kind))
 }
 
+/// The module, where no check of it fails, or the first that does.
+fn checked_module(params: &Params, posted: bool, kind: Module) -> Result<Module, Refusal>
+    ensures { checked_as params.now result ≡ read_for params.now posted kind }
+{
+    match check(params, posted, kind) {
+        Ok(()) => Ok(kind),
+        Err(refusal) => Err(refusal),
+    }
+}
+
 /// The module that is called, where no check fails, or the first that does.
 pub fn checked(params: &Params, posted: bool) -> Result<Module, Refusal>
-    ensures ok { IfOk result (λ kind. request_of params.now posted ≡ valid (request_given params.now kind)) }
-    ensures err { IfErr result (λ refusal. request_of params.now posted ≡ invalid (refusal_of refusal)) }
+    ensures { checked_as params.now result ≡ request_of params.now posted }
 {
-    let kind = match module_called(params) {
-        Ok(kind) => kind,
-        Err(parameter) => return Err(Refusal::BadValue(parameter)),
-    };
-    check(params, posted, kind)?;
-    Ok(kind)
+    match module_called(params) {
+        Ok(kind) => checked_module(params, posted, kind),
+        Err(parameter) => Err(Refusal::BadValue(parameter)),
+    }
 }
