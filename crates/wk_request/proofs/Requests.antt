@@ -1,5 +1,5 @@
 -- What parameters ask, by the module that they call and the checks.
-use Rattle.std.proofs.Common.{◌≡◌, Bool, List, Option, Some, None, refl, sym, ap, ◌∙◌}
+use Rattle.std.proofs.Common.{◌≡◌, Bool, Option, Some, None, refl, sym, ap, ◌∙◌}
 use Rattle.wk_form.specs.Parameters.{Parameters}
 use Rattle.wk_request_rules.specs.Requests.{RequestRefusal, ParsedRequest, bad_value, number_of_refusal, parameter_of_refusal, valid, invalid}
 use Rattle.wk_request_rules.specs.Modules.{ModuleCalled, known, unknown, module_called}
