@@ -1,0 +1,14 @@
+//! The state of a wiki in memory: its revisions and pages, its jobs and the link rows that are stored, changed together as
+//! each event changes them. No store and no journal stands behind it.
+#![tactic(auto)]
+
+mod claims;
+mod fans;
+mod laws;
+mod live;
+mod reads;
+mod saves;
+
+pub use laws::{a_held_page_is_claimed, stale_reads_are_those_of_the_rules};
+pub use live::Live;
+pub use saves::reach_of_save;
