@@ -4,6 +4,7 @@ pub mod LiveHeld
 pub mod Stale
 pub mod Wanted
 pub use Rattle.wk_row_rules.specs.PageRows
+pub use Rattle.wk_listing_rules.specs.Names
 pub use Rattle.wk_job_rules.specs.Jobs
 pub use Rattle.wk_job_rules.specs.Steps
 pub use Rattle.wk_state_rules.specs.States

@@ -4,11 +4,15 @@
 
 mod claims;
 mod fans;
+mod kept;
 mod laws;
 mod live;
+mod load;
 mod reads;
+mod refreshes;
 mod saves;
 
+pub use kept::Kept;
 pub use laws::{a_held_page_is_claimed, stale_reads_are_those_of_the_rules};
 pub use live::Live;
 pub use saves::reach_of_save;
