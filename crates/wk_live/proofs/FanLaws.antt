@@ -52,4 +52,4 @@ fan-served state most served is_last some next = by state.jobs.fans refl
         let told = next fan is in
         ap (λ o. option_map (after_serving state.stored most state.jobs) o) is
         ∙ ap (λ lists. Some lists)
-            (ap (λ s. after s state fan (ends s state fan)) (sym told.0) ∙ (ap (after served state fan) (sym told.1) ∙ served-as state.jobs served fan rest first is_last))
+        (ap (λ s. after s state fan (ends s state fan)) (sym told.0) ∙ (ap (after served state fan) (sym told.1) ∙ served-as state.jobs served fan rest first is_last))

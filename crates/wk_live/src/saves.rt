@@ -73,13 +73,7 @@ impl Live {
     /// Saves the text as the title's current revision, or a deletion where there is none, at this many seconds since
     /// 1970, queues a refresh of its page and sets or adds the title's fan job; and gives the revision's number. The fan
     /// job's title is given exactly where one is wanted. Takes no memory.
-    pub fn save(
-        &mut self,
-        title: Title,
-        text: Option<Text>,
-        moment: u64,
-        fan: Option<Title>,
-    ) -> u64
+    pub fn save(&mut self, title: Title, text: Option<Text>, moment: u64, fan: Option<Title>) -> u64
         requires room { HasRoomFor 1 self.old.room }
         requires possible { can_save self.old.state.history title text ≡ true }
         requires fits { page_number self.old.state.history title ≡ None → length self.old.state.history.pages < max_pages }
