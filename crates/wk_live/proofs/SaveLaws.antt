@@ -1,6 +1,6 @@
 -- What a save does to the jobs.
 use Rattle.std.proofs.Common.{◌≡◌, ℕ, Bool, true, false, cond, ◌||◌, List, [], ◌∷◌, ◌++◌, Option, Some, None, refl, sym, ap, ap₂, ◌∙◌, inl, inr}
-use Rattle.std.specs.Prelude.{is_some}
+use Rattle.std.specs.Prelude.{find, is_some}
 use Rattle.std.specs.List.{list_any}
 use Rattle.std.proofs.lemmas.Bool.{cases_Bool}
 use Rattle.std.proofs.lemmas.List.Folds.{list_any-append}
@@ -16,6 +16,11 @@ use Rattle.wk_state_rules.specs.States.{State}
 use Rattle.wk_state_rules.specs.Events.{jobs_after_save, stored_with}
 use Rattle.wk_state_laws.proofs.Fanned.{fans-queued}
 use Rattle.wk_live.specs.Wanted.{fan_of_save, queued_with, wants_fan}
+
+-- a title has a fan job where one is found
+pub some_found : {X : Type 0} (p : X → Bool) (xs : List X) → is_some (find p xs) ≡ list_any p xs
+some_found p [] = refl
+some_found p (x ∷ xs) = elim (cases_Bool (p x)) [ inl this ↦ rw this refl | inr other ↦ rw other (some_found p xs) ]
 
 or-nothing : (b : Bool) → (b || (false || false)) ≡ b
 or-nothing true = refl

@@ -3,6 +3,7 @@ ghost use Rattle.std.specs.Prelude.{◌≡◌, ◌+◌, ◌≤◌, ◌<◌, ◌^
 ghost use Rattle.wk_page_rules.specs.History.{can_save, next_revision, page_number};
 ghost use Rattle.wk_page_rules.specs.Verdict.{max_pages};
 ghost use Rattle.wk_row_rules.specs.PageRows.{no_rows};
+ghost use Rattle.wk_job_rules.specs.Jobs.{has_fan};
 ghost use Rattle.wk_job_rules.specs.Steps.{reach_of_save};
 ghost use Rattle.wk_state_rules.specs.Events.{with_saved};
 ghost use Rattle.wk_live.specs.HeldState.{HasRoomFor};
@@ -58,13 +59,21 @@ fn queue_jobs(jobs: &mut Jobs, page: u32, reach: Reach, fan: Option<Title>)
     }
 }
 
+/// Whether the title has a fan job.
+#[tactic(auto, using(crate::proofs::SaveLaws::some_found))]
+fn has_fan(jobs: &Jobs, title: &Title) -> bool
+    ensures { result ≡ has_fan jobs.now.lists title.now }
+{
+    jobs.fan_job(title).is_some()
+}
+
 impl Live {
     /// Whether a save of the title that reaches these rows sets its fan job or adds one: one stands, or some page's
     /// stored rows, its own among them, name the title.
     pub fn wants_fan(&self, title: &Title, reach: Reach) -> Result<bool, Memory>
         ensures { IfOk result (λ wants. wants ≡ wants_fan self.now.state title.now reach) }
     {
-        if self.jobs.fan_job(title).is_some() {
+        if has_fan(&self.jobs, title) {
             return Ok(true);
         }
         self.index.some_page_names(title, reach)
