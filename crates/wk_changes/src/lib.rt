@@ -6,6 +6,7 @@ mod fans;
 mod job_rows;
 mod migration;
 mod refreshes;
+mod rows;
 mod saves;
 mod tables;
 
