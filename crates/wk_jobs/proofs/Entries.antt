@@ -8,7 +8,7 @@ use Rattle.std.proofs.lemmas.List.{append_assoc, map-append}
 use Rattle.std.proofs.lemmas.List.Elements.{filter-append}
 use Rattle.std.proofs.lemmas.List.Folds.{list_any-append}
 use Rattle.std.proofs.lemmas.List.Sums.{sum_by-append}
-use Rattle.wk_job_rules.specs.Jobs.{RefreshEntry, JobLists, is_queued, is_claimed, first_claimed, jobs_of, jobs_of_others, queued_again}
+use Rattle.wk_job_rules.specs.Jobs.{RefreshEntry, JobLists, is_queued, is_claimed, is_held_by, first_claimed, jobs_of, jobs_of_others, queued_again}
 use Rattle.wk_job_rules.proofs.Lists.{eqb_flips, IsDistinct-push, list_any-map}
 use Rattle.wk_job_rules.proofs.JobLemmas.{IsOneAPage-claimed, IsOneAPage-given_back, IsOneAPage-dropped}
 use Rattle.wk_jobs.specs.Entries.{claimed_entry, queued_entry, entries, job_of, number_of}
@@ -33,6 +33,20 @@ first_queued-entries (c ∷ cs) q qs = first_queued-entries cs q qs
 pub first_queued-none : (cs : List ClaimedJob) → find is_queued (entries cs []) ≡ None
 first_queued-none [] = refl
 first_queued-none (c ∷ cs) = first_queued-none cs
+
+-- ---- what a ticket claims
+
+held-of-queued : (qs : List QueuedJob) (ticket : ℕ) → find (is_held_by ticket) (map queued_entry qs) ≡ None
+held-of-queued [] ticket = refl
+held-of-queued (q ∷ qs) ticket = held-of-queued qs ticket
+
+pub held-entries : (cs : List ClaimedJob) (qs : List QueuedJob) (ticket : ℕ)
+    → option_map (λ (job : RefreshEntry). job.page) (find (is_held_by ticket) (entries cs qs)) ≡ option_map (λ (job : ClaimedJob). job.page) (find (λ (job : ClaimedJob). eqb job.ticket ticket) cs)
+held-entries [] qs ticket = ap (option_map (λ (job : RefreshEntry). job.page)) (held-of-queued qs ticket)
+held-entries (c ∷ cs) qs ticket = elim (cases_Bool (eqb c.ticket ticket)) [
+  | inl here ↦ rw here refl
+  | inr other ↦ rw other (held-entries cs qs ticket)
+]
 
 -- ---- how many
 

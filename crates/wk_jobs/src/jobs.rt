@@ -1,12 +1,13 @@
 //! The job lists of a wiki.
 ghost use Rattle.std.specs.Prelude.{◌≡◌, ◌+◌, ◌^◌, ◌≤◌, ◌<◌, true, not, length, IsOk, IfOk, OnOk, OnErr};
 ghost use Rattle.std.specs.Option.{option_copied};
-ghost use Rattle.wk_job_rules.specs.Jobs.{IsNumbered, no_jobs, claimed_by, fan_dropped, fan_moved, fan_set, first_fan, first_queued, given_back, has_claimed, has_refresh, left, refresh_dropped, refresh_queued};
+ghost use Rattle.wk_job_rules.specs.Jobs.{IsNumbered, no_jobs, claimed_by, fan_dropped, fan_moved, fan_set, first_fan, first_queued, given_back, has_claimed, has_refresh, left, page_held_by, refresh_dropped, refresh_queued};
 ghost use Rattle.wk_job_rules.specs.Steps.{reopened_jobs};
 ghost use Rattle.wk_jobs.specs.Entries.{job_of};
 ghost use Rattle.wk_jobs.specs.Fans.{fan_of};
 
 use crate::fans::{FanJob, Fans};
+use crate::listed::ListedJobs;
 use crate::refreshes::{RefreshJob, Refreshes};
 use std::alloc::Global;
 use std::marker::Model;
@@ -179,6 +180,25 @@ impl Jobs {
         ensures { result ≡ job_of self.now.lists.refreshes page }
     {
         self.refreshes.job(page)
+    }
+
+    /// The page whose refresh job is claimed by the ticket of this number; `None` exactly where no job is. Takes no
+    /// memory, and a time that grows with the tickets that are out.
+    pub fn page_held(&self, ticket: u64) -> Option<u32>
+        ensures { result ≡ page_held_by self.now.lists ticket }
+    {
+        self.refreshes.page_held(ticket)
+    }
+
+    /// The job lists of this moment. No title is copied.
+    pub fn listed(&self) -> Result<ListedJobs, Memory>
+        ensures { IfOk result (λ listed. listed ≡ self.now.lists) }
+    {
+        Ok(ListedJobs {
+            refreshes: self.refreshes.listed()?,
+            fans: self.fans.listed()?,
+            next: self.next,
+        })
     }
 
     /// The title's fan job. Takes no memory.

@@ -3,6 +3,8 @@
 
 mod fans;
 mod jobs;
+mod listed;
+mod load;
 mod numbers;
 mod refreshes;
 #[cfg(test)]
@@ -10,5 +12,6 @@ mod tests;
 
 pub use fans::FanJob;
 pub use jobs::Jobs;
+pub use listed::ListedJobs;
 pub use refreshes::RefreshJob;
 pub use wk_job_rules::Left;
