@@ -1,0 +1,4 @@
+pub mod RefreshEdits
+pub mod FanEdits
+pub mod HeldJob
+pub mod NumberedRows
