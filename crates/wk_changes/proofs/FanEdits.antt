@@ -1,22 +1,25 @@
 -- The edits of the fan job of a save.
-use Rattle.std.proofs.Common.{◌≡◌, ℕ, true, false, ◌||◌, List, [], ◌∷◌, ◌++◌, Option, Some, None, is_some, refl, sym, ap, ◌∙◌, inl, inr, arith}
+use Rattle.std.proofs.Common.{◌≡◌, ℕ, true, false, ◌||◌, List, [], ◌∷◌, ◌++◌, Option, Some, None, is_some, refl, sym, ap, ap₂, ◌∙◌, inl, inr, arith}
 use Rattle.std.specs.Prelude.{Bool, find}
 use Rattle.std.specs.List.{list_any}
 use Rattle.std.proofs.Math.Bool.{or-false}
 use Rattle.std.proofs.lemmas.Bool.{cases_Bool, or_parts}
+use Rattle.std.proofs.lemmas.List.{append_assoc}
 use Rattle.std.proofs.lemmas.List.Folds.{list_any-append}
 use Rattle.wk_text_rules.specs.Titles.{PageTitle, title_eq}
-use Rattle.wk_page_rules.specs.History.{page_number}
+use Rattle.wk_page_rules.specs.History.{page_exists, page_number, page_to_save}
 use Rattle.wk_row_rules.specs.declared.Reach.{Reach}
 use Rattle.wk_row_rules.specs.declared.Reach.TheVariants.{Text, Both}
 use Rattle.wk_row_rules.specs.PageRows.{PageRows, no_rows, names}
-use Rattle.wk_table_rules.specs.Changes.{TableEdit, add_job, set_job}
+use Rattle.wk_table_rules.specs.Changes.{TableEdit, add_job, add_revision, set_job, set_page}
 use Rattle.wk_table_laws.proofs.SavedPages.{find-passes}
-use Rattle.wk_job_rules.specs.Jobs.{FanEntry, JobLists, has_fan, set_anew, wider}
+use Rattle.wk_job_rules.specs.Jobs.{FanEntry, JobLists, has_fan, has_refresh, refresh_queued, set_anew, wider}
+use Rattle.wk_job_rules.specs.Steps.{reach_of_save}
 use Rattle.wk_job_rules.specs.Users.{some_page_names}
 use Rattle.wk_state_rules.specs.States.{State}
 use Rattle.wk_state_rules.specs.Events.{stored_with}
-use Rattle.wk_wiki_rules.specs.TableChanges.{fan_edits, row_of_fan}
+use Rattle.wk_wiki_rules.specs.TableChanges.{fan_edits, refresh_edits, row_of_fan, save_change, saved_page, saved_revision}
+use Rattle.wk_changes.specs.Parts.{is_fan_wanted}
 
 find-none : {X : Type 0} (p : X → Bool) (xs : List X) → list_any p xs ≡ false → find p xs ≡ None
 find-none p [] none = refl
@@ -64,3 +67,30 @@ new-names-none state new title reach = elim (cases_Bool (is_some (page_number st
       (list_any-append (λ rows. names rows title reach) state.stored (no_rows ∷ [])
       ∙ (ap (λ b. some_page_names state.stored title reach || (b || false)) (no-names title reach) ∙ or-false (some_page_names state.stored title reach)))
 ]
+
+-- ---- the jobs behind the refresh job of the page
+
+pub queued-fans : (lists : JobLists) (page : ℕ) → (refresh_queued lists page).fans ≡ lists.fans
+queued-fans lists page = elim (cases_Bool (has_refresh lists page)) [ inl there ↦ rw there refl | inr none ↦ rw none refl ]
+
+pub wanted-is : (state : State) (title : PageTitle) (text : Option (List ℕ)) (page : ℕ)
+    → is_fan_wanted state title text
+    ≡ (has_fan (refresh_queued state.jobs page) title || some_page_names (stored_with state title) title (reach_of_save (page_exists state.history title) (is_some text)))
+wanted-is state title text page =
+    let reach = reach_of_save (page_exists state.history title) (is_some text) in
+    ap₂ (λ a b. a || b)
+    (ap (list_any (λ (fan : FanEntry). title_eq fan.title title)) (sym (queued-fans state.jobs page)))
+    (sym (new-names-none state title title reach))
+
+-- ---- the edits of a save, one after the other
+
+pub save-is : (state : State) (title : PageTitle) (text : Option (List ℕ)) (moment : ℕ) (first second refresh fan : List TableEdit)
+    → first ≡ add_revision (saved_revision state.history title text moment) ∷ set_page (saved_page state.history title text) ∷ []
+    → second ≡ first ++ refresh
+    → refresh ≡ refresh_edits state.jobs (page_to_save state.history title) title
+    → fan ≡ fan_edits (stored_with state title) (refresh_queued state.jobs (page_to_save state.history title)) title (reach_of_save (page_exists state.history title) (is_some text))
+    → second ++ fan ≡ save_change state title text moment
+save-is state title text moment first second refresh fan one two three four =
+    let two-first = add_revision (saved_revision state.history title text moment) ∷ set_page (saved_page state.history title text) ∷ [] in
+    ap (λ edits. edits ++ fan) (two ∙ ap (λ edits. edits ++ refresh) one)
+    ∙ (append_assoc two-first refresh fan ∙ ap₂ (λ (a b : List TableEdit). two-first ++ (a ++ b)) three four)

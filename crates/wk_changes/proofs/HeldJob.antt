@@ -1,5 +1,5 @@
 -- The job that is claimed by a ticket is the one that is found by its page.
-use Rattle.std.proofs.Common.{◌≡◌, ℕ, true, false, eqb, List, [], ◌∷◌, map, Option, Some, None, IsSome, refl, sym, ap, ◌∙◌, inl, inr, subst, arith}
+use Rattle.std.proofs.Common.{◌≡◌, ℕ, true, false, eqb, List, [], ◌∷◌, map, Option, Some, None, IsSome, is_some, refl, sym, ap, ◌∙◌, inl, inr, subst, arith}
 use Rattle.std.specs.Prelude.{Bool, find}
 use Rattle.std.specs.List.{AllByRecursion, IsDistinct, list_any}
 use Rattle.std.proofs.lemmas.Bool.{cases_Bool, eq-eqb}
@@ -44,6 +44,14 @@ there lists page has = by lists.refreshes has
     by : (jobs : List RefreshEntry) → list_any (λ (job : RefreshEntry). eqb job.page page) jobs ≡ true → IsSome (find (λ (job : RefreshEntry). eqb job.page page) jobs)
     by [] none = absurd (let e : false ≡ true = none in cc)
     by (job ∷ jobs) some = elim (cases_Bool (eqb job.page page)) [
-      | inl here ↦ rw here tt
+      | inl here ↦ rw here refl
       | inr other ↦ rw other (by jobs (rw other at some))
     ]
+
+-- a page has a refresh job exactly where one is found
+pub has-is : (lists : JobLists) (page : ℕ) → has_refresh lists page ≡ is_some (job_of lists.refreshes page)
+has-is lists page = by lists.refreshes
+  where
+    by : (jobs : List RefreshEntry) → list_any (λ (job : RefreshEntry). eqb job.page page) jobs ≡ is_some (find (λ (job : RefreshEntry). eqb job.page page) jobs)
+    by [] = refl
+    by (job ∷ jobs) = elim (cases_Bool (eqb job.page page)) [ inl here ↦ rw here refl | inr other ↦ rw other (by jobs) ]

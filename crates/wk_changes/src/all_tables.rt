@@ -76,9 +76,10 @@ fn revision_row_at(alloc: Global, revs: &Revs, number: u64) -> Result<RevisionRo
 fn revision_rows(alloc: Global, revs: &Revs) -> Result<Vec<RevisionRow>, Memory>
     ensures { IfOk result (λ rows. rows.items ≡ map revision_row (enumerate_from 1 revs.now.history.revisions)) }
 {
+    let count = revs.next_revision() - 1;
     let mut rows = Vec::new(alloc);
-    for number in 1..revs.next_revision() {
-        rows.push(revision_row_at(alloc, revs, number)?)?;
+    for place in 0..count {
+        rows.push(revision_row_at(alloc, revs, place + 1)?)?;
     }
     Ok(rows)
 }

@@ -1,7 +1,7 @@
 //! The rows of jobs, and the refresh jobs that pages get.
 ghost use Rattle.std.specs.Prelude.{◌≡◌, ◌+◌, ◌<◌, ◌^◌, ◌++◌, length, map, IfOk, OnOk};
 ghost use Rattle.std.specs.List.{AllPairs};
-ghost use Rattle.wk_table_rules.specs.JobTable.{params_text, refresh_row};
+ghost use Rattle.wk_table_rules.specs.JobTable.{params_text, reach_word, refresh_row};
 ghost use Rattle.wk_state_rules.specs.States.{title_at};
 ghost use Rattle.wk_job_rules.specs.Jobs.{JobLists, has_refresh, refresh_queued};
 ghost use Rattle.wk_wiki_rules.specs.TableChanges.{refresh_edits, refreshes_edits, row_of_fan};
@@ -48,14 +48,21 @@ pub fn refresh_row_at(alloc: Global, revs: &Revs, number: u64, page: u32) -> Res
     }
 }
 
+/// The word of the reach in a fan job's params.
+fn reach_word(reach: Reach) -> &'static str
+    ensures { result.now ≡ reach_word reach }
+{
+    match reach {
+        Reach::Text => "text",
+        Reach::Both => "both",
+    }
+}
+
 /// The params of a fan job's row.
 fn params_text(alloc: Global, reach: Reach, cursor: u32) -> Result<Text, Memory>
     ensures { IfOk result (λ text. text ≡ params_text (record { reach = reach; cursor = cursor })) }
 {
-    let word = match reach {
-        Reach::Text => "text",
-        Reach::Both => "both",
-    };
+    let word = reach_word(reach);
     let text = format!(in alloc; "{word}:{cursor}")?;
     Text::new(alloc, &text)
 }

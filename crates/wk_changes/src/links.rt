@@ -146,7 +146,7 @@ impl LinkTables {
         let count = index.page_count();
         for place in 0..count {
             let page = place as u32 + 1;
-            let rows = index.rows(page).unwrap();
+            let rows = index.rows(page).unwrap().rows();
             tables.push_page(page, namespace_at(revs, page), rows)?;
         }
         Ok(tables)
