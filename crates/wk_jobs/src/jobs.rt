@@ -1,7 +1,7 @@
 //! The job lists of a wiki.
-ghost use Rattle.std.specs.Prelude.{◌≡◌, ◌+◌, ◌^◌, ◌≤◌, ◌<◌, true, not, length, IsOk, IfOk, OnOk, OnErr};
+ghost use Rattle.std.specs.Prelude.{◌≡◌, ◌+◌, ◌^◌, ◌≤◌, ◌<◌, ◌++◌, ◌∷◌, [], true, false, None, not, length, IsOk, IfOk, OnOk, OnErr};
 ghost use Rattle.std.specs.Option.{option_copied};
-ghost use Rattle.wk_job_rules.specs.Jobs.{IsNumbered, no_jobs, claimed_by, fan_dropped, fan_moved, fan_set, first_fan, first_queued, given_back, has_claimed, has_refresh, left, page_held_by, refresh_dropped, refresh_queued};
+ghost use Rattle.wk_job_rules.specs.Jobs.{IsNumbered, no_jobs, claimed_by, fan_dropped, fan_moved, fan_set, first_fan, first_queued, given_back, has_claimed, has_fan, has_refresh, left, page_held_by, refresh_dropped, refresh_queued};
 ghost use Rattle.wk_job_rules.specs.Steps.{reopened_jobs};
 ghost use Rattle.wk_jobs.specs.Entries.{job_of};
 ghost use Rattle.wk_jobs.specs.Fans.{fan_of};
@@ -107,6 +107,33 @@ impl Jobs {
             cursor: 0,
         });
         self.next += 1;
+        Ok(())
+    }
+
+    /// Appends a queued refresh job of a page that has none, with this number, which isn't below the next one.
+    pub(crate) fn restore_refresh(&mut self, number: u64, page: u32) -> Result<(), Memory>
+        requires next { self.old.lists.next ≤ number }
+        requires bound { number < 2 ^ 63 }
+        requires none { has_refresh self.old.lists page ≡ false }
+        ensures { OnOk result (self.new.lists ≡ refresh_queued (record self.old.lists { next = number }) page) }
+    {
+        self.refreshes.reserve(1)?;
+        self.refreshes.push(number, page);
+        self.next = number + 1;
+        Ok(())
+    }
+
+    /// Appends the fan job, of a title that has none, whose number isn't below the next one.
+    pub(crate) fn restore_fan(&mut self, job: FanJob) -> Result<(), Memory>
+        requires next { self.old.lists.next ≤ job.number }
+        requires bound { job.number < 2 ^ 63 }
+        requires none { has_fan self.old.lists job.title ≡ false }
+        ensures { OnOk result (self.new.lists ≡ record self.old.lists { fans = self.old.lists.fans ++ job ∷ []; next = job.number + 1 }) }
+    {
+        let number = job.number;
+        self.fans.reserve(1)?;
+        self.fans.push(job);
+        self.next = number + 1;
         Ok(())
     }
 

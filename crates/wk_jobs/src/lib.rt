@@ -7,6 +7,7 @@ mod listed;
 mod load;
 mod numbers;
 mod refreshes;
+mod rows;
 #[cfg(test)]
 mod tests;
 
