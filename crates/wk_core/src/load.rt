@@ -5,12 +5,10 @@ ghost use Rattle.wk_table_rules.specs.GoodStore.{IsGood, first_broken};
 ghost use Rattle.wk_state_rules.specs.Lives.{opened, reopened};
 ghost use Rattle.wk_revs.specs.Edit.{most_held};
 ghost use Rattle.wk_life_laws.specs.Next.{Begins, new_start};
-ghost use Rattle.wk_core.specs.Answers.{cause_of};
 ghost use Rattle.wk_core.specs.Limits.{AreWithinFull};
 ghost use Rattle.wk_core.specs.Loads.{HasOpened, bad_store_of};
 ghost use Rattle.wk_core.specs.Seen.{IsTold};
 ghost use Rattle.wk_core.specs.Steps.{KeeperGoesOn};
-ghost use Rattle.wk_core.specs.declared.outcomes.LoadCause.TheVariants.{Memory as NoMemoryToLoad};
 
 use crate::life::Life;
 use crate::outcomes::{LoadCause, LoadRefusal};
@@ -23,34 +21,15 @@ use wk_memory::Memory;
 use wk_revs::Limits;
 use wk_tables::{Tables, broken};
 
-impl From<KeeperRefusal> for LoadCause {
-    ghost from_gives = { λ refusal cause. cause ≡ cause_of refusal };
-
-    fn from(refusal: KeeperRefusal) -> LoadCause {
-        match refusal {
-            KeeperRefusal::Failed => LoadCause::StoreFault,
-            KeeperRefusal::Memory => LoadCause::Memory,
-        }
-    }
-}
-
-impl From<Memory> for LoadCause {
-    ghost from_gives = { λ _ cause. cause ≡ NoMemoryToLoad };
-
-    fn from(_: Memory) -> LoadCause {
-        LoadCause::Memory
-    }
-}
-
 impl Life {
     /// A life that begins over these good tables.
     fn begin(alloc: Global, tables: &Tables, limits: Limits) -> Result<Life, Memory>
         requires good { IsGood tables.now.tables }
         requires within { AreWithinFull (most_held limits) }
-        ensures { IfOk result (λ life. Begins life.life (new_start (opened tables.now.tables) (most_held limits) false)) }
+        ensures begins { IfOk result (λ life. Begins life.life (new_start (opened tables.now.tables) (most_held limits) false)) }
         ensures state { IfOk result (λ life. life.life.state ≡ opened tables.now.tables) }
     {
-        let live = Live::load(tables)?;
+        let live = Live::load(alloc, tables)?;
         let kept = live.kept()?;
         Ok(Life {
             live,

@@ -1,7 +1,13 @@
 //! What the wiki's calls answer.
+ghost use Rattle.std.specs.Prelude.{◌≡◌};
+ghost use Rattle.wk_core.specs.Answers.{cause_of};
+ghost use Rattle.wk_core.specs.declared.outcomes.ClaimRefusal.TheVariants.{Memory as NoMemoryToClaim};
+ghost use Rattle.wk_core.specs.declared.outcomes.LoadCause.TheVariants.{Memory as NoMemoryToLoad};
 
 use thiserror::Error;
 use wk_expand::{Kind, SharedDraft};
+use wk_keeper::KeeperRefusal;
+use wk_memory::Memory;
 use wk_tables::BadStore;
 use wk_title::Title;
 
@@ -62,6 +68,25 @@ pub enum LoadCause {
     Memory,
 }
 
+impl From<KeeperRefusal> for LoadCause {
+    ghost from_gives = { λ refusal cause. cause ≡ cause_of refusal };
+
+    fn from(refusal: KeeperRefusal) -> LoadCause {
+        match refusal {
+            KeeperRefusal::Failed => LoadCause::StoreFault,
+            KeeperRefusal::Memory => LoadCause::Memory,
+        }
+    }
+}
+
+impl From<Memory> for LoadCause {
+    ghost from_gives = { λ _ cause. cause ≡ NoMemoryToLoad };
+
+    fn from(_: Memory) -> LoadCause {
+        LoadCause::Memory
+    }
+}
+
 /// Why no job was claimed.
 #[derive(Clone, Copy, Debug, PartialEq, Eq, Error)]
 pub enum ClaimRefusal {
@@ -71,6 +96,14 @@ pub enum ClaimRefusal {
     /// Memory ran out.
     #[error("out of memory")]
     Memory,
+}
+
+impl From<Memory> for ClaimRefusal {
+    ghost from_gives = { λ _ refusal. refusal ≡ NoMemoryToClaim };
+
+    fn from(_: Memory) -> ClaimRefusal {
+        ClaimRefusal::Memory
+    }
 }
 
 /// Why no fan job was served.
