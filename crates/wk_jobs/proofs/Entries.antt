@@ -1,10 +1,10 @@
 -- The refresh jobs as they are held: what a claim, a return and a removal do to the lists, and to the numbers by page.
-use Rattle.std.proofs.Common.{◌≡◌, ℕ, zero, suc, ◌+◌, ◌<◌, Bool, true, false, cond, eqb, ◌||◌, ◌&&◌, not, List, [], ◌∷◌, ◌++◌, length, map, get_or, Option, Some, None, refl, sym, ap, ◌∙◌, inl, inr, subst, arith}
+use Rattle.std.proofs.Common.{◌≡◌, ℕ, zero, suc, ◌+◌, ◌<◌, Bool, true, false, cond, eqb, ◌||◌, ◌&&◌, not, List, [], ◌∷◌, ◌++◌, length, map, take, get_or, Option, Some, None, refl, sym, ap, ◌∙◌, inl, inr, subst, arith}
 use Rattle.std.specs.Prelude.{find, is_some, option_map, count_by}
 use Rattle.std.specs.Option.{option_or}
 use Rattle.std.specs.List.{AllByRecursion, IsDistinct, list_any, remove}
 use Rattle.std.proofs.lemmas.Bool.{cases_Bool, or_parts, eqb-true}
-use Rattle.std.proofs.lemmas.List.{append_assoc, map-append}
+use Rattle.std.proofs.lemmas.List.{append_assoc, map-append, take_more}
 use Rattle.std.proofs.lemmas.List.Elements.{filter-append}
 use Rattle.std.proofs.lemmas.List.Folds.{list_any-append}
 use Rattle.std.proofs.lemmas.List.Sums.{sum_by-append}
@@ -313,3 +313,11 @@ job_of-queued [] qs page none = job_of-waiting qs page
 job_of-queued (c ∷ cs) qs page none =
     let parts = or_parts (eqb c.page page) (list_any (λ other. eqb other.page page) cs) none in
     rw parts.0 (job_of-queued cs qs page parts.1)
+
+-- ---- a list that is written
+
+pub listed-more : {X : Type 0} (entry : X → RefreshEntry) (jobs : List RefreshEntry) (xs : List X) (i : ℕ) (d : X) → i < length xs
+    → (jobs ++ map entry (take i xs)) ++ entry (get_or xs i d) ∷ [] ≡ jobs ++ map entry (take (i + 1) xs)
+listed-more entry jobs xs i d inside =
+    append_assoc jobs (map entry (take i xs)) (entry (get_or xs i d) ∷ [])
+    ∙ ap (λ l. jobs ++ l) (sym (ap (map entry) (take_more xs i d inside) ∙ map-append entry (take i xs) (get_or xs i d ∷ [])))

@@ -4,7 +4,7 @@ use Rattle.std.specs.Prelude.{bytes_eq, is_some, option_map, position}
 use Rattle.std.specs.List.{filter_map, fold, list_all, list_any}
 use Rattle.std.specs.Option.{IsSomeAnd, option_or}
 use Rattle.std.proofs.lemmas.Bool.{cases_Bool, and_parts, or_parts, not-true, both_ways, false_from_ne_true, eqb-true, leb-true, ltb-true}
-use Rattle.std.proofs.lemmas.List.{append-nil, length-map, map-append, take_more}
+use Rattle.std.proofs.lemmas.List.{append-nil, length-map, length-take-le, map-append, take_all, take_more}
 use Rattle.std.proofs.lemmas.List.Elements.{filter_map-append}
 use Rattle.std.proofs.lemmas.List.Quantifiers.{position-Some}
 use Rattle.std.proofs.lemmas.List.Sums.{fold-append}
@@ -82,7 +82,7 @@ number-more rows i row good there title =
     let before = take i rows in
     let pages = map page_of_row before in
     let inside : i < length rows = slice_get-within rows i row there in
-    let len : length pages ≡ i = length-map before page_of_row ∙ omega (arith, inside) in
+    let len : length pages ≡ i = length-map before page_of_row ∙ length-take-le i rows (omega arith) in
     let parts = and_parts (is_page_title row.page_title) (not (list_any (λ (earlier : PageColumns). title_eq earlier.page_title row.page_title) before)) (EachGood-at has_good_title rows i row good there) in
     let more : position (titled title) (map page_of_row (take (i + 1) rows)) ≡ option_or (position (titled title) pages) (cond (title_eq row.page_title title) (Some (length pages)) None) =
     ap (λ l. position (titled title) (map page_of_row l)) (take-next rows i row there)
@@ -104,7 +104,7 @@ pub page_id-fits : (rows : List PageColumns) (i : ℕ) (row : PageColumns) → E
 page_id-fits rows i row good there =
     let inside : i < length rows = slice_get-within rows i row there in
     let parts = and_parts (eqb row.page_id (length (take i rows) + 1)) (leb row.page_id max_pages) (EachGood-at has_good_id rows i row good there) in
-    (eqb-true row.page_id (length (take i rows) + 1) parts.0 ∙ omega (arith, inside), leb-true row.page_id max_pages parts.1)
+    (eqb-true row.page_id (length (take i rows) + 1) parts.0 ∙ ap (λ n. n + 1) (length-take-le i rows (omega arith)), leb-true row.page_id max_pages parts.1)
 
 -- ---- the numbers of jobs
 
@@ -282,7 +282,7 @@ module _ (tables : StoreTables) (good : IsGood tables) (i : ℕ) (row : JobColum
 
   by-params : bytes_eq row.job_cmd refresh_cmd ≡ false → (page : Option ℕ) (o : Option FanParams) → fan_params row.job_params ≡ o → CanBeFan row (jobs_so_far tables i)
       → with_row page row (jobs_so_far tables i) ≡ jobs_so_far tables (i + 1)
-  by-params other page None is can = absurd (let e : false ≡ true = rw is at can.params in cc)
+  by-params other page None is can = absurd (let e : false ≡ true = rw (is, is_fan_params) at can.params in cc)
   by-params other page (Some params) is can =
       let job : FanEntry = record { number = row.job_id; title = row.job_title; reach = params.reach; cursor = params.cursor } in
       let fan : bytes_eq row.job_cmd fan_cmd ≡ true = (bytes_eq-Decides row.job_cmd fan_cmd).1 can.cmd in
@@ -298,6 +298,5 @@ module _ (tables : StoreTables) (good : IsGood tables) (i : ℕ) (row : JobColum
   ]
 
 -- all rows were read
-pub all-rows : (tables : StoreTables) (rows : List JobColumns) (lists : JobLists) → rows ≡ tables.jobs → lists ≡ jobs_so_far tables (length rows) → lists ≡ jobs_of_tables tables
-all-rows tables rows lists same so_far =
-    so_far ∙ ap (λ n. jobs_so_far tables n) (ap length same) ∙ ap (λ l. jobs_of_tables (record tables { jobs = l })) (take_all (length tables.jobs) tables.jobs (omega arith))
+pub all-rows : (tables : StoreTables) (rows : List JobColumns) (i : ℕ) (lists : JobLists) → rows ≡ tables.jobs → length rows ≤ i → lists ≡ jobs_so_far tables i → lists ≡ jobs_of_tables tables
+all-rows tables rows i lists same past so_far = so_far ∙ ap (λ l. jobs_of_tables (record tables { jobs = l })) (take_all i tables.jobs (subst (λ l. length l ≤ i) same past))
