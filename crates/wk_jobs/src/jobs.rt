@@ -137,6 +137,13 @@ impl Jobs {
         Ok(())
     }
 
+    /// The page of the first refresh job that is queued; `None` exactly where none is. Takes no memory.
+    pub fn first_queued(&self) -> Option<u32>
+        ensures { result ≡ first_queued self.now.lists }
+    {
+        self.refreshes.first_queued()
+    }
+
     /// Claims the first refresh job that is queued, by the ticket of this number, and tells its page; `None` exactly
     /// where no refresh job is queued. Takes no memory.
     pub fn claim_first(&mut self, ticket: u64) -> Option<u32>

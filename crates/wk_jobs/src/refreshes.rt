@@ -279,6 +279,16 @@ impl Refreshes {
         self.spare -= 1;
     }
 
+    /// The page of the first job that is queued. Takes no memory.
+    pub fn first_queued(&self) -> Option<u32>
+        ensures { result ≡ option_map (λ job. job.page) (find is_queued self.now.jobs) }
+    {
+        match self.queued.front() {
+            Some(job) => Some(job.page),
+            None => None,
+        }
+    }
+
     /// Claims the first job that is queued, by the ticket, and tells its page. Takes no memory.
     pub fn claim_first(&mut self, ticket: u64) -> Option<u32>
         ensures page { result ≡ option_map (λ job. job.page) (find is_queued self.old.jobs) }

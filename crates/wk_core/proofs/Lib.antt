@@ -1,0 +1,6 @@
+pub mod FanFacts
+pub mod HeldLives
+pub mod LoadFacts
+pub mod RefreshFacts
+pub mod SaveFacts
+pub mod WikiSteps
