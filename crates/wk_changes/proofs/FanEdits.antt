@@ -39,19 +39,21 @@ module _ (stored : List PageRows) (lists : JobLists) (title : PageTitle) (reach 
   pub unwanted : (has_fan lists title || some_page_names stored title reach) ≡ false → fan_edits stored lists title reach ≡ []
   unwanted none =
       let parts = or_parts (has_fan lists title) (some_page_names stored title reach) none in
-      rw (find-none is_its lists.fans parts.0, parts.1) refl
+      let none_is : find is_its lists.fans ≡ None = find-none is_its lists.fans parts.0 in
+      let no_page : some_page_names stored title reach ≡ false = parts.1 in
+      rw (none_is, fan_edits) (rw no_page refl)
 
   pub found : (fan : FanEntry) → find is_its lists.fans ≡ Some fan → fan_edits stored lists title reach ≡ set_job (row_of_fan (record fan { reach = wider fan.reach reach; cursor = 0 })) ∷ []
   found fan is =
       let own : is_its fan ≡ true = (find-passes is_its lists.fans fan is).0 in
-      rw (is, own) refl
+      rw (is, fan_edits) (rw own refl)
 
   pub added : find is_its lists.fans ≡ None → (has_fan lists title || some_page_names stored title reach) ≡ true
       → fan_edits stored lists title reach ≡ add_job (row_of_fan (record { number = lists.next; title = title; reach = reach; cursor = 0 })) ∷ []
   added none wanted =
       let alone : has_fan lists title ≡ false = none-found is_its lists.fans none in
       let some : some_page_names stored title reach ≡ true = rw alone at wanted in
-      rw (none, some) refl
+      rw (none, fan_edits) (rw some refl)
 
 -- ---- a page without rows names no title
 
@@ -94,3 +96,25 @@ save-is state title text moment first second refresh fan one two three four =
     let two-first = add_revision (saved_revision state.history title text moment) ∷ set_page (saved_page state.history title text) ∷ [] in
     ap (λ edits. edits ++ fan) (two ∙ ap (λ edits. edits ++ refresh) one)
     ∙ (append_assoc two-first refresh fan ∙ ap₂ (λ (a b : List TableEdit). two-first ++ (a ++ b)) three four)
+
+-- the same, where the page, the reach and whether a fan job is wanted are told
+module _ (state : State) (title : PageTitle) (text : Option (List ℕ)) (page : ℕ) (reach : Reach) (wants : Bool) where
+  -- what the edits of the fan job are, whatever is stored, for lists with these fan jobs and this next number
+  abbrev pub AreFanEdits : List TableEdit → Type 0
+  AreFanEdits fan = (stored : List PageRows) (lists : JobLists) → lists.fans ≡ state.jobs.fans → lists.next ≡ (refresh_queued state.jobs page).next
+      → wants ≡ (has_fan lists title || some_page_names stored title reach) → fan ≡ fan_edits stored lists title reach
+
+  pub save-by : (moment : ℕ) (first second refresh fan : List TableEdit)
+      → page ≡ page_to_save state.history title → reach ≡ reach_of_save (page_exists state.history title) (is_some text) → wants ≡ is_fan_wanted state title text
+      → first ≡ add_revision (saved_revision state.history title text moment) ∷ set_page (saved_page state.history title text) ∷ []
+      → second ≡ first ++ refresh → refresh ≡ refresh_edits state.jobs page title → AreFanEdits fan
+      → second ++ fan ≡ save_change state title text moment
+  save-by moment first second refresh fan page_is reach_is wants_is one two three four =
+      let stored = stored_with state title in
+      let queued = refresh_queued state.jobs page in
+      let wanted : wants ≡ (has_fan queued title || some_page_names stored title reach) =
+      wants_is ∙ (wanted-is state title text page ∙ ap (λ (r : Reach). has_fan queued title || some_page_names stored title r) (sym reach_is)) in
+      save-is state title text moment first second refresh fan one two
+      (three ∙ ap (λ (p : ℕ). refresh_edits state.jobs p title) page_is)
+      (four stored queued (queued-fans state.jobs page) refl wanted
+      ∙ ap₂ (λ (p : ℕ) (r : Reach). fan_edits stored (refresh_queued state.jobs p) title r) page_is reach_is)

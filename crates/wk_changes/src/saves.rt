@@ -2,6 +2,7 @@
 ghost use Rattle.std.specs.Prelude.{◌≡◌, ℕ, ◌+◌, ◌<◌, ◌^◌, ◌++◌, ◌∷◌, ◌||◌, [], not, map, is_some, List, true, IfOk, OnOk};
 ghost use Rattle.std.specs.Option.{option_copied, option_to_list};
 ghost use Rattle.wk_row_rules.specs.PageRows.{PageRows};
+ghost use Rattle.wk_table_rules.specs.Changes.{add_revision, set_page};
 ghost use Rattle.wk_job_rules.specs.Jobs.{JobLists, has_fan, refresh_queued, wider};
 ghost use Rattle.wk_job_rules.specs.Steps.{reach_of_save};
 ghost use Rattle.wk_job_rules.specs.Users.{some_page_names};
@@ -49,6 +50,25 @@ fn saved_page(revs: &Revs, title: &Title, text: Option<&Text>) -> Result<PageRow
         0
     };
     page_row(page, title, latest, text)
+}
+
+/// The edits of the revision and of the page.
+fn page_edits(
+    alloc: Global,
+    revs: &Revs,
+    title: &Title,
+    text: Option<&Text>,
+    moment: u64,
+) -> Result<Vec<RowEdit>, Memory>
+    ensures { IfOk result (λ edits. map edit_of edits.items ≡ add_revision (saved_revision revs.now.history title.now (option_copied text.entry) moment)
+        ∷ set_page (saved_page revs.now.history title.now (option_copied text.entry)) ∷ []) }
+{
+    let revision = saved_revision(alloc, revs, title, text, moment)?;
+    let page = saved_page(revs, title, text)?;
+    let mut edits = Vec::with_capacity(alloc, 4)?;
+    edits.push(RowEdit::AddRevision(revision))?;
+    edits.push(RowEdit::SetPage(page))?;
+    Ok(edits)
 }
 
 /// Whether the save reaches the pages that test for the title's existence.
@@ -172,21 +192,12 @@ pub fn save_change(
 {
     let page = revs.page_to_save(title);
     let reach = reach_of_save(revs.current(title) != 0, text.is_some());
-    let refresh = refresh_edit(alloc, jobs, page, title)?;
-    let fan = fan_edit(
-        alloc,
-        jobs,
-        number_behind(jobs, page),
-        title,
-        reach,
-        wants_fan,
+    let number = number_behind(jobs, page);
+    let mut edits = page_edits(alloc, revs, title, text, moment)?;
+    push_some(&mut edits, refresh_edit(alloc, jobs, page, title)?)?;
+    push_some(
+        &mut edits,
+        fan_edit(alloc, jobs, number, title, reach, wants_fan)?,
     )?;
-    let revision = saved_revision(alloc, revs, title, text, moment)?;
-    let row = saved_page(revs, title, text)?;
-    let mut edits = Vec::with_capacity(alloc, 4)?;
-    edits.push(RowEdit::AddRevision(revision))?;
-    edits.push(RowEdit::SetPage(row))?;
-    push_some(&mut edits, refresh)?;
-    push_some(&mut edits, fan)?;
     Ok(Change { edits })
 }

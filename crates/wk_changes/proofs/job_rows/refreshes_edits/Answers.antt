@@ -26,7 +26,7 @@ loop-page-preserved c =
     let page = get_or pages i 0 in
     record {
       edits = c.in_ok-number.ensures.edits done (sym c.loop-page.invariant.number) (has-kept t lists pages i 0 within c.requires.rising)
-      ∙ (ap (λ (edits : List TableEdit). edits ++ refresh_edits done page (t page)) c.loop-page.invariant.edits ∙ sym (edits-more t lists pages i 0 within));
+          ∙ (ap (λ (edits : List TableEdit). edits ++ refresh_edits done page (t page)) c.loop-page.invariant.edits ∙ sym (edits-more t lists pages i 0 within));
       number = c.in_ok-number.ensures.number done (sym c.loop-page.invariant.number) (has-kept t lists pages i 0 within c.requires.rising)
-      ∙ ap (λ (queued : JobLists). queued.next) (sym (queued-more t lists pages i 0 within));
+          ∙ ap (λ (queued : JobLists). queued.next) (sym (queued-more t lists pages i 0 within));
     }

@@ -1,6 +1,5 @@
-use Rattle.std.proofs.Common.{◌≡◌, ℕ, ◌∷◌, [], Bool, true, false, not, List, Option, Some, None, refl, sym, ap, ◌∙◌, rules}
+use Rattle.std.proofs.Common.{◌≡◌, ℕ, ◌∷◌, [], List, Option, Some, None, sym, ap, ◌∙◌, rules}
 use Rattle.std.specs.Prelude.{find}
-use Rattle.std.proofs.lemmas.Bool.{not-false}
 use Rattle.wk_text_rules.specs.Titles.{PageTitle, title_eq}
 use Rattle.wk_table_rules.specs.Rows.{JobColumns}
 use Rattle.wk_table_rules.specs.Changes.{add_job, set_job}
@@ -9,16 +8,12 @@ use Rattle.wk_wiki_rules.specs.TableChanges.{row_of_fan}
 use Rattle.wk_changes.proofs.FanEdits.{unwanted, found, added}
 use Rattle.wk_changes.proofs.saves.fan_edit.Goals as goal
 
-unset : (b : Bool) → not b ≡ true → b ≡ false
-unset true e = absurd (let no : false ≡ true = e in cc)
-unset false e = refl
-
 found-in : (title : PageTitle) (xs ys : List FanEntry) → xs ≡ ys → find (λ (fan : FanEntry). title_eq fan.title title) xs ≡ find (λ (fan : FanEntry). title_eq fan.title title) ys
 found-in title xs ys same = ap (find (λ (fan : FanEntry). title_eq fan.title title)) same
 
 pub returns-then-not-is_wanted : goal.returns-then-not-is_wanted
 returns-then-not-is_wanted c stored lists fans next wanted =
-    sym (unwanted stored lists c.args.title.now c.args.reach (sym wanted ∙ unset c.args.is_wanted c.if-not-is_wanted.true))
+    sym (unwanted stored lists c.args.title.now c.args.reach (sym wanted ∙ c.if-not-is_wanted.true))
 
 pub returns-in_ok-row_of_fan-in-Some : goal.returns-in_ok-row_of_fan-in-Some
 returns-in_ok-row_of_fan-in-Some c stored lists fans next wanted =
@@ -33,4 +28,4 @@ returns-in_ok-row_of_fan-in-None c stored lists fans next wanted =
     let none = found-in c.args.title.now lists.fans c.args.jobs.now.lists.fans fans ∙ sym c.in-None.ensures in
     ap (λ (row : JobColumns). add_job row ∷ []) row
     ∙ (ap (λ (number : ℕ). add_job (row_of_fan (record { number = number; title = c.args.title.now; reach = c.args.reach; cursor = 0 })) ∷ []) (sym next)
-    ∙ sym (added stored lists c.args.title.now c.args.reach none (sym wanted ∙ not-false c.args.is_wanted c.if-not-is_wanted.false)))
+    ∙ sym (added stored lists c.args.title.now c.args.reach none (sym wanted ∙ c.if-not-is_wanted.false)))
