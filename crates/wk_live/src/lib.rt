@@ -11,8 +11,6 @@ mod load;
 mod reads;
 mod refreshes;
 mod saves;
-#[cfg(test)]
-mod tests;
 
 pub use kept::Kept;
 pub use laws::{a_held_page_is_claimed, stale_reads_are_those_of_the_rules};
