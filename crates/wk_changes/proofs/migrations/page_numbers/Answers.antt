@@ -1,5 +1,4 @@
-use Rattle.std.proofs.Common.{◌≡◌, ℕ, ◌+◌, ◌++◌, ◌∷◌, [], List, ap, ap₂, sym, ◌∙◌, arith}
-use Rattle.std.specs.List.{range_with_len}
+use Rattle.std.proofs.Common.{◌≡◌, ℕ, ◌+◌, ◌++◌, ◌∷◌, [], List, ap₂, sym, ◌∙◌, arith}
 use Rattle.wk_changes.proofs.RefreshEdits.{numbers-more}
 use Rattle.wk_changes.proofs.migrations.page_numbers.Goals as goal
 

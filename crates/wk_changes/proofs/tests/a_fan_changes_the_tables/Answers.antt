@@ -1,5 +1,4 @@
-use Rattle.std.proofs.Common.{◌≡◌, List, sym, ap, ◌∙◌}
-use Rattle.wk_row_rules.specs.PageRows.{PageRows}
+use Rattle.std.proofs.Common.{sym, ap, ◌∙◌}
 use Rattle.wk_job_rules.specs.Steps.{fan_pages, next_served}
 use Rattle.wk_index.specs.Held.{Held}
 use Rattle.wk_changes.specs.Parts.{are_last}
