@@ -1,5 +1,5 @@
 -- The change of a fan, by the pages that it serves.
-use Rattle.std.proofs.Common.{◌≡◌, ℕ, zero, suc, ◌≤◌, ◌<◌, Bool, cond, List, [], ◌∷◌, ◌++◌, length, take, refl, sym, ap, ap₂, ◌∙◌, subst, arith}
+use Rattle.std.proofs.Common.{◌≡◌, ℕ, zero, suc, ◌≤◌, ◌<◌, Bool, true, cond, eqb, List, [], ◌∷◌, ◌++◌, length, take, refl, sym, ap, ap₂, ◌∙◌, subst, arith}
 use Rattle.std.specs.Prelude.{AllPairs}
 use Rattle.wk_text_rules.specs.Titles.{PageTitle}
 use Rattle.wk_row_rules.specs.declared.Reach.{Reach}
@@ -22,6 +22,16 @@ taken-few (suc most) (x ∷ xs) = let later = taken-few most xs in omega (arith,
 pub users-few : (stored : List PageRows) (title : PageTitle) (reach : Reach) (above most : ℕ) → length (users stored title reach above most) ≤ most
 unfolding users
 users-few stored title reach above most = taken-few most _
+
+-- where nothing is stored, no page names a title
+pub no-users : (title : PageTitle) (reach : Reach) (above most : ℕ) → users [] title reach above most ≡ []
+unfolding users
+no-users title reach above zero = refl
+no-users title reach above (suc most) = refl
+
+pub last-of-none : (most : ℕ) (fan : FanEntry) → are_last [] most fan ≡ true
+last-of-none most fan =
+    ap (λ (pages : List ℕ). eqb (length pages) 0) (no-users fan.title fan.reach (cursor_behind (next_served [] most fan) fan.cursor) 1)
 
 module _ (state : State) (most : ℕ) (fan : FanEntry) (served : List ℕ) (same : served ≡ next_served state.stored most fan) where
   pub served-rise : AllPairs (λ (a b : ℕ). a < b) served

@@ -1,5 +1,5 @@
 -- The edits of the fan job of a save.
-use Rattle.std.proofs.Common.{◌≡◌, ℕ, true, false, ◌||◌, List, [], ◌∷◌, ◌++◌, Option, Some, None, is_some, refl, sym, ap, ap₂, ◌∙◌, inl, inr, arith}
+use Rattle.std.proofs.Common.{◌≡◌, ℕ, true, false, ◌||◌, List, [], ◌∷◌, ◌++◌, Option, Some, None, is_some, refl, sym, ap, ap₂, ◌∙◌, inl, inr}
 use Rattle.std.specs.Prelude.{Bool, find}
 use Rattle.std.specs.List.{list_any}
 use Rattle.std.proofs.Math.Bool.{or-false}
@@ -13,7 +13,7 @@ use Rattle.wk_row_rules.specs.declared.Reach.TheVariants.{Text, Both}
 use Rattle.wk_row_rules.specs.PageRows.{PageRows, no_rows, names}
 use Rattle.wk_table_rules.specs.Changes.{TableEdit, add_job, add_revision, set_job, set_page}
 use Rattle.wk_table_laws.proofs.SavedPages.{find-passes}
-use Rattle.wk_job_rules.specs.Jobs.{FanEntry, JobLists, has_fan, has_refresh, refresh_queued, set_anew, wider}
+use Rattle.wk_job_rules.specs.Jobs.{FanEntry, JobLists, has_fan, has_refresh, refresh_queued, wider}
 use Rattle.wk_job_rules.specs.Steps.{reach_of_save}
 use Rattle.wk_job_rules.specs.Users.{some_page_names}
 use Rattle.wk_state_rules.specs.States.{State}

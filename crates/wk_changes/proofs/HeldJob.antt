@@ -1,5 +1,5 @@
 -- The job that is claimed by a ticket is the one that is found by its page.
-use Rattle.std.proofs.Common.{◌≡◌, ℕ, true, false, eqb, List, [], ◌∷◌, map, Option, Some, None, IsSome, is_some, refl, sym, ap, ◌∙◌, inl, inr, subst, arith}
+use Rattle.std.proofs.Common.{◌≡◌, ℕ, true, false, eqb, List, [], ◌∷◌, map, Some, None, IsSome, is_some, refl, ap, inl, inr, subst}
 use Rattle.std.specs.Prelude.{Bool, find}
 use Rattle.std.specs.List.{AllByRecursion, IsDistinct, list_any}
 use Rattle.std.proofs.lemmas.Bool.{cases_Bool, eq-eqb}

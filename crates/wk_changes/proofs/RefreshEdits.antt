@@ -1,5 +1,5 @@
 -- The edits that queue refresh jobs of pages, one page more at a time.
-use Rattle.std.proofs.Common.{◌≡◌, ℕ, zero, suc, ◌+◌, ◌≤◌, ◌<◌, false, eqb, ◌||◌, List, [], ◌∷◌, ◌++◌, length, take, get_or, refl, sym, ap, ◌∙◌, inl, inr, subst, arith}
+use Rattle.std.proofs.Common.{◌≡◌, ℕ, zero, suc, ◌+◌, ◌≤◌, ◌<◌, false, eqb, ◌||◌, List, [], ◌∷◌, ◌++◌, length, take, get_or, refl, sym, ap, ◌∙◌, inl, inr, arith}
 use Rattle.std.specs.Prelude.{AllPairs}
 use Rattle.std.specs.List.{AllByRecursion, range_with_len}
 use Rattle.std.proofs.Math.Bool.{or-false}
@@ -90,3 +90,12 @@ numbers-rise a n i j d before inside =
     let high : j < n = omega (arith, inside, len) in
     let low : i < n = omega (arith, before, high) in
     rw (get_or-range_with_len a n i d low, get_or-range_with_len a n j d high) (omega (arith, before))
+
+numbers-push : (a n : ℕ) → range_with_len a (suc n) ≡ range_with_len a n ++ (a + n) ∷ []
+numbers-push a zero = let same : a ≡ a + 0 = omega arith in ap (λ (k : ℕ). k ∷ []) same
+numbers-push a (suc n) =
+    let same : a + 1 + n ≡ a + suc n = omega arith in
+    ap (λ (ns : List ℕ). a ∷ ns) (numbers-push (a + 1) n ∙ ap (λ (k : ℕ). range_with_len (a + 1) n ++ k ∷ []) same)
+
+pub numbers-more : (a n : ℕ) → range_with_len a (n + 1) ≡ range_with_len a n ++ (a + n) ∷ []
+numbers-more a n = let one : n + 1 ≡ suc n = omega arith in ap (range_with_len a) one ∙ numbers-push a n

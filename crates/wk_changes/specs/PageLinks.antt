@@ -1,5 +1,5 @@
 -- The rows that the pages of a wiki have in the link tables and in the redirect table.
-use Rattle.std.specs.Prelude.{ℕ, List, ◌++◌, map}
+use Rattle.std.specs.Prelude.{List, ◌++◌, map}
 use Rattle.std.specs.Option.{option_to_list}
 use Rattle.wk_page_rules.specs.History.{History}
 use Rattle.wk_row_rules.specs.PageRows.{PageRows}

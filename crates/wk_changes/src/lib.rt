@@ -10,6 +10,8 @@ mod migrations;
 mod refreshes;
 mod rows;
 mod saves;
+#[cfg(test)]
+mod tests;
 
 pub use all_tables::tables;
 pub use fans::fan_change;

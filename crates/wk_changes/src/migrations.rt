@@ -20,7 +20,10 @@ fn page_numbers(alloc: Global, count: usize) -> Result<Vec<u32>, Memory>
     requires { count ≤ max_pages }
     ensures { IfOk result (λ pages. pages.items ≡ range_with_len 1 count) }
 {
-    let pages: Vec<u32> = (1..count as u32 + 1).collect(alloc)?;
+    let mut pages = Vec::with_capacity(alloc, count)?;
+    for place in 0..count {
+        pages.push(place as u32 + 1)?;
+    }
     Ok(pages)
 }
 

@@ -1,4 +1,4 @@
-use Rattle.std.proofs.Common.{◌≡◌, ◌<◌, length, ◌∙◌, arith}
+use Rattle.std.proofs.Common.{◌<◌, length, ◌∙◌, arith}
 use Rattle.wk_state_rules.specs.Tables.{page_row}
 use Rattle.wk_changes.proofs.NumberedRows.{push-row}
 use Rattle.wk_changes.proofs.all_tables.page_rows.Goals as goal

@@ -1,4 +1,4 @@
-use Rattle.std.proofs.Common.{ℕ, ◌≡◌, Option, Some, None, unwrap_or, ap, sym, ◌∙◌}
+use Rattle.std.proofs.Common.{ℕ, Option, None, unwrap_or, ap, sym}
 use Rattle.wk_changes.proofs.Served.{last-got}
 use Rattle.wk_changes.proofs.fans.cursor_behind.Goals as goal
 

@@ -1,4 +1,4 @@
-use Rattle.std.proofs.Common.{◌≡◌, ◌≤◌, take, length}
+use Rattle.std.proofs.Common.{◌≡◌, take}
 use Rattle.wk_changes.specs.PageLinks.{lists_of_pages}
 use Rattle.wk_changes.proofs.links.LinkTables.of_pages.Given as goal
 
