@@ -1,0 +1,47 @@
+//! Titles in replies, and lists of values.
+ghost use Rattle.std.specs.Prelude.{◌≡◌, IfOk, string_bytes, map};
+ghost use Rattle.serde_json.specs.View.{view};
+ghost use Rattle.wk_text_rules.specs.Titles.{shown};
+ghost use Rattle.wk_answer_rules.specs.Values.{object_of, title_entries, titles_value, array_of};
+
+use serde_json::{Value, json};
+use std::alloc::Global;
+use wk_memory::Memory;
+use wk_title::Title;
+
+/// The shown form of a title.
+pub fn shown_text(alloc: Global, title: &Title) -> Result<String, Memory>
+    ensures { IfOk result (λ text. string_bytes text ≡ shown title.now) }
+{
+    let mut text = String::new(alloc);
+    wk_title::shown(title, &mut text)?;
+    Ok(text)
+}
+
+/// A title: its namespace and its shown form.
+pub fn title_value(alloc: Global, title: &Title) -> Result<Value, Memory>
+    ensures { IfOk result (λ v. view v ≡ object_of (title_entries title.now)) }
+{
+    let ns = i64::from(title.ns());
+    let text = shown_text(alloc, title)?;
+    Ok(json!(in alloc; {"ns": ns, "title": &text})?)
+}
+
+/// The array of these values.
+#[tactic(auto, using(crate::proofs::Arrays::array_view))]
+pub fn array_value(values: Vec<Value>) -> Value
+    ensures { view result ≡ array_of (map view values.items) }
+{
+    Value::Array(values)
+}
+
+/// A list of titles.
+pub fn titles_value(alloc: Global, titles: &[Title]) -> Result<Value, Memory>
+    ensures { IfOk result (λ v. view v ≡ titles_value titles.now) }
+{
+    let mut values = Vec::new(alloc);
+    for title in titles {
+        values.push(title_value(alloc, title)?)?;
+    }
+    Ok(array_value(values))
+}
