@@ -1,0 +1,85 @@
+//! What is told of a save (MediaWiki's API:Edit and API:Delete; that the revision before is told of both is own).
+ghost use Rattle.std.specs.Prelude.{◌≡◌, IfOk};
+ghost use Rattle.serde_json.specs.View.{view};
+ghost use Rattle.wk_wiki_rules.specs.SaveOutcomes.{changed, created, unchanged};
+ghost use Rattle.wk_answer_rules.specs.Saves.{delete_entries, edit_entries};
+ghost use Rattle.wk_answer_rules.specs.Values.{reply_beside};
+ghost use Rattle.wk_replies.specs.Shown.{numbers_of};
+
+use crate::values::shown_text;
+use serde_json::{Value, json};
+use std::alloc::Global;
+use wk_memory::Memory;
+use wk_title::Title;
+
+/// The numbers of a save.
+#[derive(Clone, Copy, Debug)]
+pub struct SavedNumbers {
+    /// The page's number.
+    pub page: u32,
+    /// The current revision before the save, 0 where the page was missing.
+    pub old: u64,
+    /// The revision that was made.
+    pub new: u64,
+}
+
+/// An edit of a page that was missing.
+pub fn created(
+    alloc: Global,
+    title: &Title,
+    numbers: SavedNumbers,
+    point: u64,
+) -> Result<Value, Memory>
+    ensures { IfOk result (λ v. view v ≡ (reply_beside (edit_entries (created title.now (numbers_of numbers))) point).value) }
+{
+    let title = shown_text(alloc, title)?;
+    let SavedNumbers { page, old, new } = numbers;
+    let page = u64::from(page);
+    Ok(
+        json!(in alloc; {"edit": {"new": true, "newrevid": new, "oldrevid": old, "pageid": page, "result": "Success", "title": &title}, "point": point})?,
+    )
+}
+
+/// An edit of a page that existed.
+pub fn changed(
+    alloc: Global,
+    title: &Title,
+    numbers: SavedNumbers,
+    point: u64,
+) -> Result<Value, Memory>
+    ensures { IfOk result (λ v. view v ≡ (reply_beside (edit_entries (changed title.now (numbers_of numbers))) point).value) }
+{
+    let title = shown_text(alloc, title)?;
+    let SavedNumbers { page, old, new } = numbers;
+    let page = u64::from(page);
+    Ok(
+        json!(in alloc; {"edit": {"newrevid": new, "oldrevid": old, "pageid": page, "result": "Success", "title": &title}, "point": point})?,
+    )
+}
+
+/// An edit by a text that the page has already.
+pub fn unchanged(alloc: Global, title: &Title, page: u32, point: u64) -> Result<Value, Memory>
+    ensures { IfOk result (λ v. view v ≡ (reply_beside (edit_entries (unchanged title.now page)) point).value) }
+{
+    let title = shown_text(alloc, title)?;
+    let page = u64::from(page);
+    Ok(
+        json!(in alloc; {"edit": {"nochange": true, "pageid": page, "result": "Success", "title": &title}, "point": point})?,
+    )
+}
+
+/// A deletion of a page, which existed.
+pub fn deleted(
+    alloc: Global,
+    title: &Title,
+    numbers: SavedNumbers,
+    point: u64,
+) -> Result<Value, Memory>
+    ensures { IfOk result (λ v. view v ≡ (reply_beside (delete_entries (changed title.now (numbers_of numbers))) point).value) }
+{
+    let title = shown_text(alloc, title)?;
+    let SavedNumbers { page: _, old, new } = numbers;
+    Ok(
+        json!(in alloc; {"delete": {"oldrevid": old, "revid": new, "title": &title}, "point": point})?,
+    )
+}
