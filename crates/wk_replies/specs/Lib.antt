@@ -1,4 +1,5 @@
 pub mod Counted
+pub mod Listed
 pub mod Members
 pub mod Shown
 pub use Rattle.wk_answer_rules.specs.Values

@@ -2,6 +2,7 @@
 #![tactic(auto)]
 
 mod errors;
+mod lists;
 mod members;
 mod pages;
 mod saves;
@@ -11,7 +12,8 @@ mod values;
 pub use errors::{
     bad_integer, bad_value, edit_conflict, error_reply, future_point, no_title, wiki_full,
 };
+pub use lists::{change_entry, listed, member_entry, page_entry, revision_entry};
 pub use pages::{PageShown, expanded, parsed};
 pub use saves::{SavedNumbers, changed, created, deleted, unchanged};
 pub use site::{Counts, site_info, tokens};
-pub use values::{title_value, titles_value};
+pub use values::{array_value, title_value, titles_value};

@@ -1,5 +1,5 @@
 //! The members of an object, which come in the order of their keys.
-ghost use Rattle.std.specs.Prelude.{◌≡◌, OnOk};
+ghost use Rattle.std.specs.Prelude.{◌≡◌, OnOk, true};
 ghost use Rattle.serde_json.specs.Data.{boolean, put as with_member, string};
 ghost use Rattle.serde_json.specs.View.{members_view, view};
 ghost use Rattle.wk_answer_rules.specs.Values.{whole};
@@ -43,4 +43,11 @@ pub fn put_text(
     ensures { OnOk result (members_view members.new.entries ≡ with_member key.now (string text.now) (members_view members.old.entries)) }
 {
     put(alloc, members, key, text.to_value(alloc)?)
+}
+
+/// Puts `true` under the key.
+pub fn put_flag(alloc: Global, members: &mut Map<String, Value>, key: &str) -> Result<(), Memory>
+    ensures { OnOk result (members_view members.new.entries ≡ with_member key.now (boolean true) (members_view members.old.entries)) }
+{
+    put(alloc, members, key, Value::Bool(true))
 }

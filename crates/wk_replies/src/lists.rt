@@ -1,0 +1,199 @@
+//! Listings (MediaWiki's API:Backlinks, API:Embeddedin, API:Categorymembers, API:RecentChanges and API:Revisions; what a
+//! listing goes on by is own).
+ghost use Rattle.std.specs.Prelude.{◌≡◌, ◌∷◌, [], IfOk, OnOk, unwrap_or};
+ghost use Rattle.serde_json.specs.View.{members_view, view};
+ghost use Rattle.wk_answer_rules.specs.Lists.{change_type, content_entries, continue_entries, deleted_entries, revision_entries};
+ghost use Rattle.wk_answer_rules.specs.Values.{object_of, reply_beside};
+ghost use Rattle.wk_replies.specs.Listed.{change_shown, first_of_revision, listed_entries, member_shown, page_shown};
+ghost use Rattle.wk_replies.specs.Members.{with_entries};
+
+use crate::members::{put, put_flag, put_number, put_text};
+use crate::values::shown_text;
+use serde_json::{Map, Value, json};
+use std::alloc::Global;
+use wk_index::MemberPage;
+use wk_memory::Memory;
+use wk_revs::Revision;
+use wk_title::Title;
+
+/// Puts a page's number and title.
+fn put_page(
+    alloc: Global,
+    members: &mut Map<String, Value>,
+    page: u32,
+    title: &Title,
+) -> Result<(), Memory>
+    ensures { OnOk result (members_view members.new.entries
+        ≡ with_entries (members_view members.old.entries) (page_shown page title.now)) }
+{
+    put_number(alloc, members, "pageid", u64::from(page))?;
+    let ns = i64::from(title.ns());
+    put(alloc, members, "ns", json!(in alloc; ns)?)?;
+    let text = shown_text(alloc, title)?;
+    put_text(alloc, members, "title", &text)
+}
+
+/// A page: its number and its title.
+pub fn page_entry(alloc: Global, page: u32, title: &Title) -> Result<Value, Memory>
+    ensures { IfOk result (λ v. view v ≡ object_of (page_shown page title.now)) }
+{
+    let mut members = Map::new(alloc);
+    put_page(alloc, &mut members, page, title)?;
+    Ok(Value::Object(members))
+}
+
+/// A member of a category, whose page has this title: the prefix, and the page.
+pub fn member_entry(alloc: Global, member: &MemberPage, title: &Title) -> Result<Value, Memory>
+    ensures { IfOk result (λ v. view v ≡ object_of (member_shown member.now title.now)) }
+{
+    let mut members = Map::new(alloc);
+    put_text(alloc, &mut members, "sortkeyprefix", member.prefix.as_str())?;
+    put_page(alloc, &mut members, member.page, title)?;
+    Ok(Value::Object(members))
+}
+
+/// What a revision does: a deletion has no text, and a page that was missing is new.
+fn change_type(revision: &Revision) -> &'static str
+    ensures { result.now ≡ change_type revision.now }
+{
+    if revision.text().is_none() {
+        "delete"
+    } else if revision.parent() == 0 {
+        "new"
+    } else {
+        "edit"
+    }
+}
+
+/// A change: the revision with this number, of a page with this title.
+pub fn change_entry(
+    alloc: Global,
+    number: u64,
+    revision: &Revision,
+    title: &Title,
+) -> Result<Value, Memory>
+    ensures { IfOk result (λ v. view v ≡ object_of (change_shown number revision.now title.now)) }
+{
+    let mut members = Map::new(alloc);
+    put_number(alloc, &mut members, "oldrevid", revision.parent())?;
+    put_number(alloc, &mut members, "revid", number)?;
+    put_number(alloc, &mut members, "timestamp", revision.moment())?;
+    put_text(alloc, &mut members, "type", change_type(revision))?;
+    put_page(alloc, &mut members, revision.page(), title)?;
+    Ok(Value::Object(members))
+}
+
+/// The text of a revision, empty where it is a deletion.
+fn text_or_empty(revision: &Revision) -> &str
+    ensures { result.now ≡ unwrap_or revision.now.text [] }
+{
+    match revision.text() {
+        Some(text) => text.as_str(),
+        None => "",
+    }
+}
+
+/// Puts that the revision is a deletion, where it is one.
+fn put_deleted(
+    alloc: Global,
+    members: &mut Map<String, Value>,
+    revision: &Revision,
+) -> Result<(), Memory>
+    ensures { OnOk result (members_view members.new.entries
+        ≡ with_entries (members_view members.old.entries) (deleted_entries revision.now)) }
+{
+    if revision.text().is_none() {
+        return put_flag(alloc, members, "deleted");
+    }
+    Ok(())
+}
+
+/// Puts the text of the revision, where it is asked for.
+fn put_content(
+    alloc: Global,
+    members: &mut Map<String, Value>,
+    revision: &Revision,
+    content: bool,
+) -> Result<(), Memory>
+    ensures { OnOk result (members_view members.new.entries
+        ≡ with_entries (members_view members.old.entries) (content_entries content revision.now)) }
+{
+    if content {
+        return put_text(alloc, members, "content", text_or_empty(revision));
+    }
+    Ok(())
+}
+
+/// Puts the numbers of a revision: the one before it, its own, its size in bytes and its moment.
+fn put_revision(
+    alloc: Global,
+    members: &mut Map<String, Value>,
+    number: u64,
+    revision: &Revision,
+) -> Result<(), Memory>
+    ensures { OnOk result (members_view members.new.entries
+        ≡ with_entries (members_view members.old.entries) (first_of_revision number revision.now)) }
+{
+    put_number(alloc, members, "parentid", revision.parent())?;
+    put_number(alloc, members, "revid", number)?;
+    put_number(alloc, members, "size", text_or_empty(revision).len() as u64)?;
+    put_number(alloc, members, "timestamp", revision.moment())
+}
+
+/// A revision of a page, with its text where that is asked for.
+pub fn revision_entry(
+    alloc: Global,
+    number: u64,
+    revision: &Revision,
+    content: bool,
+) -> Result<Value, Memory>
+    ensures { IfOk result (λ v. view v ≡ object_of (revision_entries content (number, revision.now))) }
+{
+    let mut members = Map::new(alloc);
+    put_revision(alloc, &mut members, number, revision)?;
+    put_deleted(alloc, &mut members, revision)?;
+    put_content(alloc, &mut members, revision, content)?;
+    Ok(Value::Object(members))
+}
+
+/// Puts what the listing goes on by, where more is left.
+fn put_continue(
+    alloc: Global,
+    members: &mut Map<String, Value>,
+    place: Option<u64>,
+) -> Result<(), Memory>
+    ensures { OnOk result (members_view members.new.entries
+        ≡ with_entries (members_view members.old.entries) (continue_entries place)) }
+{
+    match place {
+        Some(place) => put_number(alloc, members, "continue", place),
+        None => Ok(()),
+    }
+}
+
+/// A list under its name.
+fn list_value(alloc: Global, name: &str, list: Value) -> Result<Value, Memory>
+    ensures { IfOk result (λ v. view v ≡ object_of ((name.now, view list) ∷ [])) }
+{
+    let mut members = Map::new(alloc);
+    put(alloc, &mut members, name, list)?;
+    Ok(Value::Object(members))
+}
+
+/// The reply with a list under its name; and what the listing goes on by, where more is left.
+pub fn listed(
+    alloc: Global,
+    name: &str,
+    place: Option<u64>,
+    list: Value,
+    point: u64,
+) -> Result<Value, Memory>
+    ensures { IfOk result (λ v. view v ≡ (reply_beside (listed_entries name.now place (view list)) point).value) }
+{
+    let query = list_value(alloc, name, list)?;
+    let mut members = Map::new(alloc);
+    put_number(alloc, &mut members, "point", point)?;
+    put_continue(alloc, &mut members, place)?;
+    put(alloc, &mut members, "query", query)?;
+    Ok(Value::Object(members))
+}
