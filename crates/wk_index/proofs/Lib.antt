@@ -5,5 +5,6 @@ mod NamedLaws
 mod OwnRows
 mod PagesLaws
 mod PlaceLaws
+mod SameLaws
 mod TitleLaws
 mod UsersLaws

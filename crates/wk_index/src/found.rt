@@ -7,6 +7,7 @@ ghost use Rattle.wk_index.specs.declared.named.Kind.TheVariants.{Included as ByI
 
 use crate::named::{Kind, Named, NamedBy, add_rows, drop_key, drop_titles};
 use crate::pages::rows_at;
+use crate::shared_rows::SharedRows;
 use std::alloc::Global;
 use std::collections::BTreeSet;
 use wk_memory::Memory;
@@ -43,13 +44,14 @@ impl Found {
         add_rows(&mut self.linked, rows, page, Kind::Linked)
     }
 
-    /// Finds the page no longer by the titles that the old rows have and its rows don't. Takes no memory.
-    pub fn shed(&mut self, old: PageRows, stored: &[PageRows], page: u32)
+    /// Finds the page no longer by the titles that the old rows have and its rows don't, where nobody else has the old
+    /// rows, as those between the two halves of a change. Takes no memory.
+    pub fn shed(&mut self, old: SharedRows, stored: &[SharedRows], page: u32)
         ensures { SparesAll (rows_of stored.now page) page self.old self.new }
     {
-        match rows_at(stored, page) {
-            Some(rows) => self.drop_titles(old, rows, page),
-            None => {}
+        match (old.into_rows(), rows_at(stored, page)) {
+            (Some(old), Some(rows)) => self.drop_titles(old, rows.rows(), page),
+            _ => {}
         }
     }
 

@@ -13,16 +13,18 @@ ghost use Rattle.wk_index.specs.Held.{rows_of};
 ghost use Rattle.wk_index.specs.Loadable.{AreLoadable};
 ghost use Rattle.wk_index.specs.Named.{listed, rows_at};
 
+use crate::blanks::Blanks;
 use crate::found::Found;
 use crate::load::page_rows;
 use crate::members::{MemberPage, members};
 use crate::named::{Kind, kind_of, pages};
 use crate::pages::{joined_at, replace_rows, rows_at};
+use crate::shared_rows::SharedRows;
 use std::alloc::Global;
 use std::marker::Model;
 use wk_memory::Memory;
 use wk_row_rules::Reach;
-use wk_table_rows::{PageRows, TableRows};
+use wk_table_rows::{PageRows, TableRows, share_all};
 use wk_tables::Tables;
 use wk_title::Title;
 
@@ -35,10 +37,12 @@ use wk_title::Title;
 /// page's rows takes a time that grows with the product of the titles that it has and of those that it gets.
 #[derive(Debug, Drop)]
 pub struct Index {
-    rows: Vec<PageRows>,
+    rows: Vec<SharedRows>,
     /// Each page is found by each title of its rows, and may be found by others, so what is found is looked up in the
     /// rows. A change that memory ran out for may leave such titles.
     found: Found,
+    /// For the pages that there is room for.
+    blanks: Blanks,
     spare: usize,
 }
 
@@ -53,7 +57,7 @@ impl Model for Index {
     ghost view = { λ i. record { stored = i.rows.items; spare = i.spare } };
 
     ghost invariant = { λ i. (i.spare + vec_len i.rows ≤ vec_capacity i.rows) × (vec_len i.rows ≤ max_pages)
-        × FindsAll i.rows.items i.found };
+        × FindsAll i.rows.items i.found × (i.spare ≤ i.blanks) };
 }
 
 impl Index {
@@ -64,6 +68,7 @@ impl Index {
         Index {
             rows: Vec::new(alloc),
             found: Found::new(alloc),
+            blanks: Blanks::new(alloc),
             spare: 0,
         }
     }
@@ -84,7 +89,7 @@ impl Index {
     {
         self.make_room(1)?;
         self.found.add(&rows, self.rows.len() as u32 + 1)?;
-        self.rows.push_reserved(rows);
+        self.rows.push_reserved(SharedRows::new(rows)?);
         self.spare -= 1;
         Ok(())
     }
@@ -96,6 +101,7 @@ impl Index {
         ensures not_less { self.old.spare ≤ self.new.spare }
     {
         self.rows.reserve(pages)?;
+        self.blanks.fill(pages)?;
         self.spare = self.spare.max(pages);
         Ok(())
     }
@@ -107,7 +113,7 @@ impl Index {
         ensures stored { self.new.stored ≡ self.old.stored ++ no_rows ∷ [] }
         ensures spare { self.new.spare + 1 ≡ self.old.spare }
     {
-        let rows = PageRows::new(*self.rows.allocator());
+        let rows = self.blanks.take();
         self.rows.push_reserved(rows);
         self.spare -= 1;
     }
@@ -121,10 +127,18 @@ impl Index {
 
     /// The rows of the page with this number, `None` exactly where there is no such page, which then counts as one
     /// without rows. Takes no memory.
-    pub fn rows(&self, page: u32) -> Option<&PageRows>
+    pub fn rows(&self, page: u32) -> Option<&SharedRows>
         ensures { option_copied result ≡ rows_at self.now.stored page }
     {
         rows_at(&self.rows, page)
+    }
+
+    /// The rows of each page, for a further owner: a pointer a page.
+    pub fn stored(&self) -> Result<Vec<SharedRows>, Memory>
+        ensures { IfOk result (λ stored. stored.items ≡ self.now.stored) }
+    {
+        let stored = share_all(*self.rows.allocator(), &self.rows)?;
+        Ok(stored)
     }
 
     /// Adds the rows to those of the page, which is there: from now on it is found by the old ones and by the new.
@@ -135,14 +149,14 @@ impl Index {
         ensures refused { OnErr result (self.new.stored ≡ self.old.stored) }
         ensures spare { self.new.spare ≡ self.old.spare }
     {
-        let joined = joined_at(&self.rows, page, rows)?;
+        let joined = SharedRows::new(joined_at(&self.rows, page, rows)?)?;
         self.found.add(rows, page)?;
         replace_rows(&mut self.rows, page, joined);
         Ok(())
     }
 
     /// Makes these all rows of the page, which is there, and has each of them. Takes no memory.
-    pub fn shed(&mut self, page: u32, rows: PageRows)
+    pub fn shed(&mut self, page: u32, rows: SharedRows)
         requires there { IsSome (rows_at self.old.stored page) }
         requires among { AreAmong rows (rows_of self.old.stored page) }
         ensures stored { self.new.stored ≡ with_rows_at self.old.stored page rows }

@@ -5,11 +5,11 @@ ghost use Rattle.wk_page_rules.specs.Verdict.{max_pages};
 ghost use Rattle.wk_index.specs.MemberPages.{members_of};
 ghost use Rattle.wk_listing_rules.specs.Members.{category_members, member_lt, member_placed, members_behind, members_on};
 
+use crate::shared_rows::SharedRows;
 use std::alloc::Global;
 use std::marker::Model;
 use wk_bytes::Text;
 use wk_memory::Memory;
-use wk_table_rows::PageRows;
 use wk_title::Title;
 
 /// A page in a category.
@@ -96,7 +96,7 @@ fn put_page(
 /// All members of the category, by sort key and then by page.
 fn category_members(
     alloc: Global,
-    stored: &[PageRows],
+    stored: &[SharedRows],
     category: &Title,
 ) -> Result<Vec<MemberPage>, Memory>
     requires { length stored.now ≤ max_pages }
@@ -104,7 +104,7 @@ fn category_members(
 {
     let mut members = Vec::new(alloc);
     for place in 0..stored.len() {
-        let rows = &stored[place];
+        let rows = stored[place].rows();
         put_page(&mut members, &rows.members, place as u32 + 1, category)?;
     }
     Ok(members)
@@ -113,7 +113,7 @@ fn category_members(
 /// The members of the category, by sort key and then by page, behind the first so many and at most so many.
 pub fn members(
     alloc: Global,
-    stored: &[PageRows],
+    stored: &[SharedRows],
     category: &Title,
     passed: usize,
     most: usize,

@@ -8,6 +8,7 @@ ghost use Rattle.wk_page_rules.specs.Verdict.{max_pages};
 ghost use Rattle.wk_index.specs.Named.{Finds, FindsBy, Kept, Spares, has, is_between, key_cmp, kind_of, listed, lists, page_lists};
 
 use crate::joined;
+use crate::shared_rows::SharedRows;
 use std::alloc::Global;
 use std::collections::BTreeSet;
 use std::marker::Model;
@@ -70,14 +71,14 @@ fn has_title(rows: &PageRows, title: &Title, kind: Kind) -> bool
 }
 
 /// Whether the page is there, and its rows have the title.
-fn page_has_title(stored: &[PageRows], page: u32, title: &Title, kind: Kind) -> bool
+fn page_has_title(stored: &[SharedRows], page: u32, title: &Title, kind: Kind) -> bool
     ensures { result ≡ page_lists kind stored.now title.now page }
 {
     if page == 0 {
         return false;
     }
     match stored.get(page as usize - 1) {
-        Some(rows) => has_title(rows, title, kind),
+        Some(rows) => has_title(rows.rows(), title, kind),
         None => false,
     }
 }
@@ -140,7 +141,7 @@ pub fn drop_titles(named: &mut Named, titles: Vec<Title>, page: u32, rows: &Page
 fn pages_between(
     alloc: Global,
     named: &Named,
-    stored: &[PageRows],
+    stored: &[SharedRows],
     title: &Title,
     kind: Kind,
     bounds: (NamedBy, NamedBy),
@@ -164,7 +165,7 @@ fn pages_between(
 pub fn pages(
     alloc: Global,
     named: &Named,
-    stored: &[PageRows],
+    stored: &[SharedRows],
     title: &Title,
     kind: Kind,
     above: u32,

@@ -188,7 +188,7 @@ fn empty(alloc: Global, index: &mut Index) -> Result<(), Fail> {
     if index.rows(1).is_none() {
         return Err(Fail::from("no page"));
     }
-    index.shed(1, PageRows::new(alloc));
+    index.shed(1, SharedRows::new(PageRows::new(alloc))?);
     Ok(())
 }
 

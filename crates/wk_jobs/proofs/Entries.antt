@@ -1,14 +1,14 @@
 -- The refresh jobs as they are held: what a claim, a return and a removal do to the lists, and to the numbers by page.
-use Rattle.std.proofs.Common.{◌≡◌, ℕ, zero, suc, ◌+◌, ◌<◌, Bool, true, false, cond, eqb, ◌||◌, ◌&&◌, not, List, [], ◌∷◌, ◌++◌, length, map, get_or, Option, Some, None, refl, sym, ap, ◌∙◌, inl, inr, subst, arith}
+use Rattle.std.proofs.Common.{◌≡◌, ℕ, zero, suc, ◌+◌, ◌<◌, Bool, true, false, cond, eqb, ◌||◌, ◌&&◌, not, List, [], ◌∷◌, ◌++◌, length, map, take, get_or, Option, Some, None, refl, sym, ap, ◌∙◌, inl, inr, subst, arith}
 use Rattle.std.specs.Prelude.{find, is_some, option_map, count_by}
 use Rattle.std.specs.Option.{option_or}
 use Rattle.std.specs.List.{AllByRecursion, IsDistinct, list_any, remove}
 use Rattle.std.proofs.lemmas.Bool.{cases_Bool, or_parts, eqb-true}
-use Rattle.std.proofs.lemmas.List.{append_assoc, map-append}
+use Rattle.std.proofs.lemmas.List.{append_assoc, map-append, take_more}
 use Rattle.std.proofs.lemmas.List.Elements.{filter-append}
 use Rattle.std.proofs.lemmas.List.Folds.{list_any-append}
 use Rattle.std.proofs.lemmas.List.Sums.{sum_by-append}
-use Rattle.wk_job_rules.specs.Jobs.{RefreshEntry, JobLists, is_queued, is_claimed, first_claimed, jobs_of, jobs_of_others, queued_again}
+use Rattle.wk_job_rules.specs.Jobs.{RefreshEntry, JobLists, is_queued, is_claimed, is_held_by, first_claimed, jobs_of, jobs_of_others, queued_again}
 use Rattle.wk_job_rules.proofs.Lists.{eqb_flips, IsDistinct-push, list_any-map}
 use Rattle.wk_job_rules.proofs.JobLemmas.{IsOneAPage-claimed, IsOneAPage-given_back, IsOneAPage-dropped}
 use Rattle.wk_jobs.specs.Entries.{claimed_entry, queued_entry, entries, job_of, number_of}
@@ -33,6 +33,20 @@ first_queued-entries (c ∷ cs) q qs = first_queued-entries cs q qs
 pub first_queued-none : (cs : List ClaimedJob) → find is_queued (entries cs []) ≡ None
 first_queued-none [] = refl
 first_queued-none (c ∷ cs) = first_queued-none cs
+
+-- ---- what a ticket claims
+
+held-of-queued : (qs : List QueuedJob) (ticket : ℕ) → find (is_held_by ticket) (map queued_entry qs) ≡ None
+held-of-queued [] ticket = refl
+held-of-queued (q ∷ qs) ticket = held-of-queued qs ticket
+
+pub held-entries : (cs : List ClaimedJob) (qs : List QueuedJob) (ticket : ℕ)
+    → option_map (λ (job : RefreshEntry). job.page) (find (is_held_by ticket) (entries cs qs)) ≡ option_map (λ (job : ClaimedJob). job.page) (find (λ (job : ClaimedJob). eqb job.ticket ticket) cs)
+held-entries [] qs ticket = ap (option_map (λ (job : RefreshEntry). job.page)) (held-of-queued qs ticket)
+held-entries (c ∷ cs) qs ticket = elim (cases_Bool (eqb c.ticket ticket)) [
+  | inl here ↦ rw here refl
+  | inr other ↦ rw other (held-entries cs qs ticket)
+]
 
 -- ---- how many
 
@@ -299,3 +313,11 @@ job_of-queued [] qs page none = job_of-waiting qs page
 job_of-queued (c ∷ cs) qs page none =
     let parts = or_parts (eqb c.page page) (list_any (λ other. eqb other.page page) cs) none in
     rw parts.0 (job_of-queued cs qs page parts.1)
+
+-- ---- a list that is written
+
+pub listed-more : {X : Type 0} (entry : X → RefreshEntry) (jobs : List RefreshEntry) (xs : List X) (i : ℕ) (d : X) → i < length xs
+    → (jobs ++ map entry (take i xs)) ++ entry (get_or xs i d) ∷ [] ≡ jobs ++ map entry (take (i + 1) xs)
+listed-more entry jobs xs i d inside =
+    append_assoc jobs (map entry (take i xs)) (entry (get_or xs i d) ∷ [])
+    ∙ ap (λ l. jobs ++ l) (sym (ap (map entry) (take_more xs i d inside) ∙ map-append entry (take i xs) (get_or xs i d ∷ [])))

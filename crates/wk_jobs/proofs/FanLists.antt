@@ -19,7 +19,7 @@ TitlesApart jobs = IsDistinct title_eq (map (λ (job : FanEntry). job.title) job
 abbrev titled : ℤ → List ℕ → PageTitle
 titled ns key = record { ns = ns; key = key }
 
-title_eq-true : (a b : PageTitle) → title_eq a b ≡ true → a ≡ b
+pub title_eq-true : (a b : PageTitle) → title_eq a b ≡ true → a ≡ b
 title_eq-true a b e =
     let parts = and_parts (int_eq a.ns b.ns) (bytes_eq a.key b.key) e in
     ap (λ ns. titled ns a.key) ((Decides-int_eq a.ns b.ns).0 parts.0) ∙ ap (titled b.ns) ((bytes_eq-Decides a.key b.key).0 parts.1)

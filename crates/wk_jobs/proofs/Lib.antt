@@ -1,5 +1,6 @@
 pub mod Entries
 pub mod FanLists
+pub mod Loaded
 pub mod Numbered
 pub mod Places
 pub mod Sorting

@@ -1,12 +1,13 @@
 -- The numbers of the jobs, where one of the two lists changes, and the greatest number.
 use Rattle.std.proofs.Common.{◌≡◌, ℕ, eqb, true, false, None, refl, ◌+◌, ◌<◌, ◌≤◌, List, [], ◌∷◌, ◌++◌, length, map, max, take, get_or, sym, ap, ◌∙◌, subst, arith}
-use Rattle.std.specs.List.{AllByRecursion, IsDistinct, fold}
+use Rattle.std.specs.List.{All, AllByRecursion, IsDistinct, fold}
 use Rattle.std.proofs.lemmas.List.{map-append, take_more}
-use Rattle.std.proofs.lemmas.List.Elements.{recursion_from_All}
+use Rattle.std.proofs.lemmas.List.Elements.{All-weaker, recursion_from_All}
 use Rattle.std.proofs.lemmas.List.Sums.{fold-append}
 use Rattle.wk_text_rules.specs.Titles.{PageTitle}
 use Rattle.wk_row_rules.specs.declared.Reach.{Reach}
 use Rattle.wk_job_rules.specs.Jobs.{RefreshEntry, FanEntry, JobLists, IsNumbered, numbers_of, has_fan, has_refresh, fan_set, refresh_queued, set_anew}
+use Rattle.wk_job_rules.proofs.JobLemmas.{IsNumbered-fan_set}
 use Rattle.wk_job_rules.proofs.Lists.{map-map}
 use Rattle.wk_jobs.specs.Entries.{claimed_entry, queued_entry, entries}
 use Rattle.wk_jobs.specs.declared.refreshes.ClaimedJob.{ClaimedJob}
@@ -90,3 +91,26 @@ distinct-front (x ∷ xs) ys apart = (each-front (λ y. eqb x y ≡ false) xs ys
 
 pub refreshes-apart : (lists : JobLists) → IsNumbered lists → IsDistinct eqb (map (λ (job : RefreshEntry). job.number) lists.refreshes)
 refreshes-apart lists numbered = distinct-front (map (λ (job : RefreshEntry). job.number) lists.refreshes) (map (λ (job : FanEntry). job.number) lists.fans) numbered.own
+
+-- the next number may be passed over
+pub numbered-later : (lists : JobLists) (n : ℕ) → lists.next ≤ n → IsNumbered lists → IsNumbered (lists_with lists.refreshes lists.fans n)
+numbered-later lists n later numbered = record {
+  own = numbered.own;
+  bounded = All-weaker (λ number. (1 ≤ number) × (number < lists.next)) (λ number. (1 ≤ number) × (number < n)) (λ number bounds. (bounds.0, omega (arith, bounds.1))) (numbers_of lists) numbered.bounded;
+  positive = omega (arith, numbered.positive);
+}
+
+-- a fan job more, of any cursor, whose number isn't below the next one
+pub numbered-fan : (lists : JobLists) (job : FanEntry) → lists.next ≤ job.number → has_fan lists job.title ≡ false → IsNumbered lists → IsNumbered (lists_with lists.refreshes (lists.fans ++ job ∷ []) (job.number + 1))
+numbered-fan lists job later none numbered =
+    let number = λ (other : FanEntry). other.number in
+    let from = lists_with lists.refreshes lists.fans job.number in
+    let begun : FanEntry = record { number = job.number; title = job.title; reach = job.reach; cursor = 0 } in
+    let set : IsNumbered (lists_with lists.refreshes (lists.fans ++ begun ∷ []) (job.number + 1)) =
+    subst IsNumbered (fan_set-new from job.title job.reach none) (IsNumbered-fan_set from job.title job.reach (numbered-later lists job.number later numbered)) in
+    let same = ap (λ ns. map (λ (other : RefreshEntry). other.number) lists.refreshes ++ ns) (map-append number lists.fans (begun ∷ []) ∙ sym (map-append number lists.fans (job ∷ []))) in
+    record {
+      own = subst (IsDistinct eqb) same set.own;
+      bounded = subst (All (λ n. (1 ≤ n) × (n < job.number + 1))) same set.bounded;
+      positive = set.positive;
+    }

@@ -4,6 +4,7 @@ pub mod Held
 pub mod HeldFans
 pub mod HeldJobs
 pub mod HeldRefreshes
+pub mod Loaded
 pub mod Refreshes
 pub mod Unclaimed
 pub use Rattle.wk_job_rules.specs.Jobs

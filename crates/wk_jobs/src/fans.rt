@@ -1,5 +1,5 @@
 //! The fan jobs, in their order.
-ghost use Rattle.std.specs.Prelude.{◌≡◌, ◌+◌, ◌-◌, ◌≤◌, ◌<◌, ◌++◌, ◌∷◌, ◌==◌, [], true, false, map, fold, max, drop, length, position, IsOk, OnOk, OnErr, slice_get, vec_len, vec_capacity};
+ghost use Rattle.std.specs.Prelude.{◌≡◌, ◌+◌, ◌-◌, ◌≤◌, ◌<◌, ◌++◌, ◌∷◌, ◌==◌, [], true, false, map, fold, max, drop, length, position, IfOk, IsOk, OnOk, OnErr, slice_get, vec_len, vec_capacity};
 ghost use Rattle.std.specs.List.{IsDistinct, list_any};
 ghost use Rattle.std.specs.Option.{option_copied};
 ghost use Rattle.wk_text_rules.specs.Titles.{title_eq};
@@ -11,6 +11,7 @@ use std::alloc::Global;
 use std::marker::Model;
 use wk_memory::Memory;
 use wk_row_rules::Reach;
+use wk_table_rows::{Share, share_all};
 use wk_title::Title;
 
 /// A job that queues a refresh of each page whose link rows name a title. Contracts see its fields.
@@ -40,6 +41,17 @@ impl Numbered for FanJob {
 
     fn number(&self) -> u64 {
         self.number
+    }
+}
+
+impl Share for FanJob {
+    fn share(&self) -> Result<FanJob, Memory> {
+        Ok(FanJob {
+            number: self.number,
+            title: self.title.share()?,
+            reach: self.reach,
+            cursor: self.cursor,
+        })
     }
 }
 
@@ -154,6 +166,13 @@ impl Fans {
         ensures { option_copied result ≡ fan_of self.now.jobs title.now }
     {
         self.jobs.iter().find(|job| job.title == *title)
+    }
+
+    /// The jobs, in a list of their own. No title is copied.
+    pub fn listed(&self) -> Result<Vec<FanJob>, Memory>
+        ensures { IfOk result (λ jobs. jobs.items ≡ self.now.jobs) }
+    {
+        share_all(*self.jobs.allocator(), &self.jobs)
     }
 
     /// How many jobs there are. Takes no memory.

@@ -1,12 +1,13 @@
 //! The job lists of a wiki.
-ghost use Rattle.std.specs.Prelude.{◌≡◌, ◌+◌, ◌^◌, ◌≤◌, ◌<◌, true, not, length, IsOk, IfOk, OnOk, OnErr};
+ghost use Rattle.std.specs.Prelude.{◌≡◌, ◌+◌, ◌^◌, ◌≤◌, ◌<◌, ◌++◌, ◌∷◌, [], true, false, None, not, length, IsOk, IfOk, OnOk, OnErr};
 ghost use Rattle.std.specs.Option.{option_copied};
-ghost use Rattle.wk_job_rules.specs.Jobs.{IsNumbered, no_jobs, claimed_by, fan_dropped, fan_moved, fan_set, first_fan, first_queued, given_back, has_claimed, has_refresh, left, refresh_dropped, refresh_queued};
+ghost use Rattle.wk_job_rules.specs.Jobs.{IsNumbered, no_jobs, claimed_by, fan_dropped, fan_moved, fan_set, first_fan, first_queued, given_back, has_claimed, has_fan, has_refresh, left, page_held_by, refresh_dropped, refresh_queued};
 ghost use Rattle.wk_job_rules.specs.Steps.{reopened_jobs};
 ghost use Rattle.wk_jobs.specs.Entries.{job_of};
 ghost use Rattle.wk_jobs.specs.Fans.{fan_of};
 
 use crate::fans::{FanJob, Fans};
+use crate::listed::ListedJobs;
 use crate::refreshes::{RefreshJob, Refreshes};
 use std::alloc::Global;
 use std::marker::Model;
@@ -109,6 +110,40 @@ impl Jobs {
         Ok(())
     }
 
+    /// Appends a queued refresh job of a page that has none, with this number, which isn't below the next one.
+    pub(crate) fn restore_refresh(&mut self, number: u64, page: u32) -> Result<(), Memory>
+        requires next { self.old.lists.next ≤ number }
+        requires bound { number < 2 ^ 63 }
+        requires none { has_refresh self.old.lists page ≡ false }
+        ensures { OnOk result (self.new.lists ≡ refresh_queued (record self.old.lists { next = number }) page) }
+    {
+        self.refreshes.reserve(1)?;
+        self.refreshes.push(number, page);
+        self.next = number + 1;
+        Ok(())
+    }
+
+    /// Appends the fan job, of a title that has none, whose number isn't below the next one.
+    pub(crate) fn restore_fan(&mut self, job: FanJob) -> Result<(), Memory>
+        requires next { self.old.lists.next ≤ job.number }
+        requires bound { job.number < 2 ^ 63 }
+        requires none { has_fan self.old.lists job.title ≡ false }
+        ensures { OnOk result (self.new.lists ≡ record self.old.lists { fans = self.old.lists.fans ++ job ∷ []; next = job.number + 1 }) }
+    {
+        let number = job.number;
+        self.fans.reserve(1)?;
+        self.fans.push(job);
+        self.next = number + 1;
+        Ok(())
+    }
+
+    /// The page of the first refresh job that is queued; `None` exactly where none is. Takes no memory.
+    pub fn first_queued(&self) -> Option<u32>
+        ensures { result ≡ first_queued self.now.lists }
+    {
+        self.refreshes.first_queued()
+    }
+
     /// Claims the first refresh job that is queued, by the ticket of this number, and tells its page; `None` exactly
     /// where no refresh job is queued. Takes no memory.
     pub fn claim_first(&mut self, ticket: u64) -> Option<u32>
@@ -179,6 +214,25 @@ impl Jobs {
         ensures { result ≡ job_of self.now.lists.refreshes page }
     {
         self.refreshes.job(page)
+    }
+
+    /// The page whose refresh job is claimed by the ticket of this number; `None` exactly where no job is. Takes no
+    /// memory, and a time that grows with the tickets that are out.
+    pub fn page_held(&self, ticket: u64) -> Option<u32>
+        ensures { result ≡ page_held_by self.now.lists ticket }
+    {
+        self.refreshes.page_held(ticket)
+    }
+
+    /// The job lists of this moment. No title is copied.
+    pub fn listed(&self) -> Result<ListedJobs, Memory>
+        ensures { IfOk result (λ listed. listed ≡ self.now.lists) }
+    {
+        Ok(ListedJobs {
+            refreshes: self.refreshes.listed()?,
+            fans: self.fans.listed()?,
+            next: self.next,
+        })
     }
 
     /// The title's fan job. Takes no memory.

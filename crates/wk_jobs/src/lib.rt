@@ -3,12 +3,16 @@
 
 mod fans;
 mod jobs;
+mod listed;
+mod load;
 mod numbers;
 mod refreshes;
+mod rows;
 #[cfg(test)]
 mod tests;
 
 pub use fans::FanJob;
 pub use jobs::Jobs;
+pub use listed::ListedJobs;
 pub use refreshes::RefreshJob;
 pub use wk_job_rules::Left;

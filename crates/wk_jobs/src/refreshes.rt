@@ -1,9 +1,9 @@
 //! The refresh jobs: those that are claimed, in the order of their claims, and behind them those that wait.
-ghost use Rattle.std.specs.Prelude.{◌≡◌, ◌+◌, ◌≤◌, ◌<◌, ◌++◌, ◌∷◌, ◌==◌, [], true, false, None, ◌&&◌, map, fold, max, position, find, length, count_by, is_some, IsOk, OnOk, OnErr, vec_len, vec_capacity, nat_eq, option_map};
+ghost use Rattle.std.specs.Prelude.{◌≡◌, ◌+◌, ◌≤◌, ◌<◌, ◌++◌, ◌∷◌, ◌==◌, [], true, false, None, ◌&&◌, map, fold, max, position, find, length, count_by, is_some, IfOk, IsOk, OnOk, OnErr, vec_len, vec_capacity, nat_eq, option_map};
 ghost use Rattle.std.specs.List.{IsDistinct, list_any};
 ghost use Rattle.std.specs.VecDeque.{deque_len, deque_capacity};
 ghost use Rattle.wk_job_rules.specs.Steps.{by_number};
-ghost use Rattle.wk_job_rules.specs.Jobs.{first_claimed, is_claimed, is_queued, jobs_of, jobs_of_others, queued_again};
+ghost use Rattle.wk_job_rules.specs.Jobs.{first_claimed, is_claimed, is_held_by, is_queued, jobs_of, jobs_of_others, queued_again};
 ghost use Rattle.wk_jobs.specs.Entries.{claimed_entry, entries, job_of, queued_entry};
 
 use crate::numbers::{Numbered, greatest};
@@ -96,6 +96,58 @@ fn place_of_page(claimed: &[ClaimedJob], page: u32) -> Option<usize>
     claimed.iter().position(|job| job.page == page)
 }
 
+/// The page of the job that is claimed by the ticket.
+fn page_of_ticket(claimed: &[ClaimedJob], ticket: u64) -> Option<u32>
+    ensures { result ≡ option_map (λ job. job.page) (find (λ job. job.ticket == ticket) claimed.now) }
+{
+    claimed
+        .iter()
+        .find(|job| job.ticket == ticket)
+        .map(|job| job.page)
+}
+
+/// The job that is claimed, with its ticket.
+fn claimed_job(job: &ClaimedJob) -> RefreshJob
+    ensures { result ≡ claimed_entry job.now }
+{
+    RefreshJob {
+        number: job.number,
+        page: job.page,
+        ticket: Some(job.ticket),
+    }
+}
+
+/// The job that waits.
+fn queued_job(job: &QueuedJob) -> RefreshJob
+    ensures { result ≡ queued_entry job.now }
+{
+    RefreshJob {
+        number: job.number,
+        page: job.page,
+        ticket: None,
+    }
+}
+
+/// Appends the claimed jobs to a list.
+fn push_claimed(jobs: &mut Vec<RefreshJob>, claimed: &[ClaimedJob]) -> Result<(), Memory>
+    ensures { OnOk result (jobs.new.items ≡ jobs.old.items ++ map claimed_entry claimed.now) }
+{
+    for job in claimed {
+        jobs.push(claimed_job(job))?;
+    }
+    Ok(())
+}
+
+/// Appends the jobs that wait to a list.
+fn push_queued(jobs: &mut Vec<RefreshJob>, queued: &[QueuedJob]) -> Result<(), Memory>
+    ensures { OnOk result (jobs.new.items ≡ jobs.old.items ++ map queued_entry queued.now) }
+{
+    for job in queued {
+        jobs.push(queued_job(job))?;
+    }
+    Ok(())
+}
+
 /// Takes the page's job out of the claimed ones, which have one of the page.
 fn take_claimed(claimed: &mut Vec<ClaimedJob>, page: u32) -> ClaimedJob
     requires one { IsDistinct nat_eq (map (λ job. job.page) (map claimed_entry claimed.old.items)) }
@@ -182,11 +234,7 @@ impl Refreshes {
     {
         if let Some(place) = place_of_page(&self.claimed, page) {
             let job = &self.claimed[place];
-            return Some(RefreshJob {
-                number: job.number,
-                page,
-                ticket: Some(job.ticket),
-            });
+            return Some(claimed_job(job));
         }
         match self.numbers.get(&page) {
             Some(number) => Some(RefreshJob {
@@ -196,6 +244,25 @@ impl Refreshes {
             }),
             None => None,
         }
+    }
+
+    /// The page of the job that is claimed by the ticket. Takes no memory.
+    pub fn page_held(&self, ticket: u64) -> Option<u32>
+        ensures { result ≡ option_map (λ job. job.page) (find (is_held_by ticket) self.now.jobs) }
+    {
+        page_of_ticket(&self.claimed, ticket)
+    }
+
+    /// The jobs, in a list of their own.
+    pub fn listed(&self) -> Result<Vec<RefreshJob>, Memory>
+        ensures { IfOk result (λ jobs. jobs.items ≡ self.now.jobs) }
+    {
+        let mut jobs = Vec::with_capacity(*self.claimed.allocator(), self.numbers.len())?;
+        let (front, behind) = self.queued.as_slices();
+        push_claimed(&mut jobs, &self.claimed)?;
+        push_queued(&mut jobs, front)?;
+        push_queued(&mut jobs, behind)?;
+        Ok(jobs)
     }
 
     /// Appends a job of a page that has none. Takes no memory.
@@ -210,6 +277,16 @@ impl Refreshes {
         let job = QueuedJob { number, page };
         self.queued.push_back_reserved(job);
         self.spare -= 1;
+    }
+
+    /// The page of the first job that is queued. Takes no memory.
+    pub fn first_queued(&self) -> Option<u32>
+        ensures { result ≡ option_map (λ job. job.page) (find is_queued self.now.jobs) }
+    {
+        match self.queued.front() {
+            Some(job) => Some(job.page),
+            None => None,
+        }
     }
 
     /// Claims the first job that is queued, by the ticket, and tells its page. Takes no memory.

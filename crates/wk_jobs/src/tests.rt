@@ -1,9 +1,14 @@
 //! Each call once.
+ghost use Rattle.std.specs.Prelude.{IsTrue, IfOk};
+ghost use Rattle.wk_table_rules.specs.GoodStore.{IsGood};
+
 use crate::Jobs;
 use std::alloc::Global;
 use std::test::Fail;
+use wk_bytes::Text;
 use wk_memory::Memory;
 use wk_row_rules::Reach;
+use wk_tables::{JobRow, PageRow, RevisionRow, TableRows, Tables, broken};
 use wk_title::{TitleRefusal, normalize};
 
 /// Queues the page, unless the numbers are at their end.
@@ -109,5 +114,105 @@ fn fans_are_served_in_order_and_begin_anew(rt: HostRuntime) -> Result<(), Fail> 
     assert_eq!(rt; fan(alloc, &jobs, "A")?, Some((1, Reach::Both, 0)));
     end(&mut jobs);
     assert_eq!(rt; jobs.first_fan().map(|job| job.number), Some(2));
+    Ok(())
+}
+
+fn text(alloc: Global, bytes: &'static str) -> Result<Text, Fail> {
+    if bytes.len() < 1000 {
+        Ok(Text::new(alloc, bytes)?)
+    } else {
+        Err(Fail::from("a long text"))
+    }
+}
+
+/// Pages with these numbers and keys, each with a revision.
+fn add_pages(
+    alloc: Global,
+    rows: &mut TableRows,
+    pages: &[(u64, &'static str)],
+) -> Result<(), Fail> {
+    for (id, key) in pages {
+        rows.pages.push(PageRow {
+            page_id: *id,
+            page_namespace: 0,
+            page_title: text(alloc, *key)?,
+            page_latest: *id,
+            page_len: 1,
+        })?;
+        rows.revisions.push(RevisionRow {
+            rev_id: *id,
+            rev_page: *id,
+            rev_parent_id: 0,
+            rev_timestamp: 7,
+            rev_len: 1,
+            rev_gone: false,
+            rev_text: text(alloc, "x")?,
+        })?;
+    }
+    Ok(())
+}
+
+/// Jobs with these numbers, commands, keys and params.
+fn add_jobs(
+    alloc: Global,
+    rows: &mut TableRows,
+    jobs: &[(u64, &'static str, &'static str, &'static str)],
+) -> Result<(), Fail> {
+    for (id, cmd, key, params) in jobs {
+        rows.jobs.push(JobRow {
+            job_id: *id,
+            job_cmd: text(alloc, *cmd)?,
+            job_namespace: 0,
+            job_title: text(alloc, *key)?,
+            job_params: text(alloc, *params)?,
+        })?;
+    }
+    Ok(())
+}
+
+/// Two pages, a refresh job of each, and a fan job.
+fn some_tables(alloc: Global) -> Result<Tables, Fail> {
+    let mut rows = TableRows::new(alloc);
+    add_pages(alloc, &mut rows, &[(1, "A"), (2, "B")])?;
+    let jobs = [
+        (3, "refreshLinks", "B", ""),
+        (5, "fan", "C", "both:2"),
+        (7, "refreshLinks", "A", ""),
+    ];
+    add_jobs(alloc, &mut rows, &jobs)?;
+    Ok(Tables::from_rows(alloc, rows)?)
+}
+
+/// Whether the tables are those of a good store.
+fn is_good(alloc: Global, tables: &Tables) -> Result<bool, Fail>
+    ensures { IfOk result (λ good. IsTrue good → IsGood tables.now.tables) }
+{
+    match broken(alloc, tables)? {
+        Some(_) => Ok(false),
+        None => Ok(true),
+    }
+}
+
+fn loaded(alloc: Global) -> Result<Jobs, Fail> {
+    let tables = some_tables(alloc)?;
+    if !is_good(alloc, &tables)? {
+        return Err(Fail::from("the store is broken"));
+    }
+    Ok(Jobs::load(&tables)?)
+}
+
+#[test]
+fn jobs_are_loaded_and_found_by_their_tickets(rt: HostRuntime) -> Result<(), Fail> {
+    let alloc = rt.alloc();
+    let mut jobs = loaded(alloc)?;
+    assert_eq!(rt; fan(alloc, &jobs, "C")?, Some((5, Reach::Both, 2)));
+    let pages = claims(alloc, &mut jobs)?;
+    assert_eq!(rt; pages.as_slice(), [2, 1].as_slice());
+    assert_eq!(rt; (jobs.page_held(2), jobs.page_held(3)), (Some(1), None));
+    let listed = jobs.listed()?;
+    assert_eq!(rt;
+        (listed.refreshes.len(), listed.fans.len(), listed.next),
+        (2, 1, 8)
+    );
     Ok(())
 }

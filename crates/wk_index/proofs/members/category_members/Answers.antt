@@ -10,7 +10,7 @@ pub loop-place-preserved : goal.loop-place-preserved
 loop-place-preserved c =
     placed-more c.args.category.now c.args.stored.now c.loop-place.place c.index-stored-place.result c.loop-place.members.items c.put_page.new.members.items
     (fold member_placed [] (flat_map (members_on c.args.category.now) (enumerate_from 1 c.args.stored.now))) c.deref.result.now
-    (omega arith) c.index-stored-place.is (sym (ap (λ r. r.members) c.rows.view_is) ∙ ap (map member_of) (sym c.deref.ensures.value))
+    (omega arith) c.index-stored-place.is (ap (λ r. r.members) (sym c.rows-rows.ensures) ∙ sym (ap (λ r. r.members) c.rows.view_is) ∙ ap (map member_of) (sym c.deref.ensures.value))
     c.in_ok-put_page.ensures c.loop-place.invariant
 
 pub returns : goal.returns

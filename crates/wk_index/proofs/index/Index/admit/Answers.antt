@@ -11,6 +11,7 @@ invariant_of-self c = (
   omega (arith, c.self.invariant.0),
   omega (arith, c.self.invariant.1),
   FindsAll-kept c.self.inside.rows.items c.self.inside.found c.add.new.self c.self.invariant.2 c.add.ensures.kept,
+  c.self.invariant.3,
 )
 
 pub invariant_of-self-2 : goal.invariant_of-self-2
@@ -19,13 +20,14 @@ invariant_of-self-2 c = (
   omega (arith, c.self.invariant.1, c.replace_rows.ensures.len),
   FindsAll-admitted c.self.inside.rows.items c.replace_rows.new.stored.items c.args.page c.args.rows.now c.self.inside.found c.add.new.self
       (c.replace_rows.ensures.items
-      ∙ ap (with_rows_at c.self.inside.rows.items c.args.page) (c.in_ok-joined.ensures ∙ ap (λ l. admitted (rows_of l c.args.page) c.args.rows.now) c.deref.ensures.value))
+      ∙ ap (with_rows_at c.self.inside.rows.items c.args.page) (c.in_ok-joined.ensures ∙ c.in_ok-joined_at.ensures ∙ ap (λ l. admitted (rows_of l c.args.page) c.args.rows.now) c.deref.ensures.value))
       (subst (λ h. IsSome (rows_at h.stored c.args.page)) (sym c.self.view_is) c.requires)
       c.self.invariant.2 c.in_ok-add.ensures.kept c.in_ok-add.ensures.there,
+  c.self.invariant.3,
 )
 
 pub returns-clause-stored : goal.returns-clause-stored
 returns-clause-stored c =
     c.replace_rows.ensures.items
-    ∙ ap (with_rows_at c.self.inside.rows.items c.args.page) (c.in_ok-joined.ensures ∙ ap (λ l. admitted (rows_of l c.args.page) c.args.rows.now) c.deref.ensures.value)
+    ∙ ap (with_rows_at c.self.inside.rows.items c.args.page) (c.in_ok-joined.ensures ∙ c.in_ok-joined_at.ensures ∙ ap (λ l. admitted (rows_of l c.args.page) c.args.rows.now) c.deref.ensures.value)
     ∙ ap (λ h. with_rows_at h.stored c.args.page (admitted (rows_of h.stored c.args.page) c.args.rows.now)) c.self.view_is

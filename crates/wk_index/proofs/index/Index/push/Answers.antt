@@ -1,4 +1,4 @@
-use Rattle.std.proofs.Common.{◌≡◌, ◌∙◌, ◌+◌, ◌<◌, ◌≤◌, length, vec_len, ap, sym, subst, arith}
+use Rattle.std.proofs.Common.{◌≡◌, ◌∙◌, [], ◌∷◌, ◌++◌, ◌+◌, ◌<◌, ◌≤◌, length, vec_len, ap, sym, subst, arith}
 use Rattle.wk_page_rules.specs.Verdict.{max_pages}
 use Rattle.wk_index.proofs.FindsLaws.{FindsAll-push}
 use Rattle.wk_index.proofs.index.Index.push.Goals as goal
@@ -12,5 +12,6 @@ invariant_of-self-2 c =
       omega (arith, c.self.invariant.0, c.push_reserved.ensures.len, c.push_reserved.ensures.capacity, room),
       omega (arith, low, long, c.push_reserved.ensures.len),
       FindsAll-push c.self.inside.rows.items c.push_reserved.new.self.items c.args.rows (c.len.result + 1) c.self.inside.found c.add.new.self
-          c.push_reserved.ensures.items (ap (λ n. n + 1) (c.len.ensures ∙ sym long)) c.self.invariant.2 c.in_ok-add.ensures.kept c.in_ok-add.ensures.there,
+          (c.push_reserved.ensures.items ∙ ap (λ r. c.self.inside.rows.items ++ r ∷ []) c.in_ok-new.ensures) (ap (λ n. n + 1) (c.len.ensures ∙ sym long)) c.self.invariant.2 c.in_ok-add.ensures.kept c.in_ok-add.ensures.there,
+      omega (arith, c.self.invariant.3),
     )

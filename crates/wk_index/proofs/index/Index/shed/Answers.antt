@@ -16,4 +16,5 @@ invariant_of-self c = (
       (subst (λ h. AreAmong c.args.rows (rows_of h.stored c.args.page)) (sym c.self.view_is) c.requires.among)
       c.self.invariant.2
       (subst (λ l. SparesAll (rows_of l c.args.page) c.args.page c.self.inside.found c.shed.new.self) c.deref.ensures.value c.shed.ensures),
+  c.self.invariant.3,
 )

@@ -20,9 +20,7 @@ returns-in-Some c =
     let job = c.index-job.result.now in
     let found : position (is_of page) cs ≡ Some c.in-Some.place = ap (position (is_of page)) (sym c.deref.ensures.value) ∙ sym c.in-Some.ensures in
     let at = position-Some (is_of page) cs c.in-Some.place job found in
-    let own : job.page ≡ page = ap (λ (j : ClaimedJob). j.page) c.index-job.ensures ∙ eqb-true _ page at.1 in
-    let entry : ℕ → RefreshEntry = λ p. record { number = job.number; page = p; ticket = Some job.ticket } in
-    ap (λ p. Some (entry p)) (sym own) ∙ ap (λ (j : ClaimedJob). Some (claimed_entry j)) c.index-job.ensures
+    ap Some c.claimed_job.ensures ∙ ap (λ (j : ClaimedJob). Some (claimed_entry j)) c.index-job.ensures
     ∙ sym (job_of-claimed cs c.self.inside.queued.items page c.in-Some.place job at.0 at.1 at.2) ∙ ap (λ r. job_of r.jobs page) c.self.view_is
 
 pub returns-in-Some-get : goal.returns-in-Some-get

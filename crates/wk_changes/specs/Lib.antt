@@ -1,0 +1,3 @@
+pub mod Parts
+pub use Rattle.wk_wiki_rules.specs.TableChanges
+pub use Rattle.wk_state_rules.specs.Tables

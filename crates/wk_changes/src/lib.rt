@@ -1,0 +1,17 @@
+//! The changes of a store's tables that go with what happens to a wiki, made from the wiki's revisions, jobs and link
+//! rows, and the tables of all that it holds.
+#![tactic(auto)]
+
+mod fans;
+mod job_rows;
+mod migration;
+mod refreshes;
+mod rows;
+mod saves;
+mod tables;
+
+pub use fans::fan_change;
+pub use migration::migration;
+pub use refreshes::{refresh_change, refresh_change_without_rows};
+pub use saves::save_change;
+pub use tables::tables;

@@ -1,0 +1,194 @@
+//! The change of a save.
+ghost use Rattle.std.specs.Prelude.{◌≡◌, ℕ, ◌+◌, ◌<◌, ◌^◌, ◌++◌, ◌∷◌, ◌||◌, [], not, map, is_some, List, true, IfOk, OnOk};
+ghost use Rattle.std.specs.Option.{option_copied, option_to_list};
+ghost use Rattle.wk_row_rules.specs.PageRows.{PageRows};
+ghost use Rattle.wk_job_rules.specs.Jobs.{JobLists, has_fan, refresh_queued, wider};
+ghost use Rattle.wk_job_rules.specs.Steps.{reach_of_save};
+ghost use Rattle.wk_job_rules.specs.Users.{some_page_names};
+ghost use Rattle.wk_wiki_rules.specs.TableChanges.{fan_edits, refresh_edits, save_change, saved_page, saved_revision};
+ghost use Rattle.wk_tables.specs.Edits.{edit_of};
+ghost use Rattle.wk_changes.specs.Parts.{parts, wants_fan};
+
+use crate::job_rows::{refresh_row, row_of_fan};
+use crate::rows::{page_row, revision_row};
+use std::alloc::Global;
+use wk_bytes::Text;
+use wk_index::Index;
+use wk_jobs::{FanJob, Jobs};
+use wk_memory::Memory;
+use wk_revs::Revs;
+use wk_row_rules::Reach;
+use wk_tables::{Change, PageRow, RevisionRow, RowEdit};
+use wk_title::Title;
+
+/// The row of the revision that the save makes.
+fn saved_revision(
+    alloc: Global,
+    revs: &Revs,
+    title: &Title,
+    text: Option<&Text>,
+    moment: u64,
+) -> Result<RevisionRow, Memory>
+    ensures { IfOk result (λ row. row ≡ saved_revision revs.now.history title.now (option_copied text.entry) moment) }
+{
+    let number = revs.next_revision();
+    let page = revs.page_to_save(title);
+    let parent = revs.current(title);
+    revision_row(alloc, number, page, parent, moment, text)
+}
+
+/// The row that the page of the save has from then on.
+fn saved_page(revs: &Revs, title: &Title, text: Option<&Text>) -> Result<PageRow, Memory>
+    ensures { IfOk result (λ row. row ≡ saved_page revs.now.history title.now (option_copied text.entry)) }
+{
+    let page = revs.page_to_save(title);
+    // A deletion leaves the page missing.
+    let latest = if text.is_some() {
+        revs.next_revision()
+    } else {
+        0
+    };
+    page_row(page, title, latest, text)
+}
+
+/// Whether the save reaches the pages that test for the title's existence.
+fn reach_of_save(existed: bool, exists: bool) -> Reach
+    ensures { result ≡ reach_of_save existed exists }
+{
+    if existed == exists {
+        Reach::Text
+    } else {
+        Reach::Both
+    }
+}
+
+/// The edit that adds a refresh job of the page, which has this title, where it has none.
+fn refresh_edit(
+    alloc: Global,
+    jobs: &Jobs,
+    page: u32,
+    title: &Title,
+) -> Result<Option<RowEdit>, Memory>
+    ensures { IfOk result (λ edit. map edit_of (option_to_list edit) ≡ refresh_edits jobs.now.lists page title.now) }
+{
+    if jobs.refresh_job(page).is_some() {
+        return Ok(None);
+    }
+    let row = refresh_row(alloc, jobs.next_number(), title)?;
+    Ok(Some(RowEdit::AddJob(row)))
+}
+
+/// The number of the next new job once the page has a refresh job.
+fn number_behind(jobs: &Jobs, page: u32) -> u64
+    requires { jobs.now.lists.next < 2 ^ 63 }
+    ensures { result ≡ (refresh_queued jobs.now.lists page).next }
+{
+    if jobs.refresh_job(page).is_some() {
+        jobs.next_number()
+    } else {
+        jobs.next_number() + 1
+    }
+}
+
+/// The reach that covers both.
+fn wider(a: Reach, b: Reach) -> Reach
+    ensures { result ≡ wider a b }
+{
+    match a {
+        Reach::Text => b,
+        Reach::Both => Reach::Both,
+    }
+}
+
+/// The edit that begins the title's fan job anew, or adds one with this number where it has none. One is wanted.
+fn fan_edit(
+    alloc: Global,
+    jobs: &Jobs,
+    number: u64,
+    title: &Title,
+    reach: Reach,
+) -> Result<RowEdit, Memory>
+    ensures { IfOk result (λ edit. (stored : List PageRows) (lists : JobLists) → lists.fans ≡ jobs.now.lists.fans → lists.next ≡ number
+        → (has_fan lists title.now || some_page_names stored title.now reach) ≡ true
+        → edit_of edit ∷ [] ≡ fan_edits stored lists title.now reach) }
+{
+    match jobs.fan_job(title) {
+        Some(fan) => {
+            let anew = FanJob {
+                number: fan.number,
+                title: fan.title.share()?,
+                reach: wider(fan.reach, reach),
+                cursor: 0,
+            };
+            Ok(RowEdit::SetJob(row_of_fan(alloc, anew)?))
+        }
+        None => {
+            let new = FanJob {
+                number,
+                title: title.share()?,
+                reach,
+                cursor: 0,
+            };
+            Ok(RowEdit::AddJob(row_of_fan(alloc, new)?))
+        }
+    }
+}
+
+/// The edits of the jobs that the save of this page queues, which has this title: a refresh job of the page, and a fan
+/// job of the title where one is wanted.
+fn job_edits(
+    alloc: Global,
+    jobs: &Jobs,
+    page: u32,
+    title: &Title,
+    reach: Reach,
+    wants_fan: bool,
+) -> Result<Vec<RowEdit>, Memory>
+    requires numbers { jobs.now.lists.next < 2 ^ 63 }
+    ensures { IfOk result (λ edits. (stored : List PageRows)
+        → wants_fan ≡ (has_fan jobs.now.lists title.now || some_page_names stored title.now reach)
+        → map edit_of edits.items ≡ refresh_edits jobs.now.lists page title.now
+          ++ fan_edits stored (refresh_queued jobs.now.lists page) title.now reach) }
+{
+    let mut edits = Vec::with_capacity(alloc, 2)?;
+    if let Some(edit) = refresh_edit(alloc, jobs, page, title)? {
+        edits.push(edit)?;
+    }
+    if wants_fan {
+        let number = number_behind(jobs, page);
+        edits.push(fan_edit(alloc, jobs, number, title, reach)?)?;
+    }
+    Ok(edits)
+}
+
+/// The change of the tables that goes with a save of the title, of this text or, where there is none, of a deletion, at
+/// this many seconds since 1970: the revision, its page, and the jobs that it queues. Whether it wants a fan job is told.
+/// Texts and titles are shared. Its cost doesn't grow with the wiki, but for the fan jobs, among which the title's is
+/// looked for.
+pub fn save_change(
+    alloc: Global,
+    revs: &Revs,
+    jobs: &Jobs,
+    index: &Index,
+    title: &Title,
+    text: Option<&Text>,
+    moment: u64,
+    wants_fan: bool,
+) -> Result<Change, Memory>
+    requires numbers { jobs.now.lists.next < 2 ^ 63 }
+    requires wants_fan { wants_fan ≡ wants_fan (parts revs.now jobs.now index.now) title.now (option_copied text.entry) }
+    ensures { IfOk result (λ change. change ≡ save_change (parts revs.now jobs.now index.now) title.now (option_copied text.entry) moment) }
+{
+    let page = revs.page_to_save(title);
+    let reach = reach_of_save(revs.current(title) != 0, text.is_some());
+    let queued = job_edits(alloc, jobs, page, title, reach, wants_fan)?;
+    let revision = saved_revision(alloc, revs, title, text, moment)?;
+    let row = saved_page(revs, title, text)?;
+    let mut edits = Vec::with_capacity(alloc, 4)?;
+    edits.push(RowEdit::AddRevision(revision))?;
+    edits.push(RowEdit::SetPage(row))?;
+    for edit in queued {
+        edits.push(edit)?;
+    }
+    Ok(Change { edits })
+}

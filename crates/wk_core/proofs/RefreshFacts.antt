@@ -1,0 +1,185 @@
+-- What holds of a refresh that comes in.
+use Rattle.std.proofs.Common.{◌≡◌, ℕ, zero, suc, ◌+◌, ◌-◌, ◌≤◌, ◌<◌, eqb, Bool, true, false, cond, ◌&&◌, List, [], ◌∷◌, ◌++◌, length, filter, not, Option, Some, None, refl, sym, ap, ◌∙◌, inl, inr, subst, arith}
+use Rattle.std.specs.Prelude.{slice_get, slice_set, is_some, IfSome, IsSome, bytes_eq, option_map, find, unwrap_or}
+use Rattle.std.specs.List.{All, AllByRecursion, list_any}
+use Rattle.std.proofs.lemmas.Bool.{cases_Bool, eqb-true, or_left, or_right, and_from}
+use Rattle.std.proofs.lemmas.List.Elements.{All-from_recursion}
+use Rattle.std.proofs.lemmas.List.Folds.{list_any-append}
+use Rattle.std.proofs.lemmas.Slice.Eq.{bytes_eq-Decides}
+use Rattle.wk_text_rules.specs.Titles.{PageTitle, title_eq}
+use Rattle.wk_row_rules.specs.PageRows.{Member, PageRows, no_rows}
+use Rattle.wk_view_laws.proofs.PlanLemmas.{title_eq-same}
+use Rattle.wk_view_rules.specs.Rows.{rows}
+use Rattle.wk_table_rules.specs.Changes.{TableEdit}
+use Rattle.wk_job_rules.specs.Jobs.{RefreshEntry, IsOneAPage, page_held_by, refresh_dropped}
+use Rattle.wk_job_rules.specs.Steps.{fan_pages}
+use Rattle.wk_state_rules.specs.States.{State, stored_at, title_at, world_of}
+use Rattle.wk_state_rules.specs.Events.{Claim, Done, Back, with_jobs, with_refreshed}
+use Rattle.wk_state_rules.specs.Tables.{tables_of}
+use Rattle.wk_state_laws.specs.Kept.{IsKept}
+use Rattle.wk_state_laws.proofs.Refreshed.{held-within}
+use Rattle.wk_wiki_rules.specs.TableChanges.{job_held_by, refresh_change, refresh_change_without_rows}
+use Rattle.wk_wiki_laws.specs.Makes.{Makes}
+use Rattle.wk_wiki_laws.proofs.ChangesMade.{back-step, claim-step, refresh-step, refresh-step-same}
+use Rattle.wk_wiki_laws.proofs.TicketsOut.{held-job}
+use Rattle.wk_life_laws.specs.Lives.{Life, IsLife, journal_of, start_of}
+use Rattle.wk_life_laws.specs.Next.{IsNext}
+use Rattle.wk_life_laws.proofs.RunFacts.{run_kept}
+use Rattle.wk_listing_rules.specs.Names.{admitted, joined, member_eq, AreAmong, with_rows_at}
+
+-- ---- the old rows are among those of both
+
+module _ {X : Type 0} (same : X → X → Bool) (reflects : (a : X) → same a a ≡ true) where
+  old-among : (old all new : List X) → ((x : X) → list_any (same x) old ≡ true → list_any (same x) all ≡ true) → AllByRecursion (λ x. list_any (same x) (joined same all new) ≡ true) old
+  old-among [] all new within = tt
+  old-among (x ∷ old) all new within = (
+    list_any-append (same x) all (filter (λ y. not (list_any (same y) all)) new)
+    ∙ or_left (list_any (same x) all) (list_any (same x) (filter (λ y. not (list_any (same y) all)) new)) (within x (or_left (same x x) (list_any (same x) old) (reflects x))),
+    old-among old all new (λ y there. within y (or_right (same y x) (list_any (same y) old) there)),
+  )
+
+  AllOld : (old new : List X) → All (λ x. list_any (same x) (joined same old new) ≡ true) old
+  AllOld old new = All-from_recursion (λ x. list_any (same x) (joined same old new) ≡ true) old (old-among old old new (λ x there. there))
+
+same-member : (a : Member) → member_eq a a ≡ true
+same-member a =
+    and_from (title_eq a.category a.category && bytes_eq a.sortkey a.sortkey) (bytes_eq a.prefix a.prefix)
+    (and_from (title_eq a.category a.category) (bytes_eq a.sortkey a.sortkey) (title_eq-same a.category) ((bytes_eq-Decides a.sortkey a.sortkey).1 refl))
+    ((bytes_eq-Decides a.prefix a.prefix).1 refl)
+
+pub old-rows : (old new : PageRows) → AreAmong old (admitted old new)
+old-rows old new = record {
+  templates = AllOld title_eq title_eq-same old.templates new.templates;
+  exists = AllOld title_eq title_eq-same old.exists new.exists;
+  links = AllOld title_eq title_eq-same old.links new.links;
+  members = AllOld member_eq same-member old.members new.members;
+  redirect = kept old.redirect new.redirect;
+}
+  where
+    kept : (o n : Option PageTitle) → IfSome o (λ title. is_some (cond (is_some n) n o) ≡ true)
+    kept None n = tt
+    kept (Some title) None = refl
+    kept (Some title) (Some new) = refl
+
+-- ---- rows of one page among all
+
+get-set : {X : Type 0} (xs : List X) (k : ℕ) (old x : X) → slice_get xs k ≡ Some old → slice_get (slice_set xs k x) k ≡ Some x
+get-set [] zero old x there = absurd (let e : None ≡ Some old = there in cc)
+get-set [] (suc k) old x there = absurd (let e : None ≡ Some old = there in cc)
+get-set (y ∷ xs) zero old x there = refl
+get-set (y ∷ xs) (suc k) old x there = get-set xs k old x there
+
+set-set-back : {X : Type 0} (xs : List X) (k : ℕ) (old x : X) → slice_get xs k ≡ Some old → slice_set (slice_set xs k x) k old ≡ xs
+set-set-back [] zero old x there = refl
+set-set-back [] (suc k) old x there = refl
+set-set-back (y ∷ xs) zero old x there = let same : y ≡ old = (let e : Some y ≡ Some old = there in cc) in ap (λ z. z ∷ xs) (sym same)
+set-set-back (y ∷ xs) (suc k) old x there = ap (λ zs. y ∷ zs) (set-set-back xs k old x there)
+
+set-twice : {X : Type 0} (xs : List X) (k : ℕ) (x z : X) → slice_set (slice_set xs k x) k z ≡ slice_set xs k z
+set-twice [] zero x z = refl
+set-twice [] (suc k) x z = refl
+set-twice (y ∷ xs) zero x z = refl
+set-twice (y ∷ xs) (suc k) x z = ap (λ zs. y ∷ zs) (set-twice xs k x z)
+
+set-same : {X : Type 0} (xs : List X) (k : ℕ) (x : X) → slice_get xs k ≡ Some x → slice_set xs k x ≡ xs
+set-same [] zero x there = refl
+set-same [] (suc k) x there = refl
+set-same (y ∷ xs) zero x there = let same : y ≡ x = (let e : Some y ≡ Some x = there in cc) in ap (λ z. z ∷ xs) (sym same)
+set-same (y ∷ xs) (suc k) x there = ap (λ zs. y ∷ zs) (set-same xs k x there)
+
+-- the rows of the page with this number, where there is such a page
+abbrev rows-at : List PageRows → ℕ → Option PageRows
+rows-at stored page = cond (eqb page 0) None (slice_get stored (page - 1))
+
+get-there : {X : Type 0} (xs : List X) (k : ℕ) → k < length xs → (x : X) × (slice_get xs k ≡ Some x)
+get-there [] k within = absurd (omega (arith, within))
+get-there (x ∷ xs) zero within = (x, refl)
+get-there (x ∷ xs) (suc k) within = get-there xs k (omega (arith, within))
+
+not-zero : (page : ℕ) → 1 ≤ page → eqb page 0 ≡ false
+not-zero page some = elim (cases_Bool (eqb page 0)) [
+  | inl zero_page ↦ absurd (let e = eqb-true page 0 zero_page in omega (arith, e, some))
+  | inr other ↦ other
+]
+
+pub rows-there : (stored : List PageRows) (page : ℕ) → 1 ≤ page → page ≤ length stored → (rows : PageRows) × (rows-at stored page ≡ Some rows)
+rows-there stored page some within =
+    let at = get-there stored (page - 1) (omega (arith, some, within)) in
+    (at.0, ap (λ b. cond b None (slice_get stored (page - 1))) (not-zero page some) ∙ at.1)
+
+rows-get : (stored : List PageRows) (page : ℕ) (rows : PageRows) → rows-at stored page ≡ Some rows → slice_get stored (page - 1) ≡ Some rows
+rows-get stored page rows there = elim (cases_Bool (eqb page 0)) [
+  | inl zero_page ↦ absurd (let e : None ≡ Some rows = rw zero_page at there in cc)
+  | inr other ↦ rw other at there
+]
+
+-- between the halves of a change the page is there still, with the rows of both
+pub rows-between : (stored : List PageRows) (page : ℕ) (old between : PageRows) → rows-at stored page ≡ Some old → rows-at (with_rows_at stored page between) page ≡ Some between
+rows-between stored page old between there = elim (cases_Bool (eqb page 0)) [
+  | inl zero_page ↦ absurd (let e : None ≡ Some old = rw zero_page at there in cc)
+  | inr other ↦ ap (λ b. cond b None (slice_get (with_rows_at stored page between) (page - 1))) other ∙ get-set stored (page - 1) old between (rows-get stored page old there)
+]
+
+pub rows-back : (stored : List PageRows) (page : ℕ) (old between : PageRows) → rows-at stored page ≡ Some old → with_rows_at (with_rows_at stored page between) page old ≡ stored
+rows-back stored page old between there = set-set-back stored (page - 1) old between (rows-get stored page old there)
+
+pub rows-new : (stored : List PageRows) (page : ℕ) (between new : PageRows) → with_rows_at (with_rows_at stored page between) page new ≡ with_rows_at stored page new
+rows-new stored page between new = set-twice stored (page - 1) between new
+
+-- ---- a refresh that is done
+
+module _ (life : Life) (is : IsLife life) (ticket page : ℕ) (holds : page_held_by life.state.jobs ticket ≡ Some page) where
+  kept-now : IsKept life.state
+  kept-now = run_kept (start_of life) (journal_of life) life.state is.run
+
+  pub page-within : (1 ≤ page) × (page ≤ length life.state.stored)
+  page-within = held-within life.state ticket page kept-now.formed holds
+
+  pub page-there : (rows : PageRows) × (rows-at life.state.stored page ≡ Some rows)
+  page-there = rows-there life.state.stored page page-within.0 page-within.1
+
+  pub one-a-page : IsOneAPage life.state.jobs
+  one-a-page = kept-now.one_page
+
+  pub job-there : (job : RefreshEntry) × ((job_held_by life.state.jobs ticket ≡ Some job) × (job.page ≡ page))
+  job-there = held-job life.state.jobs ticket page holds
+
+  -- where the page has its rows already, the job alone goes
+  pub refreshed-same : stored_at life.state page ≡ rows (world_of life.state) (title_at life.state.history page) → with_jobs life.state (refresh_dropped life.state.jobs page) ≡ with_refreshed life.state page
+  refreshed-same current =
+      let there = rows-get life.state.stored page page-there.0 page-there.1 in
+      let at : stored_at life.state page ≡ page-there.0 =
+          ap (λ b. cond b no_rows (unwrap_or (slice_get life.state.stored (page - 1)) no_rows)) (not-zero page page-within.0)
+          ∙ ap (λ o. unwrap_or o no_rows) there in
+      let same : page-there.0 ≡ rows (world_of life.state) (title_at life.state.history page) = sym at ∙ current in
+      let set = set-same life.state.stored (page - 1) (rows (world_of life.state) (title_at life.state.history page)) (there ∙ ap (λ r. Some r) same) in
+      ap (λ stored. let next : State = record { history = life.state.history; stored = stored; jobs = refresh_dropped life.state.jobs page } in next) (sym set)
+
+  pub done-changes : (next : Life) (change : List TableEdit) → IsNext life (Done ticket) next
+      → ((job : RefreshEntry) → job_held_by life.state.jobs ticket ≡ Some job → job.page ≡ page → change ≡ refresh_change job (rows (world_of life.state) (title_at life.state.history page)))
+      → Makes (tables_of life.state) change (tables_of next.state)
+  done-changes next change made is_change =
+      let job = job-there in
+      let same : rows (world_of life.state) (title_at life.state.history page) ≡ rows (world_of life.state) (title_at life.state.history job.0.page) =
+          ap (λ p. rows (world_of life.state) (title_at life.state.history p)) (sym job.1.1) in
+      let changed = is_change job.0 job.1.0 job.1.1 ∙ ap (refresh_change job.0) same in
+      subst (λ c. Makes (tables_of life.state) c (tables_of next.state)) (sym changed)
+      (refresh-step fan_pages life.state next.state (length (journal_of life)) ticket job.0 kept-now job.1.0 made.done)
+
+  pub done-changes-job : (next : Life) (change : List TableEdit) → IsNext life (Done ticket) next
+      → ((job : RefreshEntry) → job_held_by life.state.jobs ticket ≡ Some job → job.page ≡ page → change ≡ refresh_change_without_rows job)
+      → stored_at life.state page ≡ rows (world_of life.state) (title_at life.state.history page)
+      → Makes (tables_of life.state) change (tables_of next.state)
+  done-changes-job next change made is_change current =
+      let job = job-there in
+      let stored : stored_at life.state job.0.page ≡ rows (world_of life.state) (title_at life.state.history job.0.page) =
+          subst (λ p. stored_at life.state p ≡ rows (world_of life.state) (title_at life.state.history p)) (sym job.1.1) current in
+      subst (λ c. Makes (tables_of life.state) c (tables_of next.state)) (sym (is_change job.0 job.1.0 job.1.1))
+      (refresh-step-same fan_pages life.state next.state (length (journal_of life)) ticket job.0 kept-now job.1.0 made.done stored)
+
+  pub back-tables : (next : Life) → IsNext life (Back ticket) next → tables_of next.state ≡ tables_of life.state
+  back-tables next made = back-step fan_pages life.state next.state (length (journal_of life)) ticket kept-now made.done
+
+-- a claim changes no table
+pub claim-tables : (life next : Life) → IsNext life Claim next → tables_of next.state ≡ tables_of life.state
+claim-tables life next made = claim-step fan_pages life.state next.state (length (journal_of life)) made.done

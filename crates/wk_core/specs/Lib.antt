@@ -1,0 +1,10 @@
+pub mod Accepted
+pub mod Answers
+pub mod Entries
+pub mod LifeHeld
+pub mod LifeInside
+pub mod Limits
+pub mod Loads
+pub mod Seen
+pub mod Steps
+pub mod Tickets

@@ -1,0 +1,45 @@
+-- What a wiki is seen as (own).
+use Rattle.std.specs.Prelude.{◌≡◌, Bool, List, Option, IfSome, length}
+use Rattle.wk_page_rules.specs.Verdict.{EditAsked, Verdict}
+use Rattle.wk_table_rules.specs.Rows.{StoreTables}
+use Rattle.wk_state_rules.specs.States.{State}
+use Rattle.wk_state_rules.specs.Events.{Event}
+use Rattle.wk_state_rules.specs.Tables.{tables_of}
+use Rattle.wk_state_rules.specs.Verdicts.{verdict_in}
+use Rattle.wk_wiki_rules.specs.Room.{is_claim_refused, is_fan_refused}
+use Rattle.wk_wiki_rules.specs.Starts.{Start}
+use Rattle.wk_life_laws.specs.Lives.{Life, start_of, journal_of}
+
+pub record WikiSeen (K : Type 0) : Type 0 where
+  -- how it began
+  pub start : Start
+  -- what has happened since
+  pub journal : List Event
+  -- what it is now: what the journal makes of the start
+  pub state : State
+  -- what keeps its tables
+  pub keeper : K
+
+-- what is seen of a wiki that keeps this, with this keeper
+abbrev pub seen : {K : Type 0} → (K → Bool) → Life → K → WikiSeen K
+seen is_whole life keeper = record {
+  start = record (start_of life) { whole = is_whole keeper };
+  journal = journal_of life;
+  state = life.state;
+  keeper = keeper;
+}
+
+-- the verdict on an edit now
+abbrev pub verdict_now : {K : Type 0} → WikiSeen K → EditAsked → Verdict
+verdict_now wiki edit = verdict_in wiki.start.limits wiki.state (length wiki.journal) edit
+
+-- the journal has no room for a claim now, or for a fan
+abbrev pub is_claim_refused_now : {K : Type 0} → WikiSeen K → Bool
+is_claim_refused_now wiki = is_claim_refused wiki.start.limits wiki.state (length wiki.journal)
+
+abbrev pub is_fan_refused_now : {K : Type 0} → WikiSeen K → Bool
+is_fan_refused_now wiki = is_fan_refused wiki.start.limits wiki.state (length wiki.journal)
+
+-- a keeper that tells its tables has those of the state
+abbrev pub IsTold : {K : Type 0} → (K → Option StoreTables) → State → K → Type 0
+IsTold told state keeper = IfSome (told keeper) (λ tables. tables ≡ tables_of state)

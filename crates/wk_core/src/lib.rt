@@ -1,0 +1,31 @@
+//! The wiki: one store, one journal. Each call of it is one event, or none.
+#![tactic(auto)]
+
+mod claims;
+mod fans;
+mod fetches;
+mod life;
+mod listings;
+mod load;
+mod outcomes;
+mod refreshes;
+mod restart;
+mod saves;
+mod storied;
+mod ticket;
+mod wiki;
+
+pub use outcomes::{
+    ClaimRefusal, FanRefusal, Fanned, Finished, LoadCause, LoadRefusal, PageRead, ReadRefusal,
+    Saved,
+};
+pub use storied::{JournalEvent, WikiStart};
+pub use ticket::Ticket;
+pub use wiki::Wiki;
+pub use wk_expand::{Answer, Draft, Kind, SharedDraft};
+pub use wk_index::MemberPage;
+pub use wk_jobs::Left;
+pub use wk_keeper::{Keeper, KeeperRefusal};
+pub use wk_revs::{Edit, Limit, Limits, Revision, SaveRefusal};
+pub use wk_tables::{BadStore, Reach, Tables};
+pub use wk_wiki_rules::Entry;

@@ -1,0 +1,240 @@
+//! Saves.
+ghost use Rattle.std.specs.Prelude.{◌≡◌, ◌≤◌, None, Some, length, IfOk, IfErr, IfSome, OnErr, OnOk};
+ghost use Rattle.std.specs.Option.{option_copied};
+ghost use Rattle.wk_base.specs.Faults.{Rose};
+ghost use Rattle.wk_page_rules.specs.History.{next_revision};
+ghost use Rattle.wk_page_rules.specs.Verdict.{accept, refuse};
+ghost use Rattle.wk_state_rules.specs.Events.{Save};
+ghost use Rattle.wk_state_rules.specs.Verdicts.{event_of, verdict_in};
+ghost use Rattle.wk_wiki_rules.specs.SaveOutcomes.{deletion, save_outcome};
+ghost use Rattle.wk_wiki_rules.specs.TableChanges.{save_change};
+ghost use Rattle.wk_revs.specs.Edit.{edit_asked};
+ghost use Rattle.wk_revs.specs.Verdict.{IfAccept, refusal_of, verdict_of};
+ghost use Rattle.wk_live.specs.HeldState.{HasRoomFor};
+ghost use Rattle.wk_live.specs.Wanted.{fan_of_save};
+ghost use Rattle.wk_life_laws.specs.Lives.{journal_of};
+ghost use Rattle.wk_life_laws.specs.Next.{IsNext};
+ghost use Rattle.wk_core.specs.Accepted.{IsAccepted};
+ghost use Rattle.wk_core.specs.Answers.{saved_outcome};
+ghost use Rattle.wk_core.specs.Seen.{IsTold, seen, verdict_now};
+ghost use Rattle.wk_core.specs.Steps.{GoesOn, HasMade, HasMadeAtMost, HasMadeNothing};
+
+use crate::life::Life;
+use crate::outcomes::Saved;
+use crate::wiki::Wiki;
+use wk_bytes::Text;
+use wk_changes::save_change;
+use wk_keeper::{Keeper, KeeperRefusal};
+use wk_live::reach_of_save;
+use wk_memory::Memory;
+use wk_revs::{Edit, SaveRefusal, Verdict};
+use wk_tables::Change;
+use wk_title::Title;
+use wk_wiki_rules::Entry;
+
+/// What a save wants memory for: its change of the tables, the title that is told of it, and the title of its fan job.
+#[derive(Drop)]
+struct Prepared {
+    change: Change,
+    told: Title,
+    fan: Option<Title>,
+}
+
+impl Life {
+    /// What becomes of an edit: the first that applies.
+    fn judge(&self, edit: &Edit) -> Result<Verdict, Memory>
+        ensures verdict { IfOk result (λ verdict. verdict_of verdict
+            ≡ Some (verdict_in self.now.life.limits self.now.life.state (length (journal_of self.now.life)) (edit_asked edit.now))) }
+        ensures accepted { IfOk result (λ verdict. IfAccept verdict (IsAccepted self.now.life)) }
+    {
+        let alloc = *self.entries.allocator();
+        match self.live.revs().judge(alloc, edit, &self.limits)? {
+            Verdict::Refuse(refusal) => Ok(Verdict::Refuse(refusal)),
+            Verdict::NoChange(title) => Ok(Verdict::NoChange(title)),
+            Verdict::Accept(title, text) => {
+                if self.is_full() {
+                    return Ok(Verdict::Refuse(SaveRefusal::JournalFull));
+                }
+                Ok(Verdict::Accept(title, text))
+            }
+        }
+    }
+
+    /// The title for the fan job that a save sets or adds, where it does.
+    fn fan_of_save(&self, title: &Title, text: Option<&Text>) -> Result<Option<Title>, Memory>
+        ensures { IfOk result (λ fan. fan ≡ fan_of_save self.now.life.state title.now (option_copied text.entry)) }
+    {
+        let existed = self.live.revs().current(title) != 0;
+        let reach = reach_of_save(existed, text.is_some());
+        if self.live.wants_fan(title, reach)? {
+            return Ok(Some(title.share()?));
+        }
+        Ok(None)
+    }
+
+    /// Takes the memory that a save wants.
+    fn prepare_save(
+        &mut self,
+        title: &Title,
+        text: Option<&Text>,
+        moment: u64,
+    ) -> Result<Prepared, Memory>
+        requires accepted { IsAccepted self.old.life title.now (option_copied text.entry) }
+        ensures change { IfOk result (λ p. p.change ≡ save_change self.old.life.state title.now (option_copied text.entry) moment) }
+        ensures told { IfOk result (λ p. p.told ≡ title.now) }
+        ensures fan { IfOk result (λ p. p.fan ≡ fan_of_save self.old.life.state title.now (option_copied text.entry)) }
+        ensures room { OnOk result (HasRoomFor 1 self.new.room) }
+        ensures spare { OnOk result (1 ≤ self.new.spare) }
+        ensures life { self.new.life ≡ self.old.life }
+    {
+        self.live.make_room(1)?;
+        self.make_room(1)?;
+        let alloc = *self.entries.allocator();
+        let fan = self.fan_of_save(title, text)?;
+        let wants_fan = fan.is_some();
+        let (revs, jobs, index) = (self.live.revs(), self.live.jobs(), self.live.index());
+        let change = save_change(alloc, revs, jobs, index, title, text, moment, wants_fan)?;
+        let told = title.share()?;
+        Ok(Prepared { change, told, fan })
+    }
+
+    /// Saves the text, and gives the number of the revision. Takes no memory.
+    fn save(&mut self, title: Title, text: Option<Text>, moment: u64, fan: Option<Title>) -> u64
+        requires accepted { IsAccepted self.old.life title text }
+        requires unsealed { self.old.life.sealed ≡ None }
+        requires fan { fan ≡ fan_of_save self.old.life.state title text }
+        requires room { HasRoomFor 1 self.old.room }
+        requires spare { 1 ≤ self.old.spare }
+        ensures next { IsNext self.old.life (Save title text moment) self.new.life }
+        ensures number { result ≡ next_revision self.old.life.state.history }
+    {
+        let revision = self.live.save(title, text, moment, fan);
+        self.entries.push_reserved(Entry::Save { revision });
+        self.spare -= 1;
+        revision
+    }
+}
+
+/// Saves what was accepted: writes it to the store, and then changes the wiki. All memory is taken before.
+fn save_accepted<K: Keeper>(
+    keeper: &mut K,
+    life: &mut Life,
+    title: Title,
+    text: Option<Text>,
+    moment: u64,
+) -> Result<Saved, SaveRefusal>
+    requires accepted { IsAccepted life.old.life title text }
+    requires unsealed { life.old.life.sealed ≡ None }
+    requires told { IsTold K.told life.old.life.state keeper.old }
+    ensures told { IsTold K.told life.new.life.state keeper.new }
+    ensures saved { IfOk result (λ saved. Some (saved_outcome saved) ≡ save_outcome life.old.life.state.history (accept title text)) }
+    ensures event { OnOk result (HasMade (seen K.is_whole life.old.life keeper.old) (seen K.is_whole life.new.life keeper.new) (Save title text moment)) }
+    ensures refused { OnErr result (HasMadeNothing K.told (seen K.is_whole life.old.life keeper.old) (seen K.is_whole life.new.life keeper.new)) }
+    ensures refusal { IfErr result (λ refusal. refusal_of refusal ≡ None) }
+    ensures keeper { GoesOn K.told K.faults (seen K.is_whole life.old.life keeper.old) (seen K.is_whole life.new.life keeper.new) }
+    ensures fault { result ≡ Err SaveRefusal.StoreFault → Rose (K.faults keeper.old) (K.faults keeper.new) }
+    ensures no_fault { OnOk result (K.faults keeper.new ≡ K.faults keeper.old) }
+{
+    let Ok(prepared) = life.prepare_save(&title, text.as_ref(), moment) else {
+        return Err(SaveRefusal::Memory);
+    };
+    let page = life.live().revs().page_to_save(&title);
+    let old = life.live().revs().current(&title);
+    match keeper.apply(&prepared.change) {
+        Ok(()) => {
+            let new = life.save(title, text, moment, prepared.fan);
+            Ok(saved(prepared.told, page, old, new))
+        }
+        Err(KeeperRefusal::Failed) => Err(SaveRefusal::StoreFault),
+        Err(KeeperRefusal::Memory) => Err(SaveRefusal::Memory),
+    }
+}
+
+/// What is told of a save. Takes no memory.
+fn saved(title: Title, page: u32, old: u64, new: u64) -> Saved {
+    if old == 0 {
+        Saved::New {
+            title,
+            page,
+            old,
+            new,
+        }
+    } else {
+        Saved::Changed {
+            title,
+            page,
+            old,
+            new,
+        }
+    }
+}
+
+impl<K: Keeper> Wiki<K> {
+    /// Saves an edit at this many seconds since 1970 (MediaWiki's API:Edit; the limits and the order are own), where the
+    /// wiki isn't sealed.
+    ///
+    /// The refusals, in their order; the first that applies is told. `InvalidTitle`: the title names none, or one in a
+    /// namespace in which no page can be. `ContentTooBig`: the text as it would be kept has more than 2,097,152 bytes.
+    /// `ArticleExists`: only a missing page was to be saved, and it exists. `MissingTitle`: only a page that exists was to
+    /// be saved or deleted, and it is missing. `EditConflict`: the edit names a base that isn't the current revision, 0
+    /// where the page is missing. Then comes `NoChange`, which is no refusal: the page has this text already. `WikiFull`:
+    /// a limit would be passed. `JournalFull`: the journal's length and the tickets that are out are at the limit, or the
+    /// numbers of jobs have come to their end. `Memory` may come at any place of this order, and `StoreFault` only where
+    /// the keeper's count of faults rose.
+    ///
+    /// What is accepted is the event of a save; after a refusal and after `NoChange` the wiki is as before.
+    pub fn save(&mut self, edit: &Edit, now: u64) -> Result<Saved, SaveRefusal>
+        requires unsealed { self.old.start.sealed ≡ None }
+        ensures saved { IfOk result (λ saved. Some (saved_outcome saved)
+            ≡ save_outcome self.old.state.history (verdict_now self.old (edit_asked edit.now))) }
+        ensures event { OnOk result (HasMadeAtMost K.told self.old self.new (event_of (verdict_now self.old (edit_asked edit.now)) now)) }
+        ensures refusal { IfErr result (λ refusal. IfSome (refusal_of refusal)
+            (λ cause. verdict_now self.old (edit_asked edit.now) ≡ refuse cause)) }
+        ensures refused { OnErr result (HasMadeNothing K.told self.old self.new) }
+        ensures keeper { GoesOn K.told K.faults self.old self.new }
+        ensures fault { result ≡ Err SaveRefusal.StoreFault → Rose (K.faults self.old.keeper) (K.faults self.new.keeper) }
+        ensures no_fault { OnOk result (K.faults self.new.keeper ≡ K.faults self.old.keeper) }
+    {
+        let Ok(verdict) = self.life.judge(edit) else {
+            return Err(SaveRefusal::Memory);
+        };
+        match verdict {
+            Verdict::Refuse(refusal) => Err(refusal),
+            Verdict::NoChange(title) => {
+                let page = self.life.live().revs().page_to_save(&title);
+                Ok(Saved::NoChange { title, page })
+            }
+            Verdict::Accept(title, text) => {
+                save_accepted(&mut self.keeper, &mut self.life, title, text, now)
+            }
+        }
+    }
+
+    /// Deletes a page that exists: a save of nothing (MediaWiki's API:Delete). With a base it is refused as a conflict
+    /// where that isn't the current revision. Answers, refusals and what they leave are those of `save`.
+    pub fn remove(&mut self, title: &str, base: Option<u64>, now: u64) -> Result<Saved, SaveRefusal>
+        requires unsealed { self.old.start.sealed ≡ None }
+        ensures saved { IfOk result (λ saved. Some (saved_outcome saved)
+            ≡ save_outcome self.old.state.history (verdict_now self.old (deletion title.now base))) }
+        ensures event { OnOk result (HasMadeAtMost K.told self.old self.new (event_of (verdict_now self.old (deletion title.now base)) now)) }
+        ensures refusal { IfErr result (λ refusal. IfSome (refusal_of refusal)
+            (λ cause. verdict_now self.old (deletion title.now base) ≡ refuse cause)) }
+        ensures refused { OnErr result (HasMadeNothing K.told self.old self.new) }
+        ensures keeper { GoesOn K.told K.faults self.old self.new }
+        ensures fault { result ≡ Err SaveRefusal.StoreFault → Rose (K.faults self.old.keeper) (K.faults self.new.keeper) }
+        ensures no_fault { OnOk result (K.faults self.new.keeper ≡ K.faults self.old.keeper) }
+    {
+        let alloc = self.life.allocator();
+        let Ok(title) = String::from_str(alloc, title) else {
+            return Err(SaveRefusal::Memory);
+        };
+        let edit = Edit {
+            title,
+            body: None,
+            base,
+            create_only: false,
+            no_create: true,
+        };
+        self.save(&edit, now)
+    }
+}

@@ -1,0 +1,50 @@
+//! The wiki.
+ghost use Rattle.std.specs.Prelude.{◌≡◌, length};
+ghost use Rattle.wk_state_laws.specs.Saves.{Continues, saves};
+ghost use Rattle.wk_call_laws.specs.Sound.{IsSoundSince};
+ghost use Rattle.wk_life_laws.specs.Runs.{IsRun};
+ghost use Rattle.wk_core.specs.Seen.{IsTold};
+
+use crate::life::Life;
+use std::marker::Model;
+use wk_keeper::Keeper;
+
+/// A wiki over a store. Contracts see how it began, the journal of what has happened since, its state, and its keeper.
+///
+/// Each call makes one event, or none. What was written to the store is Ok: all memory is taken before. A call that is
+/// refused leaves the wiki as it was, but for `finish`, by which a ticket comes in whatever becomes of it. No call but
+/// `load`, `renew` and `tables` goes over all pages, revisions or jobs.
+#[derive(Drop)]
+pub struct Wiki<K: Keeper> {
+    pub(crate) keeper: K,
+    pub(crate) life: Life,
+}
+
+impl<K: Keeper> Model for Wiki<K> {
+    ghost use Rattle.wk_core.specs.Seen.{WikiSeen, seen, IsTold};
+
+    ghost Value = { WikiSeen K };
+
+    ghost view = { λ w. seen K.is_whole w.life.life w.keeper };
+
+    ghost invariant = { λ w. IsTold K.told w.life.life.state w.keeper };
+}
+
+impl<K: Keeper> Wiki<K> {
+    /// What holds of each wiki. Takes no memory and does nothing.
+    pub fn facts(&self)
+        // The journal is one that calls make from the start, under its limits, and leads to the state. Laws of runs say
+        // what follows.
+        ensures run { IsRun self.now.start self.now.journal self.now.state }
+        // Link rows are sound where they are at the start.
+        ensures sound { IsSoundSince self.now.start.state self.now.state }
+        // The revisions are those of the start, and then one for each save of the journal.
+        ensures history { Continues self.now.start.state.history (saves self.now.journal) self.now.state.history }
+        // The tables that the keeper tells are those of the state.
+        ensures told { IsTold K.told self.now.state self.now.keeper }
+        // It is the keeper that the start tells of.
+        ensures whole { K.is_whole self.now.keeper ≡ self.now.start.whole }
+    {
+        self.life.facts();
+    }
+}

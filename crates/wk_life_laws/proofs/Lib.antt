@@ -1,0 +1,4 @@
+pub mod RunFacts
+pub mod RunRoom
+pub mod RunTickets
+pub mod Lives

@@ -1,0 +1,5 @@
+pub mod FanLaws
+pub mod LoadLaws
+pub mod ReadLaws
+pub mod SaveLaws
+pub mod TicketLaws

@@ -1,0 +1,14 @@
+pub mod Fanned
+pub mod HeldState
+pub mod LiveHeld
+pub mod Stale
+pub mod Wanted
+pub use Rattle.wk_row_rules.specs.PageRows
+pub use Rattle.wk_listing_rules.specs.Names
+pub use Rattle.wk_job_rules.specs.Jobs
+pub use Rattle.wk_job_rules.specs.Steps
+pub use Rattle.wk_state_rules.specs.States
+pub use Rattle.wk_state_rules.specs.Events
+pub use Rattle.wk_state_rules.specs.Lives
+pub use Rattle.wk_wiki_rules.specs.Staleness
+pub use Rattle.wk_wiki_rules.specs.Starts

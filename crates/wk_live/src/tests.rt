@@ -1,0 +1,123 @@
+// What no clause says: that calls which may answer `Memory` answer otherwise.
+ghost use Rattle.std.specs.Prelude.{◌<◌, length};
+
+use crate::Live;
+use std::alloc::Global;
+use std::test::Fail;
+use wk_bytes::Text;
+use wk_expand::{Answer, Kind};
+use wk_row_rules::Reach;
+use wk_table_rows::{JobRow, PageRow, PageRows, RevisionRow, TableRows};
+use wk_tables::{Tables, broken};
+use wk_title::{Title, page_named};
+
+fn text(alloc: Global, bytes: &'static str) -> Result<Text, Fail> {
+    if bytes.len() < 1000 {
+        Ok(Text::new(alloc, bytes)?)
+    } else {
+        Err(Fail::from("a long text"))
+    }
+}
+
+fn title(alloc: Global, bytes: &'static str) -> Result<Title, Fail> {
+    match page_named(alloc, bytes)? {
+        Some(title) => Ok(title),
+        None => Err(Fail::from("no title")),
+    }
+}
+
+/// One page, `P`, with its text and a fan job of its title.
+fn some_tables(alloc: Global, version: u64) -> Result<Tables, Fail> {
+    let mut rows = TableRows::new(alloc);
+    rows.version = version;
+    rows.pages.push(PageRow {
+        page_id: 1,
+        page_namespace: 0,
+        page_title: text(alloc, "P")?,
+        page_latest: 1,
+        page_len: 1,
+    })?;
+    rows.revisions.push(RevisionRow {
+        rev_id: 1,
+        rev_page: 1,
+        rev_parent_id: 0,
+        rev_timestamp: 7,
+        rev_len: 1,
+        rev_gone: false,
+        rev_text: text(alloc, "x")?,
+    })?;
+    rows.jobs.push(JobRow {
+        job_id: 1,
+        job_cmd: text(alloc, "fan")?,
+        job_namespace: 0,
+        job_title: text(alloc, "P")?,
+        job_params: text(alloc, "text:0")?,
+    })?;
+    Ok(Tables::from_rows(alloc, rows)?)
+}
+
+/// The wiki over these tables, where they are good.
+fn load(alloc: Global, version: u64) -> Result<Live, Fail> {
+    let tables = some_tables(alloc, version)?;
+    match broken(alloc, &tables)? {
+        Some(_) => Err(Fail::from("bad tables")),
+        None => Ok(Live::load(alloc, &tables)?),
+    }
+}
+
+#[test]
+fn a_store_is_loaded(rt: HostRuntime) -> Result<(), Fail> {
+    let alloc = rt.alloc();
+    let old = load(alloc, 1)?;
+    assert_eq!(rt; old.jobs().left().queued, 1);
+    let live = load(alloc, 2)?;
+    assert_eq!(rt; live.jobs().left().queued, 0);
+    let kept = live.kept()?;
+    assert_eq!(rt; kept.pages, 1);
+    Ok(())
+}
+
+#[test]
+fn a_page_is_found(rt: HostRuntime) -> Result<(), Fail> {
+    let alloc = rt.alloc();
+    let live = load(alloc, 2)?;
+    let page = title(alloc, "P")?;
+    assert!(rt; live.wants_fan(&page, Reach::Both)?);
+    match live.fetch(&page, Kind::View)? {
+        Answer::Page(Some((revision, _))) => assert_eq!(rt; revision, 1),
+        _ => assert!(rt; false),
+    }
+    Ok(())
+}
+
+/// The pages that the first fan job serves next, and whether they are the last.
+fn served(live: &Live) -> Result<(usize, bool), Fail> {
+    match live.jobs().first_fan() {
+        Some(_) => {
+            let (pages, is_last) = live.next_served(300)?;
+            Ok((pages.len(), is_last))
+        }
+        None => Err(Fail::from("no fan job")),
+    }
+}
+
+/// Adds no rows to those of page 1.
+fn admit(alloc: Global, live: &mut Live) -> Result<(), Fail> {
+    match live.index().rows(1) {
+        Some(_) => {}
+        None => return Err(Fail::from("no page")),
+    }
+    Ok(live.admit(1, &PageRows::new(alloc))?)
+}
+
+#[test]
+fn events_are_prepared(rt: HostRuntime) -> Result<(), Fail> {
+    let alloc = rt.alloc();
+    let mut live = load(alloc, 2)?;
+    live.make_room(1)?;
+    let (count, is_last) = served(&live)?;
+    assert_eq!(rt; count, 0);
+    assert!(rt; is_last);
+    admit(alloc, &mut live)?;
+    Ok(())
+}
