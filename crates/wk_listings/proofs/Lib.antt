@@ -1,0 +1,4 @@
+mod Above
+mod Falling
+mod Last
+mod Listed
