@@ -112,10 +112,10 @@ impl Life {
         keeper: &mut K,
         ticket: u64,
         page: u32,
-        rows: PageRows,
+        new: PageRows,
     ) -> Result<(), KeeperRefusal>
         requires held { page_held_by self.old.life.state.jobs ticket ≡ Some page }
-        requires rows { rows ≡ rows (world_of self.old.life.state) (title_at self.old.life.state.history page) }
+        requires rows { new ≡ rows (world_of self.old.life.state) (title_at self.old.life.state.history page) }
         requires told { IsTold K.told self.old.life.state keeper.old }
         ensures done { OnOk result (IsNext self.old.life (Done ticket) self.new.life) }
         ensures refused { OnErr result (self.new.life ≡ self.old.life) }
@@ -126,8 +126,8 @@ impl Life {
         ensures fault { result ≡ Err KeeperRefusal.Failed → Rose (K.faults keeper.old) (K.faults keeper.new) }
     {
         let alloc = *self.entries.allocator();
-        let change = refresh_change(alloc, self.live.jobs(), page, &rows)?;
-        let new = SharedRows::new(rows)?;
+        let change = refresh_change(alloc, self.live.jobs(), page, &new)?;
+        let new = SharedRows::new(new)?;
         let old = stored_rows(&self.live, page)?;
         write_rows(keeper, &mut self.live, page, old, new, &change)?;
         self.live.drop_refresh(page);

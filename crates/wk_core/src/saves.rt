@@ -79,7 +79,7 @@ impl Life {
         text: Option<&Text>,
         moment: u64,
     ) -> Result<Prepared, Memory>
-        requires accepted { IsAccepted self.old.life title.now (option_copied text.entry) }
+        requires accepted { IsAccepted self.old.life title.now (option_copied text) }
         ensures change { IfOk result (λ p. p.change ≡ save_change self.old.life.state title.now (option_copied text.entry) moment) }
         ensures told { IfOk result (λ p. p.told ≡ title.now) }
         ensures fan { IfOk result (λ p. p.fan ≡ fan_of_save self.old.life.state title.now (option_copied text.entry)) }
