@@ -1,22 +1,24 @@
 -- A set that finds the pages of stored rows finds them still where the rows and the set change together.
 use Rattle.std.proofs.Common.{◌≡◌, ◌⊎◌, ℕ, zero, suc, ◌+◌, ◌-◌, ◌<◌, ◌≤◌, Bool, true, false, cond, eqb, not, ◌&&◌, ◌||◌, List, [], ◌∷◌, ◌++◌, length, set, Option, Some, None, refl, sym, ap, ◌∙◌, subst, inl, inr, arith}
-use Rattle.std.specs.Prelude.{slice_get, slice_set, unwrap_or}
+use Rattle.std.specs.Prelude.{bytes_eq, slice_get, slice_set, unwrap_or}
 use Rattle.std.specs.Option.{IsSome}
 use Rattle.std.specs.List.{All, AllByRecursion, filter, list_any}
 use Rattle.std.proofs.lemmas.Bool.{cases_Bool, and_parts, eqb-true, eqb-false, eq-eqb, false≢true}
 use Rattle.std.proofs.lemmas.List.Elements.{recursion_from_All}
 use Rattle.std.proofs.lemmas.List.Folds.{list_any-append}
 use Rattle.wk_text_rules.specs.Titles.{PageTitle, title_eq}
-use Rattle.wk_row_rules.specs.PageRows.{PageRows, no_rows}
-use Rattle.wk_listing_rules.specs.Names.{AreAmong, admitted, joined, with_rows_at}
+use Rattle.wk_row_rules.specs.PageRows.{Member, PageRows, no_rows}
+use Rattle.wk_listing_rules.specs.Names.{AreAmong, admitted, joined, member_eq, with_rows_at}
 use Rattle.wk_index.specs.declared.named.Kind.{Kind}
 use Rattle.wk_index.specs.declared.named.Kind.TheVariants.{Included, Mentioned, Linked}
-use Rattle.wk_index.specs.Named.{TitlePage, Finds, FindsBy, Kept, Spares, has, lists, page_lists, rows_at}
+use Rattle.wk_index.specs.Entries.{FindsEntries, has_entry, lists_entry}
+use Rattle.wk_index.specs.Named.{Finds, FindsIn, FindsRowsIn, KeptIn, SparesIn, has, lists, page_passes, rows_at}
 use Rattle.wk_index.specs.declared.found.Found.{Found}
 use Rattle.wk_index.specs.Found.{FindsAll, FindsRows, KeepsAll, SparesAll}
 use Rattle.wk_index.specs.Held.{rows_of}
-use Rattle.wk_index.proofs.PlaceLaws.{by, lists-at, rows-at}
+use Rattle.wk_index.proofs.PlaceLaws.{rows-at}
 use Rattle.wk_index.proofs.TitleLaws.{title_eq-true}
+use Rattle.wk_index.proofs.SameLaws.{member_eq-true}
 
 -- ---- the rows of a page in a list that changed
 
@@ -42,63 +44,99 @@ get-set_other (x ∷ xs) rows zero (suc other) apart = refl
 get-set_other (x ∷ xs) rows (suc place) zero apart = refl
 get-set_other (x ∷ xs) rows (suc place) (suc other) apart = get-set_other xs rows place other (λ e. apart (ap suc e))
 
-module _ (kind : Kind) where
-  pub Finds-none : Finds kind [] []
-  Finds-none title zero there = absurd (false≢true there)
-  Finds-none title (suc place) there = absurd (false≢true (sym (lists-at kind [] title place) ∙ there))
+-- whether rows, if any, pass
+abbrev passed : {X : Type 0} → (PageRows → X → Bool) → Option PageRows → X → Bool
+passed passes o x = elim o [ None ↦ false | Some rows ↦ passes rows x ]
+
+module _ {X K : Type 0} (passes : PageRows → X → Bool) (finds : List K → X → ℕ → Bool) where
+  passes-at : (stored : List PageRows) (x : X) (place : ℕ) → page_passes passes stored x (suc place) ≡ passed passes (slice_get stored place) x
+  passes-at stored x place = ap (λ o. passed passes o x) (rows-at stored place)
+
+  pub FindsIn-none : FindsIn passes finds [] []
+  FindsIn-none x zero there = absurd (false≢true there)
+  FindsIn-none x (suc place) there = absurd (false≢true (sym (passes-at [] x place) ∙ there))
 
   -- one more page
-  pub Finds-push : (xs : List PageRows) (rows : PageRows) (old new : List TitlePage) → Finds kind xs old → Kept old new → FindsBy kind rows (length xs + 1) new → Finds kind (xs ++ rows ∷ []) new
-  Finds-push xs rows old new finds kept own title zero there = absurd (false≢true there)
-  Finds-push xs rows old new finds kept own title (suc place) there =
-      let here : by kind (slice_get (xs ++ rows ∷ []) place) title ≡ true = sym (lists-at kind (xs ++ rows ∷ []) title place) ∙ there in
+  pub FindsIn-push : (xs : List PageRows) (rows : PageRows) (old new : List K) → FindsIn passes finds xs old → KeptIn finds old new → FindsRowsIn passes finds rows (length xs + 1) new → FindsIn passes finds (xs ++ rows ∷ []) new
+  FindsIn-push xs rows old new all kept own x zero there = absurd (false≢true there)
+  FindsIn-push xs rows old new all kept own x (suc place) there =
+      let here : passed passes (slice_get (xs ++ rows ∷ []) place) x ≡ true = sym (passes-at (xs ++ rows ∷ []) x place) ∙ there in
       elim (get-push xs rows place) [
-        | inl same ↦ kept title (suc place) (finds title (suc place) (lists-at kind xs title place ∙ sym (ap (λ o. by kind o title) same) ∙ here))
+        | inl same ↦ kept x (suc place) (all x (suc place) (passes-at xs x place ∙ sym (ap (λ o. passed passes o x) same) ∙ here))
         | inr last ↦
             let at : place ≡ length xs = last.0 in
             let number : length xs + 1 ≡ suc place = omega arith in
-            subst (λ n. has new title n ≡ true) number (own title (sym (ap (λ o. by kind o title) last.1) ∙ here))
+            subst (λ n. finds new x n ≡ true) number (own x (sym (ap (λ o. passed passes o x) last.1) ∙ here))
       ]
 
-  -- one more page without rows
-  pub Finds-push_none : (xs : List PageRows) (keys : List TitlePage) → Finds kind xs keys → Finds kind (xs ++ no_rows ∷ []) keys
-  Finds-push_none xs keys finds = Finds-push xs no_rows keys keys finds (λ title page there. there) (λ title there. absurd (false≢true (sym (none kind title) ∙ there)))
-    where
-      none : (k : Kind) (title : PageTitle) → lists k no_rows title ≡ false
-      none Included title = refl
-      none Mentioned title = refl
-      none Linked title = refl
-
   -- the rows of one page are others
-  Finds-set : (xs : List PageRows) (rows : PageRows) (place : ℕ) (new : List TitlePage)
-      → ((title : PageTitle) → lists kind rows title ≡ true → has new title (suc place) ≡ true)
-      → ((title : PageTitle) (page : ℕ) → (page ≡ suc place → ⊥) → page_lists kind xs title page ≡ true → has new title page ≡ true)
-      → Finds kind (set xs place rows) new
-  Finds-set xs rows place new own others title zero there = absurd (false≢true there)
-  Finds-set xs rows place new own others title (suc other) there =
-      let here : by kind (slice_get (set xs place rows) other) title ≡ true = sym (lists-at kind (set xs place rows) title other) ∙ there in
+  FindsIn-set : (xs : List PageRows) (rows : PageRows) (place : ℕ) (new : List K)
+      → ((x : X) → passes rows x ≡ true → finds new x (suc place) ≡ true)
+      → ((x : X) (page : ℕ) → (page ≡ suc place → ⊥) → page_passes passes xs x page ≡ true → finds new x page ≡ true)
+      → FindsIn passes finds (set xs place rows) new
+  FindsIn-set xs rows place new own others x zero there = absurd (false≢true there)
+  FindsIn-set xs rows place new own others x (suc other) there =
+      let here : passed passes (slice_get (set xs place rows) other) x ≡ true = sym (passes-at (set xs place rows) x other) ∙ there in
       elim (cases_Bool (eqb other place)) [
         | inl same ↦
             let e : other ≡ place = eqb-true other place same in
-            let own_here : by kind (slice_get (set xs place rows) place) title ≡ true = subst (λ n. by kind (slice_get (set xs place rows) n) title ≡ true) e here in
+            let own_here : passed passes (slice_get (set xs place rows) place) x ≡ true = subst (λ n. passed passes (slice_get (set xs place rows) n) x ≡ true) e here in
             elim (get-set_same xs rows place) [
-              | inl put ↦ subst (λ n. has new title (suc n) ≡ true) (sym e) (own title (sym (ap (λ o. by kind o title) put) ∙ own_here))
-              | inr none ↦ absurd (false≢true (sym (ap (λ o. by kind o title) none) ∙ own_here))
+              | inl put ↦ subst (λ n. finds new x (suc n) ≡ true) (sym e) (own x (sym (ap (λ o. passed passes o x) put) ∙ own_here))
+              | inr none ↦ absurd (false≢true (sym (ap (λ o. passed passes o x) none) ∙ own_here))
             ]
         | inr apart ↦
             let ne : (other ≡ place → ⊥) = eqb-false other place apart in
-            others title (suc other) (λ e. ne (let f : other ≡ place = omega arith in f)) (lists-at kind xs title other ∙ sym (ap (λ o. by kind o title) (get-set_other xs rows place other ne)) ∙ here)
+            others x (suc other) (λ e. ne (let f : other ≡ place = omega arith in f)) (passes-at xs x other ∙ sym (ap (λ o. passed passes o x) (get-set_other xs rows place other ne)) ∙ here)
       ]
+
+  -- the rows of a page that is there
+  passes-rows_of : (stored : List PageRows) (page : ℕ) (x : X) → IsSome (rows_at stored page) → passes (rows_of stored page) x ≡ true → page_passes passes stored x page ≡ true
+  passes-rows_of stored page x there has = by-rows (rows_at stored page) there has
+    where
+      by-rows : (o : Option PageRows) → IsSome o → passes (unwrap_or o no_rows) x ≡ true → passed passes o x ≡ true
+      by-rows None some has = absurd (false≢true some)
+      by-rows (Some rows) some has = has
+
+  -- ---- the two halves of a change
+
+  pub FindsIn-admitted : ((old new : PageRows) (x : X) → passes (admitted old new) x ≡ true → (passes old x ≡ true) ⊎ (passes new x ≡ true))
+      → (stored : List PageRows) (page : ℕ) (rows : PageRows) (old new : List K)
+      → IsSome (rows_at stored page) → FindsIn passes finds stored old → KeptIn finds old new → FindsRowsIn passes finds rows page new
+      → FindsIn passes finds (with_rows_at stored page (admitted (rows_of stored page) rows)) new
+  FindsIn-admitted parts stored zero rows old new there all kept own = absurd (false≢true there)
+  FindsIn-admitted parts stored (suc place) rows old new there all kept own =
+      let back : suc place - 1 ≡ place = omega arith in
+      subst (λ n. FindsIn passes finds (slice_set stored n (admitted (rows_of stored (suc place)) rows)) new) (sym back)
+      (FindsIn-set stored (admitted (rows_of stored (suc place)) rows) place new
+      (λ x has. elim (parts (rows_of stored (suc place)) rows x has) [
+        | inl first ↦ kept x (suc place) (all x (suc place) (passes-rows_of stored (suc place) x there first))
+        | inr second ↦ own x second
+      ])
+      (λ x other apart has. kept x other (all x other has)))
+
+  pub FindsIn-shed : ((new old : PageRows) (x : X) → AreAmong new old → passes new x ≡ true → passes old x ≡ true)
+      → (stored : List PageRows) (page : ℕ) (rows : PageRows) (old new : List K)
+      → IsSome (rows_at stored page) → AreAmong rows (rows_of stored page) → FindsIn passes finds stored old → SparesIn passes finds rows page old new
+      → FindsIn passes finds (with_rows_at stored page rows) new
+  FindsIn-shed among stored zero rows old new there are all spares = absurd (false≢true there)
+  FindsIn-shed among stored (suc place) rows old new there are all spares =
+      let back : suc place - 1 ≡ place = omega arith in
+      subst (λ n. FindsIn passes finds (slice_set stored n rows) new) (sym back)
+      (FindsIn-set stored rows place new
+      (λ x has. spares x (suc place) (λ same. has)
+      (all x (suc place) (passes-rows_of stored (suc place) x there (among rows (rows_of stored (suc place)) x are has))))
+      (λ x other apart has. spares x other (λ same. absurd (apart same)) (all x other has)))
 
 pub or-parts : (a b : Bool) → (a || b) ≡ true → (a ≡ true) ⊎ (b ≡ true)
 or-parts true b e = inl refl
 or-parts false b e = inr e
 
-or-left : (a b : Bool) → a ≡ true → (a || b) ≡ true
+pub or-left : (a b : Bool) → a ≡ true → (a || b) ≡ true
 or-left true b e = refl
 or-left false b e = absurd (false≢true e)
 
-or-right : (a b : Bool) → b ≡ true → (a || b) ≡ true
+pub or-right : (a b : Bool) → b ≡ true → (a || b) ≡ true
 or-right true b e = refl
 or-right false b e = e
 
@@ -159,75 +197,89 @@ lists-among Mentioned new old title are there =
       | inr tested ↦ or-right (list_any (title_eq title) old.templates) (list_any (title_eq title) old.exists) (among old.exists new.exists title (recursion_from_All (λ t. list_any (title_eq t) old.exists ≡ true) new.exists are.exists) tested)
     ]
 
--- ---- the two halves of a change
+-- ---- categories, each with a sort key
 
--- the rows of a page that is there
-lists-rows_of : (kind : Kind) (stored : List PageRows) (page : ℕ) (title : PageTitle) → IsSome (rows_at stored page) → lists kind (rows_of stored page) title ≡ true → page_lists kind stored title page ≡ true
-lists-rows_of kind stored page title there has = by-rows (rows_at stored page) there has
+-- rows without any
+lists-none : (kind : Kind) (title : PageTitle) → lists kind no_rows title ≡ false
+lists-none Included title = refl
+lists-none Mentioned title = refl
+lists-none Linked title = refl
+
+entry-admitted : (old new : PageRows) (x : PageTitle × List ℕ) → lists_entry (admitted old new) x ≡ true → (lists_entry old x ≡ true) ⊎ (lists_entry new x ≡ true)
+entry-admitted old new x there = any-joined (λ m. title_eq x.0 m.category && bytes_eq x.1 m.sortkey) member_eq old.members new.members there
+
+entry-among : (new old : PageRows) (x : PageTitle × List ℕ) → AreAmong new old → lists_entry new x ≡ true → lists_entry old x ≡ true
+entry-among new old x are there = among-members new.members (recursion_from_All (λ m. list_any (member_eq m) old.members ≡ true) new.members are.members) there
   where
-    by-rows : (o : Option PageRows) → IsSome o → lists kind (unwrap_or o no_rows) title ≡ true → by kind o title ≡ true
-    by-rows None some has = absurd (false≢true some)
-    by-rows (Some rows) some has = has
+    is-entry : Member → Bool
+    is-entry m = title_eq x.0 m.category && bytes_eq x.1 m.sortkey
 
-pub Finds-admitted : (kind : Kind) (stored : List PageRows) (page : ℕ) (rows : PageRows) (old new : List TitlePage)
-    → IsSome (rows_at stored page) → Finds kind stored old → Kept old new → FindsBy kind rows page new
-    → Finds kind (with_rows_at stored page (admitted (rows_of stored page) rows)) new
-Finds-admitted kind stored zero rows old new there finds kept own = absurd (false≢true there)
-Finds-admitted kind stored (suc place) rows old new there finds kept own =
-    let back : suc place - 1 ≡ place = omega arith in
-    subst (λ n. Finds kind (slice_set stored n (admitted (rows_of stored (suc place)) rows)) new) (sym back)
-    (Finds-set kind stored (admitted (rows_of stored (suc place)) rows) place new
-    (λ title lists. elim (lists-admitted kind (rows_of stored (suc place)) rows title lists) [
-      | inl first ↦ kept title (suc place) (finds title (suc place) (lists-rows_of kind stored (suc place) title there first))
-      | inr second ↦ own title second
-    ])
-    (λ title other apart lists. kept title other (finds title other lists)))
+    same-entry : (m : Member) → is-entry m ≡ true → (others : List Member) → list_any (member_eq m) others ≡ true → list_any is-entry others ≡ true
+    same-entry m own [] none = absurd (false≢true none)
+    same-entry m own (other ∷ others) some = elim (or-parts (member_eq m other) (list_any (member_eq m) others) some) [
+      | inl same ↦ or-left (is-entry other) (list_any is-entry others) (subst (λ k. is-entry k ≡ true) (member_eq-true m other same) own)
+      | inr later ↦ or-right (is-entry other) (list_any is-entry others) (same-entry m own others later)
+    ]
 
-pub Finds-shed : (kind : Kind) (stored : List PageRows) (page : ℕ) (rows : PageRows) (old new : List TitlePage)
-    → IsSome (rows_at stored page) → AreAmong rows (rows_of stored page) → Finds kind stored old → Spares kind rows page old new
-    → Finds kind (with_rows_at stored page rows) new
-Finds-shed kind stored zero rows old new there are finds spares = absurd (false≢true there)
-Finds-shed kind stored (suc place) rows old new there are finds spares =
-    let back : suc place - 1 ≡ place = omega arith in
-    subst (λ n. Finds kind (slice_set stored n rows) new) (sym back)
-    (Finds-set kind stored rows place new
-    (λ title lists. spares title (suc place) (λ same. lists)
-    (finds title (suc place) (lists-rows_of kind stored (suc place) title there (lists-among kind rows (rows_of stored (suc place)) title are lists))))
-    (λ title other apart lists. spares title other (λ same. absurd (apart same)) (finds title other lists)))
+    among-members : (members : List Member) → AllByRecursion (λ m. list_any (member_eq m) old.members ≡ true) members → list_any is-entry members ≡ true → list_any is-entry old.members ≡ true
+    among-members [] all none = absurd (false≢true none)
+    among-members (m ∷ members) all some = elim (or-parts (is-entry m) (list_any is-entry members) some) [
+      | inl own ↦ same-entry m own old.members all.0
+      | inr later ↦ among-members members all.1 later
+    ]
 
--- ---- all three kinds
+-- ---- all sets
 
-pub FindsAll-none : (found : Found) → found.included.keys ≡ [] → found.mentioned.keys ≡ [] → found.linked.keys ≡ [] → FindsAll [] found
-FindsAll-none found a b c = record {
-  included = subst (Finds Included []) (sym a) (Finds-none Included);
-  mentioned = subst (Finds Mentioned []) (sym b) (Finds-none Mentioned);
-  linked = subst (Finds Linked []) (sym c) (Finds-none Linked);
+pub FindsAll-none : (found : Found) → found.included.keys ≡ [] → found.mentioned.keys ≡ [] → found.linked.keys ≡ [] → found.members.keys ≡ [] → FindsAll [] found
+FindsAll-none found a b c d = record {
+  included = subst (Finds Included []) (sym a) (FindsIn-none (lists Included) has);
+  mentioned = subst (Finds Mentioned []) (sym b) (FindsIn-none (lists Mentioned) has);
+  linked = subst (Finds Linked []) (sym c) (FindsIn-none (lists Linked) has);
+  members = subst (FindsEntries []) (sym d) (FindsIn-none lists_entry has_entry);
 }
 
 pub FindsAll-push : (stored items : List PageRows) (rows : PageRows) (page : ℕ) (old new : Found)
     → items ≡ stored ++ rows ∷ [] → page ≡ length stored + 1 → FindsAll stored old → KeepsAll old new → FindsRows rows page new → FindsAll items new
 FindsAll-push stored items rows page old new is number finds keeps own =
-    subst (λ l. FindsAll l new) (sym is) (record {
-      included = Finds-push Included stored rows old.included.keys new.included.keys finds.included keeps.included (subst (λ n. FindsBy Included rows n new.included.keys) number own.included);
-      mentioned = Finds-push Mentioned stored rows old.mentioned.keys new.mentioned.keys finds.mentioned keeps.mentioned (subst (λ n. FindsBy Mentioned rows n new.mentioned.keys) number own.mentioned);
-      linked = Finds-push Linked stored rows old.linked.keys new.linked.keys finds.linked keeps.linked (subst (λ n. FindsBy Linked rows n new.linked.keys) number own.linked);
-    })
+    subst (λ l. FindsAll l new) (sym is) (by (subst (λ n. FindsRows rows n new) number own))
+  where
+    by : FindsRows rows (length stored + 1) new → FindsAll (stored ++ rows ∷ []) new
+    by here = record {
+      included = FindsIn-push (lists Included) has stored rows old.included.keys new.included.keys finds.included keeps.included here.included;
+      mentioned = FindsIn-push (lists Mentioned) has stored rows old.mentioned.keys new.mentioned.keys finds.mentioned keeps.mentioned here.mentioned;
+      linked = FindsIn-push (lists Linked) has stored rows old.linked.keys new.linked.keys finds.linked keeps.linked here.linked;
+      members = FindsIn-push lists_entry has_entry stored rows old.members.keys new.members.keys finds.members keeps.members here.members;
+    }
+
+-- no rows are found by anything
+FindsRows-none : (page : ℕ) (found : Found) → FindsRows no_rows page found
+FindsRows-none page found = record {
+  included = λ title there. absurd (false≢true (sym (lists-none Included title) ∙ there));
+  mentioned = λ title there. absurd (false≢true (sym (lists-none Mentioned title) ∙ there));
+  linked = λ title there. absurd (false≢true (sym (lists-none Linked title) ∙ there));
+  members = λ x there. absurd (false≢true there);
+}
+
+KeepsAll-same : (found : Found) → KeepsAll found found
+KeepsAll-same found = record {
+  included = λ title page there. there;
+  mentioned = λ title page there. there;
+  linked = λ title page there. there;
+  members = λ x page there. there;
+}
 
 pub FindsAll-push_none : (stored items : List PageRows) (found : Found) → items ≡ stored ++ no_rows ∷ [] → FindsAll stored found → FindsAll items found
 FindsAll-push_none stored items found is finds =
-    subst (λ l. FindsAll l found) (sym is) (record {
-      included = Finds-push_none Included stored found.included.keys finds.included;
-      mentioned = Finds-push_none Mentioned stored found.mentioned.keys finds.mentioned;
-      linked = Finds-push_none Linked stored found.linked.keys finds.linked;
-    })
+    FindsAll-push stored items no_rows (length stored + 1) found found is refl finds (KeepsAll-same found) (FindsRows-none (length stored + 1) found)
 
 pub FindsAll-admitted : (stored items : List PageRows) (page : ℕ) (rows : PageRows) (old new : Found)
     → items ≡ with_rows_at stored page (admitted (rows_of stored page) rows) → IsSome (rows_at stored page) → FindsAll stored old → KeepsAll old new → FindsRows rows page new → FindsAll items new
 FindsAll-admitted stored items page rows old new is there finds keeps own =
     subst (λ l. FindsAll l new) (sym is) (record {
-      included = Finds-admitted Included stored page rows old.included.keys new.included.keys there finds.included keeps.included own.included;
-      mentioned = Finds-admitted Mentioned stored page rows old.mentioned.keys new.mentioned.keys there finds.mentioned keeps.mentioned own.mentioned;
-      linked = Finds-admitted Linked stored page rows old.linked.keys new.linked.keys there finds.linked keeps.linked own.linked;
+      included = FindsIn-admitted (lists Included) has (lists-admitted Included) stored page rows old.included.keys new.included.keys there finds.included keeps.included own.included;
+      mentioned = FindsIn-admitted (lists Mentioned) has (lists-admitted Mentioned) stored page rows old.mentioned.keys new.mentioned.keys there finds.mentioned keeps.mentioned own.mentioned;
+      linked = FindsIn-admitted (lists Linked) has (lists-admitted Linked) stored page rows old.linked.keys new.linked.keys there finds.linked keeps.linked own.linked;
+      members = FindsIn-admitted lists_entry has_entry entry-admitted stored page rows old.members.keys new.members.keys there finds.members keeps.members own.members;
     })
 
 -- a call that was refused may leave more titles
@@ -236,6 +288,7 @@ FindsAll-kept stored old new finds keeps = record {
   included = λ title page there. keeps.included title page (finds.included title page there);
   mentioned = λ title page there. keeps.mentioned title page (finds.mentioned title page there);
   linked = λ title page there. keeps.linked title page (finds.linked title page there);
+  members = λ x page there. keeps.members x page (finds.members x page there);
 }
 
 -- the rows that a page was given
@@ -259,7 +312,8 @@ FindsAll-shed stored items page rows old new is there are finds spares =
     let own : rows_of items page ≡ rows = ap (λ l. rows_of l page) is ∙ rows_of-set stored page rows there in
     let spares_own : SparesAll rows page old new = subst (λ r. SparesAll r page old new) own spares in
     subst (λ l. FindsAll l new) (sym is) (record {
-      included = Finds-shed Included stored page rows old.included.keys new.included.keys there are finds.included spares_own.included;
-      mentioned = Finds-shed Mentioned stored page rows old.mentioned.keys new.mentioned.keys there are finds.mentioned spares_own.mentioned;
-      linked = Finds-shed Linked stored page rows old.linked.keys new.linked.keys there are finds.linked spares_own.linked;
+      included = FindsIn-shed (lists Included) has (lists-among Included) stored page rows old.included.keys new.included.keys there are finds.included spares_own.included;
+      mentioned = FindsIn-shed (lists Mentioned) has (lists-among Mentioned) stored page rows old.mentioned.keys new.mentioned.keys there are finds.mentioned spares_own.mentioned;
+      linked = FindsIn-shed (lists Linked) has (lists-among Linked) stored page rows old.linked.keys new.linked.keys there are finds.linked spares_own.linked;
+      members = FindsIn-shed lists_entry has_entry entry-among stored page rows old.members.keys new.members.keys there are finds.members spares_own.members;
     })

@@ -1,10 +1,13 @@
+mod EntryLaws
 mod FindsLaws
 mod LoadLaws
 mod MembersLaws
 mod NamedLaws
+mod OrderLaws
 mod OwnRows
 mod PagesLaws
 mod PlaceLaws
 mod SameLaws
 mod TitleLaws
+mod TitleMapLaws
 mod UsersLaws

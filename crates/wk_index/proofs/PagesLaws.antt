@@ -62,7 +62,7 @@ pub any-map : {X Y : Type 0} (f : X → Y) (q : Y → Bool) (xs : List X) → li
 any-map f q [] = refl
 any-map f q (x ∷ xs) = rw (any-map f q xs) refl
 
-any-same : {X : Type 0} (p q : X → Bool) → ((x : X) → p x ≡ q x) → (xs : List X) → list_any p xs ≡ list_any q xs
+pub any-same : {X : Type 0} (p q : X → Bool) → ((x : X) → p x ≡ q x) → (xs : List X) → list_any p xs ≡ list_any q xs
 any-same p q same [] = refl
 any-same p q same (x ∷ xs) = rw (same x, any-same p q same xs) refl
 

@@ -8,6 +8,7 @@ use Rattle.std.proofs.lemmas.Slice.Eq.{bytes_eq-Decides}
 use Rattle.wk_text_rules.specs.Titles.{PageTitle, title_eq}
 use Rattle.wk_row_rules.specs.PageRows.{Member}
 use Rattle.wk_table_rows.specs.Members.{member_of}
+use Rattle.wk_listing_rules.specs.Names.{member_eq}
 use Rattle.wk_index.proofs.TitleLaws.{title_eq-true, title_eq-same}
 
 pub Decides-title_eq : (a b : PageTitle) → Decides (title_eq a b) (a ≡ b)
@@ -30,6 +31,12 @@ Decides-triple (c, s, p) (d, t, q) = (
   λ e. subst (λ (b : Triple). ((title_eq c b.0 && bytes_eq s b.1) && bytes_eq p b.2) ≡ true) e
       (rw (title_eq-same c, (bytes_eq-Decides s s).1 refl, (bytes_eq-Decides p p).1 refl) refl),
 )
+
+-- members that the test finds the same
+pub member_eq-true : (a b : Member) → member_eq a b ≡ true → a ≡ b
+member_eq-true a b same =
+    let one = (Decides-triple (a.category, a.sortkey, a.prefix) (b.category, b.sortkey, b.prefix)).0 same in
+    ap member_of one
 
 abbrev triple_of : Member → Triple
 triple_of m = (m.category, m.sortkey, m.prefix)

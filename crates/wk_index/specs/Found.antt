@@ -1,31 +1,36 @@
--- The sets of titles and pages by which the pages of an index are found.
+-- The sets by which the pages of an index are found.
 use Rattle.std.specs.Prelude.{◌≡◌, ℕ, true, List}
 use Rattle.wk_text_rules.specs.Titles.{PageTitle}
 use Rattle.wk_row_rules.specs.PageRows.{PageRows}
 use Rattle.wk_index.specs.declared.found.Found.{Found}
 use Rattle.wk_index.specs.declared.named.Kind.TheVariants.{Included, Mentioned, Linked}
+use Rattle.wk_index.specs.Entries.{FindsEntries, FindsRowsEntries, KeptEntries, SparesEntries}
 use Rattle.wk_index.specs.Named.{Finds, FindsBy, Kept, Spares}
 
--- each page is found by each title of its rows
+-- each page is found by each title of its rows, and by each category with its sort key
 pub record FindsAll (stored : List PageRows) (found : Found) : Type 0 where
   pub included : Finds Included stored found.included.keys
   pub mentioned : Finds Mentioned stored found.mentioned.keys
   pub linked : Finds Linked stored found.linked.keys
+  pub members : FindsEntries stored found.members.keys
 
--- the page is found by each title of these rows
+-- the page is found by each title of these rows, and by each category with its sort key
 pub record FindsRows (rows : PageRows) (page : ℕ) (found : Found) : Type 0 where
   pub included : FindsBy Included rows page found.included.keys
   pub mentioned : FindsBy Mentioned rows page found.mentioned.keys
   pub linked : FindsBy Linked rows page found.linked.keys
+  pub members : FindsRowsEntries rows page found.members.keys
 
 -- what was found is found still
 pub record KeepsAll (old new : Found) : Type 0 where
   pub included : Kept old.included.keys new.included.keys
   pub mentioned : Kept old.mentioned.keys new.mentioned.keys
   pub linked : Kept old.linked.keys new.linked.keys
+  pub members : KeptEntries old.members.keys new.members.keys
 
--- what was found is found still, but for the page by titles that these rows don't have
+-- what was found is found still, but for the page by what these rows don't have
 pub record SparesAll (rows : PageRows) (page : ℕ) (old new : Found) : Type 0 where
   pub included : Spares Included rows page old.included.keys new.included.keys
   pub mentioned : Spares Mentioned rows page old.mentioned.keys new.mentioned.keys
   pub linked : Spares Linked rows page old.linked.keys new.linked.keys
+  pub members : SparesEntries rows page old.members.keys new.members.keys

@@ -1,8 +1,11 @@
+pub mod Entries
 pub mod Found
 pub mod Held
+pub mod InOrder
 pub mod Loadable
-pub mod MemberPages
+pub mod Listing
 pub mod Named
+pub mod TitleMap
 pub use Rattle.wk_row_rules.specs.PageRows
 pub use Rattle.wk_table_rules.specs.GoodStore
 pub use Rattle.wk_table_rules.specs.Stored

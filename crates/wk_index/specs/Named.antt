@@ -45,28 +45,48 @@ kind_of Both = Mentioned
 abbrev pub rows_at : List PageRows → ℕ → Option PageRows
 rows_at stored page = if page == 0 then None else slice_get stored (page - 1)
 
+-- the rows of the page with this number pass
+abbrev pub page_passes : {X : Type 0} → (PageRows → X → Bool) → List PageRows → X → ℕ → Bool
+page_passes passes stored x page = elim (rows_at stored page) [ None ↦ false | Some rows ↦ passes rows x ]
+
 -- the rows of the page with this number have the title
 abbrev pub page_lists : Kind → List PageRows → PageTitle → ℕ → Bool
-page_lists kind stored title page = elim (rows_at stored page) [ None ↦ false | Some rows ↦ lists kind rows title ]
+page_lists kind stored title page = page_passes (lists kind) stored title page
 
 -- The pages above a number whose rows have the title, rising, at most so many.
 abbrev pub listed : Kind → List PageRows → PageTitle → ℕ → ℕ → List ℕ
 listed kind stored title above most =
     take most (map (λ page. page.0) (filter (λ page. nat_lt above page.0 && lists kind page.1 title) (enumerate_from 1 stored)))
 
--- Each page is found by each title of its rows. It may be found by others too, so what is found is looked up in the rows.
-abbrev pub Finds : Kind → List PageRows → List TitlePage → Type 0
-Finds kind stored keys = (title : PageTitle) (page : ℕ) → page_lists kind stored title page ≡ true → has keys title page ≡ true
+-- ---- sets of keys, in which the pages are found by what their rows have
 
--- the page is found by each title of these rows
-abbrev pub FindsBy : Kind → PageRows → ℕ → List TitlePage → Type 0
-FindsBy kind rows page keys = (title : PageTitle) → lists kind rows title ≡ true → has keys title page ≡ true
+-- Each page is found by all that its rows have. It may be found by more, so what is found is looked up in the rows.
+abbrev pub FindsIn : {X K : Type 0} → (PageRows → X → Bool) → (List K → X → ℕ → Bool) → List PageRows → List K → Type 0
+FindsIn {X} passes finds stored keys = (x : X) (page : ℕ) → page_passes passes stored x page ≡ true → finds keys x page ≡ true
+
+-- the page is found by all that these rows have
+abbrev pub FindsRowsIn : {X K : Type 0} → (PageRows → X → Bool) → (List K → X → ℕ → Bool) → PageRows → ℕ → List K → Type 0
+FindsRowsIn {X} passes finds rows page keys = (x : X) → passes rows x ≡ true → finds keys x page ≡ true
 
 -- what was found is found still
-abbrev pub Kept : List TitlePage → List TitlePage → Type 0
-Kept old new = (title : PageTitle) (page : ℕ) → has old title page ≡ true → has new title page ≡ true
+abbrev pub KeptIn : {X K : Type 0} → (List K → X → ℕ → Bool) → List K → List K → Type 0
+KeptIn {X} finds old new = (x : X) (page : ℕ) → finds old x page ≡ true → finds new x page ≡ true
 
--- what was found is found still, but for the page by titles that these rows don't have
+-- what was found is found still, but for the page by what these rows don't have
+abbrev pub SparesIn : {X K : Type 0} → (PageRows → X → Bool) → (List K → X → ℕ → Bool) → PageRows → ℕ → List K → List K → Type 0
+SparesIn {X} passes finds rows page old new =
+    (x : X) (other : ℕ) → (other ≡ page → passes rows x ≡ true) → finds old x other ≡ true → finds new x other ≡ true
+
+-- ---- the same of titles
+
+abbrev pub Finds : Kind → List PageRows → List TitlePage → Type 0
+Finds kind = FindsIn (lists kind) has
+
+abbrev pub FindsBy : Kind → PageRows → ℕ → List TitlePage → Type 0
+FindsBy kind = FindsRowsIn (lists kind) has
+
+abbrev pub Kept : List TitlePage → List TitlePage → Type 0
+Kept = KeptIn has
+
 abbrev pub Spares : Kind → PageRows → ℕ → List TitlePage → List TitlePage → Type 0
-Spares kind rows page old new =
-    (title : PageTitle) (other : ℕ) → (other ≡ page → lists kind rows title ≡ true) → has old title other ≡ true → has new title other ≡ true
+Spares kind = SparesIn (lists kind) has

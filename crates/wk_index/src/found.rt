@@ -1,10 +1,12 @@
-//! The titles by which the pages of an index are found.
+//! What the pages of an index are found by.
 ghost use Rattle.std.specs.Prelude.{[], OnOk};
 ghost use Rattle.wk_index.specs.Held.{rows_of};
 ghost use Rattle.wk_index.specs.Found.{FindsAll, FindsRows, KeepsAll, SparesAll};
 ghost use Rattle.wk_index.specs.Named.{Spares};
 ghost use Rattle.wk_index.specs.declared.named.Kind.TheVariants.{Included as ByIncluded, Mentioned as ByMentioned};
 
+use crate::entries::{Entries, add_entries, drop_entries};
+use crate::lookup::Lookup;
 use crate::named::{Kind, Named, NamedBy, add_rows, drop_key, drop_titles};
 use crate::pages::rows_at;
 use crate::shared_rows::SharedRows;
@@ -14,16 +16,17 @@ use wk_memory::Memory;
 use wk_table_rows::PageRows;
 use wk_title::Title;
 
-/// The pages by the titles of each kind.
+/// The pages by the titles of each kind, and by their categories and the sort keys in them.
 #[derive(Debug, Drop)]
 pub struct Found {
     pub included: Named,
     pub mentioned: Named,
     pub linked: Named,
+    pub members: Entries,
 }
 
 impl Found {
-    /// No titles. Takes no memory.
+    /// No pages. Takes no memory.
     pub fn new(alloc: Global) -> Found
         ensures { FindsAll [] result }
     {
@@ -31,38 +34,41 @@ impl Found {
             included: BTreeSet::new(alloc),
             mentioned: BTreeSet::new(alloc),
             linked: BTreeSet::new(alloc),
+            members: BTreeSet::new(alloc),
         }
     }
 
-    /// Finds the page by the titles of its rows.
+    /// Finds the page by its rows.
     pub fn add(&mut self, rows: &PageRows, page: u32) -> Result<(), Memory>
         ensures there { OnOk result (FindsRows rows.now page self.new) }
         ensures kept { KeepsAll self.old self.new }
     {
         add_rows(&mut self.included, rows, page, Kind::Included)?;
         add_rows(&mut self.mentioned, rows, page, Kind::Mentioned)?;
-        add_rows(&mut self.linked, rows, page, Kind::Linked)
+        add_rows(&mut self.linked, rows, page, Kind::Linked)?;
+        add_entries(&mut self.members, rows, page)
     }
 
-    /// Finds the page no longer by the titles that the old rows have and its rows don't, where nobody else has the old
-    /// rows, as those between the two halves of a change. Takes no memory.
+    /// Finds the page no longer by what the old rows have and its rows don't, where nobody else has the old rows, as
+    /// those between the two halves of a change. Takes no memory.
     pub fn shed(&mut self, old: SharedRows, stored: &[SharedRows], page: u32)
         ensures { SparesAll (rows_of stored.now page) page self.old self.new }
     {
         match (old.into_rows(), rows_at(stored, page)) {
-            (Some(old), Some(rows)) => self.drop_titles(old, rows.rows(), page),
+            (Some(old), Some(rows)) => self.drop_rows(old, &Lookup::new(rows.rows()), page),
             _ => {}
         }
     }
 
-    /// Finds the page no longer by the titles that the old rows have and these don't. Takes no memory.
-    fn drop_titles(&mut self, old: PageRows, rows: &PageRows, page: u32)
+    /// Finds the page no longer by what the old rows have and these don't. Takes no memory.
+    fn drop_rows(&mut self, old: PageRows, rows: &Lookup<'_>, page: u32)
         ensures { SparesAll rows.now page self.old self.new }
     {
         let PageRows {
             templates,
             exists,
             links,
+            members,
             ..
         } = old;
         drop_included(
@@ -74,6 +80,7 @@ impl Found {
         );
         drop_titles(&mut self.mentioned, exists, page, rows, Kind::Mentioned);
         drop_titles(&mut self.linked, links, page, rows, Kind::Linked);
+        drop_entries(&mut self.members, members, page, rows);
     }
 }
 
@@ -83,7 +90,7 @@ fn drop_included(
     mentioned: &mut Named,
     titles: Vec<Title>,
     page: u32,
-    rows: &PageRows,
+    rows: &Lookup<'_>,
 )
     ensures included { Spares ByIncluded rows.now page included.old.keys included.new.keys }
     ensures mentioned { Spares ByMentioned rows.now page mentioned.old.keys mentioned.new.keys }

@@ -20,6 +20,7 @@ use crate::members::{MemberPage, members};
 use crate::named::{Kind, kind_of, pages};
 use crate::pages::{joined_at, replace_rows, rows_at};
 use crate::shared_rows::SharedRows;
+use crate::title_map::TitleMap;
 use std::alloc::Global;
 use std::marker::Model;
 use wk_memory::Memory;
@@ -28,18 +29,19 @@ use wk_table_rows::{PageRows, TableRows, share_all};
 use wk_tables::Tables;
 use wk_title::Title;
 
-/// The stored link rows of each page, which other owners' texts and titles are shared with, and the pages that are found
-/// by a title. Contracts see the rows page by page, where pages are numbered from 1, and for how many pages more there
-/// is room. A page that isn't there counts as one without rows.
+/// The stored link rows of each page, which other owners' texts and titles are shared with, and the pages and members
+/// that are found by a title. Contracts see the rows page by page, where pages are numbered from 1, and for how many
+/// pages more there is room. A page that isn't there counts as one without rows.
 ///
-/// The pages of a title are listed in a time that grows with those that are listed, with the titles of their rows, and
-/// with the logarithm of all. The members of a category are found by going over the rows of all pages. A change of a
-/// page's rows takes a time that grows with the product of the titles that it has and of those that it gets.
+/// The pages of a title and the members of a category are listed in a time that grows with those that are listed or
+/// passed over, with the rows of these pages, and with the logarithm of all. A change of a page's rows takes a time that
+/// grows with the rows that it has and those that it gets, times a logarithm, where these are in the order of their
+/// titles, as those of a draft and of a good store are.
 #[derive(Debug, Drop)]
 pub struct Index {
     rows: Vec<SharedRows>,
-    /// Each page is found by each title of its rows, and may be found by others, so what is found is looked up in the
-    /// rows. A change that memory ran out for may leave such titles.
+    /// Each page is found by all that its rows have, and may be found by more, so what is found is looked up in the rows.
+    /// A change that memory ran out for may leave such more.
     found: Found,
     /// For the pages that there is room for.
     blanks: Blanks,
@@ -230,20 +232,28 @@ impl Index {
         ensures { IfOk result (λ members. members.items ≡ members_behind self.now.stored category.now passed most) }
     {
         let alloc = *self.rows.allocator();
-        members(alloc, &self.rows, category, passed, most)
+        members(
+            alloc,
+            &self.found.members,
+            &self.rows,
+            category,
+            passed,
+            most,
+        )
     }
 }
 
-/// The rows of each page.
+/// The rows of each page, in one walk over the pages. Rows that name one title share it.
 fn of_rows(rows: &TableRows) -> Result<Index, Memory>
     requires { AreLoadable rows.now }
     ensures { IfOk result (λ index. index.stored ≡ stored_rows rows.now) }
 {
     let pages = rows.pages.as_slice();
     let alloc = *rows.pages.allocator();
+    let mut made = TitleMap::new(alloc);
     let mut index = Index::new(alloc);
     for page in pages {
-        index.push(page_rows(alloc, rows, page.page_id)?)?;
+        index.push(page_rows(alloc, &mut made, rows, page.page_id)?)?;
     }
     Ok(index)
 }

@@ -1,67 +1,29 @@
-//! Which titles the rows of a page name, and its rows between the two halves of a change.
+//! The rows of a page between the two halves of a change.
 ghost use Rattle.std.specs.Prelude.{◌≡◌, IfOk, map, is_some, if◌then◌else◌};
-ghost use Rattle.std.specs.List.{list_any};
 ghost use Rattle.wk_text_rules.specs.Titles.{title_eq};
-ghost use Rattle.wk_row_rules.specs.PageRows.{names};
 ghost use Rattle.wk_table_rows.specs.Members.{member_of};
-ghost use Rattle.wk_listing_rules.specs.Links.{links_to};
 ghost use Rattle.wk_listing_rules.specs.Names.{admitted, joined, member_eq};
 
+use crate::lookup::{has_member, has_title};
+use crate::order::is_in_order;
 use std::alloc::Global;
 use wk_bytes::Text;
 use wk_memory::Memory;
-use wk_row_rules::Reach;
 use wk_table_rows::{PageRows, Share, share_all};
 use wk_title::Title;
-
-/// Whether the title is among the titles.
-pub fn has(titles: &[Title], title: &Title) -> bool
-    ensures { result ≡ list_any (title_eq title.now) titles.now }
-{
-    titles.iter().any(|other| title == other)
-}
-
-/// Whether the rows name the title.
-pub fn names(rows: &PageRows, title: &Title, reach: Reach) -> bool
-    ensures { result ≡ names rows.now title.now reach }
-{
-    match reach {
-        Reach::Text => has(&rows.templates, title),
-        Reach::Both => has(&rows.templates, title) || has(&rows.exists, title),
-    }
-}
 
 /// The old titles, and behind them those of the new that aren't among the old.
 fn joined_titles(alloc: Global, old: &[Title], new: &[Title]) -> Result<Vec<Title>, Memory>
     ensures { IfOk result (λ titles. titles.items ≡ joined title_eq old.now new.now) }
 {
+    let in_order = is_in_order(old);
     let mut titles = share_all(alloc, old)?;
     for title in new {
-        if !has(old, title) {
+        if !has_title(old, in_order, title) {
             titles.push(title.share()?)?;
         }
     }
     Ok(titles)
-}
-
-/// Whether the two are one category, with one sort key and one prefix.
-fn is_same_member(a: &(Title, Text, Text), b: &(Title, Text, Text)) -> bool
-    ensures { result ≡ member_eq (member_of a.now) (member_of b.now) }
-{
-    a.0 == b.0 && a.1 == b.1 && a.2 == b.2
-}
-
-fn has_triple(members: &[(Title, Text, Text)], member: &(Title, Text, Text)) -> bool
-    ensures { result ≡ list_any (λ other. member_eq (member_of member.now) (member_of other)) members.now }
-{
-    members.iter().any(|other| is_same_member(member, other))
-}
-
-/// Whether the member is among the members.
-fn has_member(members: &[(Title, Text, Text)], member: &(Title, Text, Text)) -> bool
-    ensures { result ≡ list_any (member_eq (member_of member.now)) (map member_of members.now) }
-{
-    has_triple(members, member)
 }
 
 /// The old members, and behind them those of the new that aren't among the old.
@@ -72,9 +34,10 @@ fn joined_members(
 ) -> Result<Vec<(Title, Text, Text)>, Memory>
     ensures { IfOk result (λ members. map member_of members.items ≡ joined member_eq (map member_of old.now) (map member_of new.now)) }
 {
+    let in_order = is_in_order(old);
     let mut members = share_all(alloc, old)?;
     for member in new {
-        if !has_member(old, member) {
+        if !has_member(old, in_order, member) {
             members.push(member.share()?)?;
         }
     }

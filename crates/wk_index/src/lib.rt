@@ -2,18 +2,22 @@
 #![tactic(auto)]
 
 mod blanks;
+mod entries;
 mod found;
 mod index;
 mod joined;
 mod load;
+mod lookup;
 mod members;
 mod named;
+mod order;
 mod pages;
 mod row_titles;
 mod same;
 mod shared_rows;
 #[cfg(test)]
 mod tests;
+mod title_map;
 
 pub use index::Index;
 pub use members::MemberPage;

@@ -9,7 +9,7 @@ ghost use Rattle.wk_table_rules.specs.Stored.{member_of, rows_of_page};
 ghost use Rattle.wk_table_rows.specs.Members.{member_of as member_of_triple};
 ghost use Rattle.wk_index.specs.Loadable.{AreLoadable};
 
-use crate::row_titles::row_title;
+use crate::title_map::TitleMap;
 use std::alloc::Global;
 use wk_bytes::Text;
 use wk_memory::Memory;
@@ -38,61 +38,78 @@ fn own_rows<T: Numbered>(rows: &[T], page: u64) -> &[T]
 }
 
 /// The titles that the rows name.
-fn targets(alloc: Global, rows: &[LinkRow]) -> Result<Vec<Title>, Memory>
+fn targets(alloc: Global, made: &mut TitleMap, rows: &[LinkRow]) -> Result<Vec<Title>, Memory>
     requires { All (λ row. is_normal row.target ≡ true) rows.now }
     ensures { IfOk result (λ titles. titles.items ≡ map (λ row. row.target) rows.now) }
 {
     let mut titles = Vec::with_capacity(alloc, rows.len())?;
     for row in rows {
-        titles.push(row_title(alloc, row.namespace, &row.title)?)?;
+        titles.push(made.title(alloc, row.namespace, &row.title)?)?;
     }
     Ok(titles)
 }
 
 /// The category of the row, the sort key and the prefix.
-fn member(alloc: Global, row: &CategoryRow) -> Result<(Title, Text, Text), Memory>
+fn member(
+    alloc: Global,
+    made: &mut TitleMap,
+    row: &CategoryRow,
+) -> Result<(Title, Text, Text), Memory>
     requires { is_normal (category_title row.now.cl_to) ≡ true }
     ensures { IfOk result (λ member. member_of_triple member ≡ member_of row.now) }
 {
-    let category = row_title(alloc, CATEGORY, &row.cl_to)?;
+    let category = made.title(alloc, CATEGORY, &row.cl_to)?;
     let sortkey = row.cl_sortkey.share()?;
     let prefix = row.cl_sortkey_prefix.share()?;
     Ok((category, sortkey, prefix))
 }
 
 /// The categories of the rows.
-fn members(alloc: Global, rows: &[CategoryRow]) -> Result<Vec<(Title, Text, Text)>, Memory>
+fn members(
+    alloc: Global,
+    made: &mut TitleMap,
+    rows: &[CategoryRow],
+) -> Result<Vec<(Title, Text, Text)>, Memory>
     requires { All (λ row. is_normal (category_title row.cl_to) ≡ true) rows.now }
     ensures { IfOk result (λ members. map member_of_triple members.items ≡ map member_of rows.now) }
 {
     let mut members = Vec::with_capacity(alloc, rows.len())?;
     for row in rows {
-        members.push(member(alloc, row)?)?;
+        members.push(member(alloc, made, row)?)?;
     }
     Ok(members)
 }
 
 /// The title that the first row names.
-fn redirect(alloc: Global, rows: &[RedirectRow]) -> Result<Option<Title>, Memory>
+fn redirect(
+    alloc: Global,
+    made: &mut TitleMap,
+    rows: &[RedirectRow],
+) -> Result<Option<Title>, Memory>
     requires { All (λ row. is_normal row.rd_title ≡ true) rows.now }
     ensures { IfOk result (λ title. title ≡ option_map (λ row. row.rd_title) (slice_get rows.now 0)) }
 {
     match rows.first() {
-        Some(row) => Ok(Some(row_title(alloc, row.rd_namespace, &row.rd_title)?)),
+        Some(row) => Ok(Some(made.title(alloc, row.rd_namespace, &row.rd_title)?)),
         None => Ok(None),
     }
 }
 
-/// The rows of the page.
-pub fn page_rows(alloc: Global, tables: &TableRows, page: u64) -> Result<PageRows, Memory>
+/// The rows of the page. Their titles are shared with those that were made for the rows of other pages.
+pub fn page_rows(
+    alloc: Global,
+    made: &mut TitleMap,
+    tables: &TableRows,
+    page: u64,
+) -> Result<PageRows, Memory>
     requires { AreLoadable tables.now }
     ensures { IfOk result (λ rows. rows ≡ rows_of_page tables.now page) }
 {
-    let templates = targets(alloc, own_rows(&tables.templatelinks, page))?;
-    let exists = targets(alloc, own_rows(&tables.existlinks, page))?;
-    let links = targets(alloc, own_rows(&tables.pagelinks, page))?;
-    let members = members(alloc, own_rows(&tables.categorylinks, page))?;
-    let redirect = redirect(alloc, own_rows(&tables.redirects, page))?;
+    let templates = targets(alloc, made, own_rows(&tables.templatelinks, page))?;
+    let exists = targets(alloc, made, own_rows(&tables.existlinks, page))?;
+    let links = targets(alloc, made, own_rows(&tables.pagelinks, page))?;
+    let members = members(alloc, made, own_rows(&tables.categorylinks, page))?;
+    let redirect = redirect(alloc, made, own_rows(&tables.redirects, page))?;
     Ok(PageRows {
         templates,
         exists,

@@ -7,7 +7,7 @@ ghost use Rattle.wk_text_rules.specs.Titles.{PageTitle, title_eq};
 ghost use Rattle.wk_page_rules.specs.Verdict.{max_pages};
 ghost use Rattle.wk_index.specs.Named.{Finds, FindsBy, Kept, Spares, has, is_between, key_cmp, kind_of, listed, lists, page_lists};
 
-use crate::joined;
+use crate::lookup::Lookup;
 use crate::shared_rows::SharedRows;
 use std::alloc::Global;
 use std::collections::BTreeSet;
@@ -59,17 +59,6 @@ pub fn kind_of(reach: Reach) -> Kind
     }
 }
 
-/// Whether the rows have the title among those of the kind.
-fn has_title(rows: &PageRows, title: &Title, kind: Kind) -> bool
-    ensures { result ≡ lists kind rows.now title.now }
-{
-    match kind {
-        Kind::Included => joined::names(rows, title, Reach::Text),
-        Kind::Mentioned => joined::names(rows, title, Reach::Both),
-        Kind::Linked => joined::has(&rows.links, title),
-    }
-}
-
 /// Whether the page is there, and its rows have the title.
 fn page_has_title(stored: &[SharedRows], page: u32, title: &Title, kind: Kind) -> bool
     ensures { result ≡ page_lists kind stored.now title.now page }
@@ -78,7 +67,7 @@ fn page_has_title(stored: &[SharedRows], page: u32, title: &Title, kind: Kind) -
         return false;
     }
     match stored.get(page as usize - 1) {
-        Some(rows) => has_title(rows.rows(), title, kind),
+        Some(rows) => Lookup::once(rows.rows()).has(title, kind),
         None => false,
     }
 }
@@ -120,16 +109,16 @@ pub fn add_rows(named: &mut Named, rows: &PageRows, page: u32, kind: Kind) -> Re
 }
 
 /// Finds the page no longer by the title, where its rows don't have the title. Takes no memory.
-pub fn drop_key(named: &mut Named, key: &NamedBy, rows: &PageRows, kind: Kind)
+pub fn drop_key(named: &mut Named, key: &NamedBy, rows: &Lookup<'_>, kind: Kind)
     ensures { Spares kind rows.now key.now.page named.old.keys named.new.keys }
 {
-    if !has_title(rows, &key.title, kind) {
+    if !rows.has(&key.title, kind) {
         named.remove(key);
     }
 }
 
 /// Finds the page no longer by those of the titles that its rows don't have. Takes no memory.
-pub fn drop_titles(named: &mut Named, titles: Vec<Title>, page: u32, rows: &PageRows, kind: Kind)
+pub fn drop_titles(named: &mut Named, titles: Vec<Title>, page: u32, rows: &Lookup<'_>, kind: Kind)
     ensures { Spares kind rows.now page named.old.keys named.new.keys }
 {
     for title in titles {

@@ -206,6 +206,20 @@ fn rows_change_in_two_halves(rt: HostRuntime) -> Result<(), Fail> {
 }
 
 #[test]
+fn stored_rows_are_shared(rt: HostRuntime) -> Result<(), Fail> {
+    let alloc = rt.alloc();
+    let index = loaded(alloc)?;
+    let stored = index.stored()?;
+    let [first, second, _] = stored.as_slice() else {
+        return Err(Fail::from("not three pages"));
+    };
+    let shared = first.share()?;
+    assert!(rt; is_same(first.rows(), shared.rows()));
+    assert!(rt; !is_same(first.rows(), second.rows()));
+    Ok(())
+}
+
+#[test]
 fn members_are_in_order(rt: HostRuntime) -> Result<(), Fail> {
     let alloc = rt.alloc();
     let index = loaded(alloc)?;

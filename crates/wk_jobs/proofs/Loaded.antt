@@ -1,8 +1,8 @@
 -- The rows of good tables, read one after the other: the numbers of pages by their titles, and the jobs.
-use Rattle.std.proofs.Common.{◌≡◌, ℕ, suc, ◌+◌, ◌-◌, ◌^◌, ◌<◌, ◌≤◌, Bool, true, false, cond, eqb, ltb, leb, ◌&&◌, ◌||◌, not, List, [], ◌∷◌, ◌++◌, length, map, take, get_or, slice_get, max, Option, Some, None, refl, sym, ap, ◌∙◌, inl, inr, subst, arith}
+use Rattle.std.proofs.Common.{◌≡◌, ℕ, suc, ◌+◌, ◌-◌, ◌^◌, ◌<◌, ◌≤◌, Bool, true, false, cond, eqb, ltb, leb, ◌&&◌, not, List, [], ◌∷◌, ◌++◌, length, map, take, get_or, slice_get, max, Option, Some, None, refl, sym, ap, ◌∙◌, inl, inr, subst, arith}
 use Rattle.std.specs.Prelude.{bytes_eq, is_some, option_map, position}
 use Rattle.std.specs.List.{filter_map, fold, list_all, list_any}
-use Rattle.std.specs.Option.{IsSomeAnd, option_or}
+use Rattle.std.specs.Option.{option_or}
 use Rattle.std.proofs.lemmas.Bool.{cases_Bool, and_parts, or_parts, not-true, both_ways, false_from_ne_true, eqb-true, leb-true, ltb-true}
 use Rattle.std.proofs.lemmas.List.{append-nil, length-map, length-take-le, map-append, take_all, take_more}
 use Rattle.std.proofs.lemmas.List.Elements.{filter_map-append}
@@ -17,12 +17,12 @@ use Rattle.wk_table_rules.specs.Rows.{JobColumns, PageColumns, StoreTables}
 use Rattle.wk_table_rules.specs.Stored.{history_of, page_of_row}
 use Rattle.wk_table_rules.specs.JobTable.{FanParams, refresh_cmd, fan_cmd, fan_params}
 use Rattle.wk_table_rules.specs.GoodStore.{IsGood, has_good_id, has_good_title, is_good_job, is_good_number, is_good_refresh, is_good_fan, is_fan_params, is_refresh_params, job_bound, stands_already}
-use Rattle.wk_table_laws.specs.EachGood.{EachGood, KeepsRules}
+use Rattle.wk_table_laws.specs.EachGood.{EachGood}
 use Rattle.wk_table_laws.proofs.FirstBad.{KeepsRules-from_good}
 use Rattle.wk_table_laws.proofs.GoodChanges.{EachGood-at}
 use Rattle.wk_table_laws.proofs.JobRows.{slice_get-within}
 use Rattle.wk_table_rows.proofs.FirstPlace.{position-here, position-later}
-use Rattle.wk_job_rules.specs.Jobs.{RefreshEntry, FanEntry, JobLists, has_refresh, has_fan}
+use Rattle.wk_job_rules.specs.Jobs.{RefreshEntry, FanEntry, JobLists}
 use Rattle.wk_job_rules.specs.Steps.{next_above, refresh_of_row, fan_of_row, jobs_of_tables}
 use Rattle.wk_job_rules.proofs.Lists.{list_any-map}
 use Rattle.wk_jobs.specs.Loaded.{CanBeFan, CanBeRefresh, jobs_so_far, number_in, with_row}

@@ -1,14 +1,24 @@
 -- What serving a fan does to the jobs.
-use Rattle.std.proofs.Common.{◌≡◌, ℕ, ◌+◌, ◌≤◌, ◌<◌, Bool, true, false, cond, eqb, List, [], ◌∷◌, length, Option, Some, None, refl, sym, ap, ◌∙◌, inl, inr, subst, arith}
+use Rattle.std.proofs.Common.{◌≡◌, ℕ, ◌+◌, ◌-◌, ◌≤◌, ◌<◌, Bool, true, false, cond, eqb, List, [], ◌∷◌, length, Option, Some, None, refl, sym, ap, ◌∙◌, inl, inr, arith}
 use Rattle.std.specs.Prelude.{slice_get, option_map}
 use Rattle.std.specs.List.{last_or}
 use Rattle.std.proofs.lemmas.Bool.{cases_Bool}
 use Rattle.wk_job_rules.specs.Jobs.{FanEntry, JobLists, first_fan, fan_dropped, fan_moved, has_refresh, refresh_queued, with_first_cursor}
-use Rattle.wk_job_rules.specs.Steps.{after_fan, after_serving, all_queued, cursor_behind, next_served}
+use Rattle.wk_job_rules.specs.Steps.{after_fan, after_serving, all_queued, cursor_behind}
 use Rattle.wk_job_rules.specs.Users.{users}
 use Rattle.wk_state_rules.specs.States.{State}
 use Rattle.wk_state_laws.proofs.Fanned.{fans-all_queued}
 use Rattle.wk_live.specs.Fanned.{IsNextServed, first_fan_served, jobs_served}
+
+-- ---- the last page
+
+last-from : (o : Option ℕ) (x : ℕ) (xs : List ℕ) → last_or o (x ∷ xs) ≡ slice_get (x ∷ xs) (length xs)
+last-from o x [] = refl
+last-from o x (y ∷ xs) = last-from (Some x) y xs
+
+pub last_is : (xs : List ℕ) → last_or None xs ≡ slice_get xs (length xs - 1)
+last_is [] = refl
+last_is (x ∷ xs) = let same : length xs ≡ length (x ∷ xs) - 1 = omega arith in last-from None x xs ∙ ap (slice_get (x ∷ xs)) same
 
 -- ---- the next number
 

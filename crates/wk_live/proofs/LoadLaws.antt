@@ -1,6 +1,7 @@
 -- The jobs of good tables, as a wiki that is opened over them has them.
-use Rattle.std.proofs.Common.{◌≡◌, ℕ, zero, suc, ◌+◌, ◌-◌, ◌≤◌, ◌^◌, true, eqb, List, [], ◌∷◌, ◌++◌, length, refl, sym, ap, ◌∙◌, subst, arith, length-map}
-use Rattle.std.specs.List.{fold, range_with_len}
+use Rattle.std.proofs.Common.{◌≡◌, ℕ, zero, suc, ◌+◌, ◌-◌, ◌≤◌, ◌^◌, true, eqb, [], ◌∷◌, ◌++◌, length, refl, sym, ap, ◌∙◌, arith}
+use Rattle.std.specs.List.{range_with_len}
+use Rattle.std.proofs.lemmas.List.{length-map}
 use Rattle.std.proofs.lemmas.List.Sums.{fold-append}
 use Rattle.wk_page_rules.specs.Verdict.{max_pages}
 use Rattle.wk_table_rules.specs.Rows.{StoreTables}
@@ -19,14 +20,19 @@ use Rattle.wk_wiki_laws.proofs.StoresOpened as stores
 
 -- ---- pages in their order
 
-range-more : (a n : ℕ) → range_with_len a (n + 1) ≡ range_with_len a n ++ (a + n) ∷ []
-range-more a zero = ap (λ k. k ∷ []) (omega arith)
-range-more a (suc n) = ap (λ ks. a ∷ ks) (range-more (a + 1) n ∙ ap (λ k. range_with_len (a + 1) n ++ k ∷ []) (omega arith))
+range-more : (a n : ℕ) → range_with_len a (suc n) ≡ range_with_len a n ++ (a + n) ∷ []
+range-more a zero = let same : a ≡ a + 0 = omega arith in ap (λ k. k ∷ []) same
+range-more a (suc n) =
+    let same : (a + 1) + n ≡ a + suc n = omega arith in
+    ap (λ ks. a ∷ ks) (range-more (a + 1) n ∙ ap (λ k. range_with_len (a + 1) n ++ k ∷ []) same)
 
 pub queued-more : (lists : JobLists) (n : ℕ) → all_queued lists (range_with_len 1 (n + 1)) ≡ refresh_queued (all_queued lists (range_with_len 1 n)) (n + 1)
 queued-more lists n =
-    ap (all_queued lists) (range-more 1 n ∙ ap (λ k. range_with_len 1 n ++ k ∷ []) (omega arith))
-    ∙ fold-append refresh_queued lists (range_with_len 1 n) ((n + 1) ∷ [])
+    let next : n + 1 ≡ suc n = omega arith in
+    let same : 1 + n ≡ n + 1 = omega arith in
+    ap (λ k. all_queued lists (range_with_len 1 k)) next
+    ∙ (ap (all_queued lists) (range-more 1 n ∙ ap (λ k. range_with_len 1 n ++ k ∷ []) same)
+    ∙ fold-append refresh_queued lists (range_with_len 1 n) ((n + 1) ∷ []))
 
 -- ---- good tables
 

@@ -1,12 +1,12 @@
 -- What the present world answers, and which reads it doesn't bear out.
-use Rattle.std.proofs.Common.{◌≡◌, ℕ, ◌-◌, Bool, true, false, cond, eqb, not, List, [], ◌∷◌, map, Option, Some, None, refl, sym, ap, ◌∙◌, inl, inr}
-use Rattle.std.specs.Prelude.{find, is_some, option_and_then, option_map}
+use Rattle.std.proofs.Common.{◌≡◌, ℕ, eqb, List, [], ◌∷◌, map, Option, Some, None, refl, inl, inr}
+use Rattle.std.specs.Prelude.{is_some, option_and_then, option_map}
 use Rattle.std.proofs.lemmas.Bool.{cases_Bool}
 use Rattle.wk_page_rules.specs.History.{History, Revision, text_of_revision}
 use Rattle.wk_view_rules.specs.Worlds as rule
 use Rattle.wk_view_rules.specs.Worlds.{World, mark}
 use Rattle.wk_wiki_rules.specs.Entries.{revision_at}
-use Rattle.wk_wiki_rules.specs.Staleness.{first_stale, is_stale, present_mark}
+use Rattle.wk_wiki_rules.specs.Staleness.{first_stale, is_stale}
 use Rattle.wk_expand.specs.Drafts.{with_mark}
 use Rattle.wk_live.specs.Stale.{first_stale_mark}
 

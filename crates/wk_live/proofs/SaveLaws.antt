@@ -1,11 +1,11 @@
 -- What a save does to the jobs.
-use Rattle.std.proofs.Common.{◌≡◌, ℕ, Bool, true, false, cond, ◌||◌, List, [], ◌∷◌, ◌++◌, Option, Some, None, refl, sym, ap, ap₂, ◌∙◌, inl, inr}
-use Rattle.std.specs.Prelude.{is_some}
+use Rattle.std.proofs.Common.{◌≡◌, ℕ, ◌+◌, length, length-append, Bool, true, false, cond, ◌||◌, List, [], ◌∷◌, ◌++◌, Option, Some, None, refl, sym, ap, ap₂, ◌∙◌, inl, inr}
+use Rattle.std.specs.Prelude.{find, is_some}
 use Rattle.std.specs.List.{list_any}
 use Rattle.std.proofs.lemmas.Bool.{cases_Bool}
 use Rattle.std.proofs.lemmas.List.Folds.{list_any-append}
 use Rattle.wk_text_rules.specs.Titles.{PageTitle, title_eq}
-use Rattle.wk_page_rules.specs.History.{page_exists, page_number, page_to_save}
+use Rattle.wk_page_rules.specs.History.{History, Page, next_revision, page_exists, page_number, page_to_save, saved, with_current}
 use Rattle.wk_row_rules.specs.PageRows.{PageRows, names, no_rows}
 use Rattle.wk_row_rules.specs.declared.Reach.{Reach}
 use Rattle.wk_row_rules.specs.declared.Reach.TheVariants.{Text, Both}
@@ -13,9 +13,16 @@ use Rattle.wk_job_rules.specs.Jobs.{FanEntry, JobLists, fan_set, has_fan, refres
 use Rattle.wk_job_rules.specs.Steps.{reach_of_save}
 use Rattle.wk_job_rules.specs.Users.{some_page_names}
 use Rattle.wk_state_rules.specs.States.{State}
-use Rattle.wk_state_rules.specs.Events.{jobs_after_save, stored_with}
+use Rattle.wk_state_rules.specs.Events.{jobs_after_save, stored_with, with_saved}
 use Rattle.wk_state_laws.proofs.Fanned.{fans-queued}
+use Rattle.wk_state_laws.proofs.Formed.{length-new, length-old, numbered}
+use Rattle.wk_state_laws.proofs.Saved.{pages-saved}
 use Rattle.wk_live.specs.Wanted.{fan_of_save, queued_with, wants_fan}
+
+-- a title has a fan job where one is found
+pub some_found : {X : Type 0} (p : X → Bool) (xs : List X) → is_some (find p xs) ≡ list_any p xs
+some_found p [] = refl
+some_found p (x ∷ xs) = elim (cases_Bool (p x)) [ inl this ↦ rw this refl | inr other ↦ rw other (some_found p xs) ]
 
 or-nothing : (b : Bool) → (b || (false || false)) ≡ b
 or-nothing true = refl
@@ -52,3 +59,43 @@ saved-jobs state title text =
     let reach = reach_of_save (page_exists state.history title) (is_some text) in
     queued-cond state.jobs page title reach (wants_fan state title reach)
     ∙ ap (λ b. cond b (fan_set (refresh_queued state.jobs page) title reach) (refresh_queued state.jobs page)) (sym (wanted-with state title reach page))
+
+-- ---- the pages
+
+pub lengths-saved : (h : History) (stored : List PageRows) (title : PageTitle) (text : Option (List ℕ)) (moment : ℕ) → length stored ≡ length h.pages
+    → length (cond (is_some (page_number h title)) stored (stored ++ no_rows ∷ [])) ≡ length (saved h title text moment).pages
+lengths-saved h stored title text moment same =
+    let number = cond (is_some text) (next_revision h) 0 in
+    let pages : length (saved h title text moment).pages ≡ length (with_current h.pages title number) = ap (λ (ps : List Page). length ps) (pages-saved h title text moment) in
+    let is = numbered title number h.pages in
+    by (list_any (λ (page : Page). title_eq page.title title) h.pages) refl is ∙ sym pages
+  where
+    by : (b : Bool) → list_any (λ (page : Page). title_eq page.title title) h.pages ≡ b → is_some (page_number h title) ≡ list_any (λ (page : Page). title_eq page.title title) h.pages
+        → length (cond (is_some (page_number h title)) stored (stored ++ no_rows ∷ [])) ≡ length (with_current h.pages title (cond (is_some text) (next_revision h) 0))
+    by true there is = rw (is, there) (same ∙ sym (length-old title (cond (is_some text) (next_revision h) 0) h.pages there))
+    by false none is =
+        rw (is, none) (length-append stored (no_rows ∷ []) ∙ (ap (λ n. n + 1) same ∙ sym (length-new title (cond (is_some text) (next_revision h) 0) h.pages none)))
+
+-- ---- the state
+
+abbrev state_with : History → List PageRows → JobLists → State
+state_with h stored jobs = record { history = h; stored = stored; jobs = jobs }
+
+pub saved-state : (state : State) (title : PageTitle) (text : Option (List ℕ)) (moment : ℕ) (h : History) (stored : List PageRows) (jobs : JobLists) (known : Option ℕ) (page : ℕ) (reach : Reach) (fan : Option PageTitle)
+    → h ≡ saved state.history title text moment
+    → known ≡ page_number state.history title
+    → stored ≡ cond (is_some known) state.stored (state.stored ++ no_rows ∷ [])
+    → page ≡ page_to_save state.history title
+    → reach ≡ reach_of_save (page_exists state.history title) (is_some text)
+    → fan ≡ fan_of_save state title text
+    → jobs ≡ queued_with state.jobs page reach fan
+    → state_with h stored jobs ≡ with_saved state title text moment
+saved-state state title text moment h stored jobs known page reach fan h-is known-is stored-is page-is reach-is fan-is jobs-is =
+    let rows : stored ≡ stored_with state title = stored-is ∙ ap (λ (o : Option ℕ). cond (is_some o) state.stored (state.stored ++ no_rows ∷ [])) known-is in
+    let after : jobs ≡ jobs_after_save state title text =
+    jobs-is
+    ∙ (ap (λ p. queued_with state.jobs p reach fan) page-is
+    ∙ (ap (λ r. queued_with state.jobs (page_to_save state.history title) r fan) reach-is
+    ∙ (ap (queued_with state.jobs (page_to_save state.history title) (reach_of_save (page_exists state.history title) (is_some text))) fan-is
+    ∙ saved-jobs state title text))) in
+    λ i. state_with (h-is i) (rows i) (after i)

@@ -1,8 +1,8 @@
 -- The page whose job a ticket claims.
-use Rattle.std.proofs.Common.{◌≡◌, ℕ, Bool, true, false, eqb, ◌&&◌, ◌||◌, List, [], ◌∷◌, Option, Some, None, refl, sym, ap, ◌∙◌, inl, inr}
+use Rattle.std.proofs.Common.{◌≡◌, ℕ, true, false, eqb, ◌&&◌, List, [], ◌∷◌, Option, Some, None, refl, inl, inr}
 use Rattle.std.specs.Prelude.{find, option_map}
 use Rattle.std.specs.List.{list_any}
-use Rattle.std.proofs.lemmas.Bool.{cases_Bool, eq-eqb, or_left, or_right}
+use Rattle.std.proofs.lemmas.Bool.{cases_Bool, eq-eqb, or_right}
 use Rattle.wk_job_rules.specs.Jobs.{JobLists, RefreshEntry, has_claimed, is_claimed, is_held_by, page_held_by}
 
 held-claimed : (ticket : ℕ) (job : RefreshEntry) → is_held_by ticket job ≡ true → is_claimed job ≡ true

@@ -14,8 +14,8 @@ pub record HeldState : Type 0 where
   pub room : Rooms
 
 -- there is room for one save, and for so many refresh jobs
-pub record HasRoomFor (refreshes : ℕ) (room : Rooms) : Type 0 where
+pub record HasRoomFor (jobs : ℕ) (room : Rooms) : Type 0 where
   pub revisions : 1 ≤ room.revisions
   pub pages : 1 ≤ room.pages
-  pub refreshes : refreshes ≤ room.refreshes
+  pub refreshes : jobs ≤ room.refreshes
   pub fans : 1 ≤ room.fans

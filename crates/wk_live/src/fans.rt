@@ -1,13 +1,21 @@
 //! Fans.
-ghost use Rattle.std.specs.Prelude.{◌≡◌, ℕ, ◌+◌, ◌≤◌, ◌<◌, ◌^◌, Some, IfOk, length};
+ghost use Rattle.std.specs.Prelude.{◌≡◌, ℕ, ◌+◌, ◌≤◌, ◌<◌, ◌^◌, None, Some, IfOk, length};
 ghost use Rattle.std.specs.List.{last_or};
-ghost use Rattle.wk_job_rules.specs.Steps.{after_fan, all_queued};
+ghost use Rattle.wk_job_rules.specs.Steps.{after_fan, all_queued, cursor_behind};
 ghost use Rattle.wk_state_rules.specs.Events.{with_jobs};
 ghost use Rattle.wk_live.specs.Fanned.{IsNextServed, first_fan_served, jobs_served};
 
 use crate::live::Live;
 use wk_jobs::Jobs;
 use wk_memory::Memory;
+
+/// The last of the pages.
+#[tactic(auto, using(crate::proofs::FanLaws::last_is))]
+fn last_of(pages: &[u32]) -> Option<u32>
+    ensures { result ≡ last_or None pages.now }
+{
+    pages.last().copied()
+}
 
 /// Queues a refresh of each of the pages that has none, in order. There is room for them all. Takes no memory.
 fn queue_all(jobs: &mut Jobs, pages: &[u32])
@@ -31,8 +39,8 @@ fn serve_first(jobs: &mut Jobs, served: &[u32], is_last: bool)
         jobs.drop_fan();
         return;
     }
-    match served.last() {
-        Some(page) => jobs.move_fan(*page),
+    match last_of(served) {
+        Some(page) => jobs.move_fan(page),
         None => {}
     }
 }
@@ -74,8 +82,8 @@ impl Live {
 fn cursor_behind(served: &[u32], cursor: u32) -> u32
     ensures { result ≡ cursor_behind served.now cursor }
 {
-    match served.last() {
-        Some(page) => *page,
+    match last_of(served) {
+        Some(page) => page,
         None => cursor,
     }
 }

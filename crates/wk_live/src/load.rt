@@ -1,9 +1,9 @@
 //! The state of a wiki that is opened over a store.
-ghost use Rattle.std.specs.Prelude.{◌≡◌, ◌+◌, ◌<◌, ◌^◌, IfOk, OnOk, map, range};
+ghost use Rattle.std.specs.Prelude.{◌≡◌, ◌+◌, ◌≤◌, ◌^◌, IfOk, OnOk};
 ghost use Rattle.std.specs.List.{range_with_len};
 ghost use Rattle.wk_page_rules.specs.Verdict.{max_pages};
 ghost use Rattle.wk_table_rules.specs.GoodStore.{IsGood};
-ghost use Rattle.wk_job_rules.specs.Steps.{all_queued};
+ghost use Rattle.wk_job_rules.specs.Steps.{all_queued, reopened_jobs};
 ghost use Rattle.wk_state_rules.specs.Lives.{opened};
 
 use crate::live::Live;
@@ -26,16 +26,26 @@ fn queue_pages(jobs: &mut Jobs, pages: usize) -> Result<(), Memory>
     Ok(())
 }
 
+/// The jobs with a refresh of each page that has none, as a restart has them.
+fn refreshed(mut jobs: Jobs, pages: usize) -> Result<Jobs, Memory>
+    requires few { pages ≤ max_pages }
+    requires numbers { jobs.lists.next + pages ≤ 2 ^ 63 }
+    ensures { IfOk result (λ after. after.lists ≡ reopened_jobs (all_queued jobs.lists (range_with_len 1 pages))) }
+{
+    queue_pages(&mut jobs, pages)?;
+    jobs.reopen();
+    Ok(jobs)
+}
+
 /// The jobs of the tables of a good store, as a restart has them. Version 1 has no redirect rows, so what it holds may be
 /// behind, and each page that has no refresh job gets one.
 fn jobs_of(tables: &Tables) -> Result<Jobs, Memory>
     requires { IsGood tables.now.tables }
     ensures { IfOk result (λ jobs. jobs.lists ≡ (opened tables.now.tables).jobs) }
 {
-    let mut jobs = Jobs::load(tables)?;
+    let jobs = Jobs::load(tables)?;
     if tables.version() == 1 {
-        queue_pages(&mut jobs, tables.pages().len())?;
-        jobs.reopen();
+        return refreshed(jobs, tables.pages().len());
     }
     Ok(jobs)
 }

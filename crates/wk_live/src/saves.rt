@@ -1,8 +1,9 @@
 //! Saves.
 ghost use Rattle.std.specs.Prelude.{◌≡◌, ◌+◌, ◌≤◌, ◌<◌, ◌^◌, ◌++◌, ◌∷◌, [], None, true, IfOk, is_some, length, if◌then◌else◌};
-ghost use Rattle.wk_page_rules.specs.History.{can_save, next_revision, page_number};
+ghost use Rattle.wk_page_rules.specs.History.{can_save, next_revision, page_exists, page_number};
 ghost use Rattle.wk_page_rules.specs.Verdict.{max_pages};
 ghost use Rattle.wk_row_rules.specs.PageRows.{no_rows};
+ghost use Rattle.wk_job_rules.specs.Jobs.{has_fan};
 ghost use Rattle.wk_job_rules.specs.Steps.{reach_of_save};
 ghost use Rattle.wk_state_rules.specs.Events.{with_saved};
 ghost use Rattle.wk_live.specs.HeldState.{HasRoomFor};
@@ -13,6 +14,7 @@ use wk_bytes::Text;
 use wk_index::Index;
 use wk_jobs::Jobs;
 use wk_memory::Memory;
+use wk_revs::Revs;
 use wk_row_rules::Reach;
 use wk_title::Title;
 
@@ -28,14 +30,22 @@ pub fn reach_of_save(existed: bool, exists: bool) -> Reach
     }
 }
 
-/// Adds a page without rows behind all pages where the title has none. Takes no memory.
-fn add_page(index: &mut Index, is_new: bool)
-    requires room { 1 ≤ index.old.spare }
-    requires fits { is_new ≡ true → length index.old.stored < max_pages }
-    ensures { index.new.stored ≡ (if is_new then index.old.stored ++ no_rows ∷ [] else index.old.stored) }
+/// Which rows a save of the title reaches, by whether its page exists behind it. Takes no memory.
+fn reach_in(revs: &Revs, title: &Title, exists: bool) -> Reach
+    ensures { result ≡ reach_of_save (page_exists revs.now.history title.now) exists }
 {
-    if is_new {
-        index.add_page();
+    reach_of_save(revs.current(title) != 0, exists)
+}
+
+/// Adds a page without rows behind all pages where the title has no page. Takes no memory.
+fn add_page(index: &mut Index, page: Option<u32>)
+    requires room { 1 ≤ index.old.spare }
+    requires fits { page ≡ None → length index.old.stored < max_pages }
+    ensures { index.new.stored ≡ (if is_some page then index.old.stored else index.old.stored ++ no_rows ∷ []) }
+{
+    match page {
+        Some(_) => {}
+        None => index.add_page(),
     }
 }
 
@@ -58,13 +68,23 @@ fn queue_jobs(jobs: &mut Jobs, page: u32, reach: Reach, fan: Option<Title>)
     }
 }
 
+/// Whether the title has a fan job.
+fn has_fan(jobs: &Jobs, title: &Title) -> bool
+    ensures { result ≡ has_fan jobs.now.lists title.now }
+{
+    match jobs.fan_job(title) {
+        Some(_) => true,
+        None => false,
+    }
+}
+
 impl Live {
     /// Whether a save of the title that reaches these rows sets its fan job or adds one: one stands, or some page's
     /// stored rows, its own among them, name the title.
     pub fn wants_fan(&self, title: &Title, reach: Reach) -> Result<bool, Memory>
         ensures { IfOk result (λ wants. wants ≡ wants_fan self.now.state title.now reach) }
     {
-        if self.jobs.fan_job(title).is_some() {
+        if has_fan(&self.jobs, title) {
             return Ok(true);
         }
         self.index.some_page_names(title, reach)
@@ -83,10 +103,9 @@ impl Live {
         ensures number { result ≡ next_revision self.old.state.history }
     {
         let page = self.revs.page_to_save(&title);
-        let is_new = self.revs.page(&title).is_none();
-        let existed = self.revs.current(&title) != 0;
-        let reach = reach_of_save(existed, text.is_some());
-        add_page(&mut self.index, is_new);
+        let known = self.revs.page(&title);
+        let reach = reach_in(&self.revs, &title, text.is_some());
+        add_page(&mut self.index, known);
         queue_jobs(&mut self.jobs, page, reach, fan);
         self.revs.add(title, text, moment)
     }

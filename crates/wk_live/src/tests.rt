@@ -1,5 +1,4 @@
 // What no clause says: that calls which may answer `Memory` answer otherwise.
-ghost use Rattle.std.specs.Prelude.{◌<◌, length};
 
 use crate::Live;
 use std::alloc::Global;
@@ -26,33 +25,55 @@ fn title(alloc: Global, bytes: &'static str) -> Result<Title, Fail> {
     }
 }
 
-/// One page, `P`, with its text and a fan job of its title.
-fn some_tables(alloc: Global, version: u64) -> Result<Tables, Fail> {
-    let mut rows = TableRows::new(alloc);
-    rows.version = version;
-    rows.pages.push(PageRow {
+fn page_row(alloc: Global) -> Result<PageRow, Fail> {
+    let page_title = text(alloc, "P")?;
+    Ok(PageRow {
         page_id: 1,
         page_namespace: 0,
-        page_title: text(alloc, "P")?,
+        page_title,
         page_latest: 1,
         page_len: 1,
-    })?;
-    rows.revisions.push(RevisionRow {
+    })
+}
+
+fn revision_row(alloc: Global) -> Result<RevisionRow, Fail> {
+    let rev_text = text(alloc, "x")?;
+    Ok(RevisionRow {
         rev_id: 1,
         rev_page: 1,
         rev_parent_id: 0,
         rev_timestamp: 7,
         rev_len: 1,
         rev_gone: false,
-        rev_text: text(alloc, "x")?,
-    })?;
-    rows.jobs.push(JobRow {
+        rev_text,
+    })
+}
+
+fn fan_row(alloc: Global) -> Result<JobRow, Fail> {
+    Ok(JobRow {
         job_id: 1,
         job_cmd: text(alloc, "fan")?,
         job_namespace: 0,
         job_title: text(alloc, "P")?,
         job_params: text(alloc, "text:0")?,
-    })?;
+    })
+}
+
+/// One page, `P`, with its text and a fan job of its title.
+fn some_rows(alloc: Global) -> Result<TableRows, Fail> {
+    let mut rows = TableRows::new(alloc);
+    let page = page_row(alloc)?;
+    rows.pages.push(page)?;
+    let revision = revision_row(alloc)?;
+    rows.revisions.push(revision)?;
+    let job = fan_row(alloc)?;
+    rows.jobs.push(job)?;
+    Ok(rows)
+}
+
+fn some_tables(alloc: Global, version: u64) -> Result<Tables, Fail> {
+    let mut rows = some_rows(alloc)?;
+    rows.version = version;
     Ok(Tables::from_rows(alloc, rows)?)
 }
 

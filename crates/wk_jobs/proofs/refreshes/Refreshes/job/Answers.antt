@@ -1,7 +1,6 @@
 use Rattle.std.proofs.Common.{◌≡◌, ℕ, Bool, false, eqb, Some, None, option_map, sym, ap, ◌∙◌}
 use Rattle.std.specs.Prelude.{position}
 use Rattle.std.specs.List.{list_any}
-use Rattle.std.proofs.lemmas.Bool.{eqb-true}
 use Rattle.std.proofs.lemmas.List.Quantifiers.{position-Some}
 use Rattle.wk_job_rules.specs.Jobs.{RefreshEntry}
 use Rattle.wk_jobs.specs.Entries.{claimed_entry, job_of}
