@@ -316,7 +316,7 @@ job_of-queued (c ∷ cs) qs page none =
 
 -- ---- a list that is written
 
-pub listed-more : {X : Type 0} (entry : X → RefreshEntry) (jobs : List RefreshEntry) (xs : List X) (i : ℕ) (d : X) → i < length xs
+pub listed-more : {X Y : Type 0} (entry : X → Y) (jobs : List Y) (xs : List X) (i : ℕ) (d : X) → i < length xs
     → (jobs ++ map entry (take i xs)) ++ entry (get_or xs i d) ∷ [] ≡ jobs ++ map entry (take (i + 1) xs)
 listed-more entry jobs xs i d inside =
     append_assoc jobs (map entry (take i xs)) (entry (get_or xs i d) ∷ [])

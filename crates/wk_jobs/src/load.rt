@@ -57,8 +57,8 @@ fn jobs_of_rows(alloc: Global, tables: &Tables, rows: &[JobRow]) -> Result<Jobs,
 
 impl Jobs {
     /// The jobs in the tables of a good store, as a restart has them: each refresh job is queued, in the order of their
-    /// numbers, and numbers are counted on from the greatest of a job that stands. No room is made. `Memory` may come at
-    /// any tables.
+    /// numbers, and numbers are counted on from the greatest of a job that stands. No room is made. All rows of the tables
+    /// are shared for the time of the call. `Memory` may come at any tables.
     pub fn load(tables: &Tables) -> Result<Jobs, Memory>
         requires { IsGood tables.now.tables }
         ensures { IfOk result (λ jobs. jobs.lists ≡ reopened_jobs (jobs_of_tables tables.now.tables)) }

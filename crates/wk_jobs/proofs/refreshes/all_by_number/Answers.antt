@@ -1,22 +1,17 @@
-use Rattle.std.proofs.Common.{◌≡◌, ℕ, ◌+◌, ◌<◌, List, [], ◌∷◌, ◌++◌, length, map, take, get_or, sym, ap, ◌∙◌, subst, arith, rules}
+use Rattle.std.proofs.Common.{◌≡◌, ◌++◌, map, ap, ◌∙◌, subst, arith, rules}
 use Rattle.std.specs.List.Sorted.{IsPermutation}
-use Rattle.std.proofs.lemmas.List.{append_assoc, map-append, take_all, take_more}
+use Rattle.std.proofs.lemmas.List.{take_all}
 use Rattle.std.proofs.lemmas.List.Sorted.{IsNonDecreasingBy-from_sort_by_key}
 use Rattle.wk_jobs.specs.Entries.{queued_entry}
 use Rattle.wk_jobs.specs.Unclaimed.{unclaimed}
-use Rattle.wk_jobs.specs.declared.refreshes.ClaimedJob.{ClaimedJob}
 use Rattle.wk_jobs.specs.declared.refreshes.QueuedJob.{QueuedJob}
+use Rattle.wk_jobs.proofs.Entries.{listed-more}
 use Rattle.wk_jobs.proofs.Sorting.{reopened-entries}
 use Rattle.wk_jobs.proofs.refreshes.all_by_number.Goals as goal
 
-more : (qs : List QueuedJob) (cs : List ClaimedJob) (i : ℕ) (d : ClaimedJob) → i < length cs → (qs ++ map unclaimed (take i cs)) ++ unclaimed (get_or cs i d) ∷ [] ≡ qs ++ map unclaimed (take (i + 1) cs)
-more qs cs i d inside =
-    append_assoc qs (map unclaimed (take i cs)) (unclaimed (get_or cs i d) ∷ [])
-    ∙ ap (λ jobs. qs ++ jobs) (sym (map-append unclaimed (take i cs) (get_or cs i d ∷ [])) ∙ ap (map unclaimed) (sym (take_more cs i d inside)))
-
 pub loop-job-preserved : goal.loop-job-preserved
 loop-job-preserved c = record {
-  items = rw (c.push_reserved.ensures.items, c.loop-job.invariant.items) (more c.args.queued.items c.args.claimed.now c.loop-job.job-index _ c.loop-job-test.true);
+  items = rw (c.push_reserved.ensures.items, c.loop-job.invariant.items) (listed-more unclaimed c.args.queued.items c.args.claimed.now c.loop-job.job-index _ c.loop-job-test.true);
   len = omega (arith, c.push_reserved.ensures.len, c.loop-job.invariant.len);
   capacity = c.push_reserved.ensures.capacity ∙ c.loop-job.invariant.capacity;
 }
