@@ -1,17 +1,17 @@
 -- The rows of each page can be taken out of the tables of a good store.
 use Rattle.std.proofs.Common.{◌≡◌, ℕ, zero, suc, ◌+◌, ◌<◌, ◌≤◌, Bool, true, eqb, ltb, leb, not, ◌&&◌, List, [], ◌∷◌, ◌++◌, length, get_or, refl, arith}
-use Rattle.std.specs.List.{AllByRecursion, list_all}
+use Rattle.std.specs.List.{AllByRecursion}
 use Rattle.std.specs.List.Sorted.{IsNonDecreasingBy}
 use Rattle.std.specs.Ordering.{int_eq}
 use Rattle.std.proofs.lemmas.Bool.{and_parts, eqb-true, leb-true, ltb-true}
 use Rattle.std.proofs.lemmas.List.{length-append}
 use Rattle.std.proofs.lemmas.List.Elements.{All-from_recursion}
-use Rattle.wk_text_rules.specs.Titles.{PageTitle, is_normal, is_virtual, is_page_title}
+use Rattle.wk_text_rules.specs.Titles.{is_normal, is_virtual, is_page_title}
 use Rattle.wk_page_rules.specs.Verdict.{max_pages}
 use Rattle.wk_table_rules.specs.Rows.{StoreTables, PageColumns, LinkColumns, CategoryColumns, RedirectColumns, category_title}
 use Rattle.wk_table_rules.specs.Changes.{has_page, namespace_of}
 use Rattle.wk_table_rules.specs.GoodStore.{IsGood, row_lt, has_good_id, is_good_link, is_good_category, is_good_redirect}
-use Rattle.wk_table_laws.specs.EachGood.{GoodAfter, EachGood, KeepsRules}
+use Rattle.wk_table_laws.specs.EachGood.{GoodAfter, EachGood}
 use Rattle.wk_table_laws.proofs.FirstBad.{KeepsRules-from_good}
 use Rattle.wk_table_laws.proofs.Pairs.{Pairs, Passes-from_good, each-weaker}
 use Rattle.wk_table_laws.proofs.Links.{row_lt-rise}

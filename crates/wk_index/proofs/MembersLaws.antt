@@ -1,11 +1,11 @@
 -- The members of a category in the order of the entries by which they are found are those of the rules.
-use Rattle.std.proofs.Common.{◌≡◌, ℕ, zero, suc, ◌+◌, ◌-◌, ◌<◌, ◌≤◌, Bool, true, false, cond, eqb, ltb, not, ◌&&◌, ◌||◌, List, [], ◌∷◌, ◌++◌, length, map, take, drop, get_or, Option, Some, None, refl, sym, ap, ◌∙◌, subst, inl, inr, arith}
+use Rattle.std.proofs.Common.{◌≡◌, ℕ, zero, suc, ◌+◌, ◌-◌, ◌<◌, ◌≤◌, Bool, true, false, cond, eqb, ltb, not, ◌&&◌, List, [], ◌∷◌, ◌++◌, length, map, take, drop, get_or, Some, None, refl, sym, ap, ◌∙◌, subst, inl, inr, arith}
 use Rattle.std.specs.Prelude.{bytes_eq, fold, flat_map, slice_get}
 use Rattle.std.specs.List.{AllByRecursion, enumerate_from, filter, list_any}
 use Rattle.std.specs.List.Sorted.{IsStrictlySortedBy}
 use Rattle.std.specs.Cmp.{IsTotalOrder}
 use Rattle.std.specs.Cmp.Lexicographic.{slice_cmp}
-use Rattle.std.specs.Ordering.{is_eq, is_gt, is_le, is_lt, nat_cmp, ordering_reverse, ordering_then}
+use Rattle.std.specs.Ordering.{is_eq, is_le, is_lt, nat_cmp, ordering_reverse, ordering_then}
 use Rattle.std.specs.declared.cmp.Ordering.{Ordering}
 use Rattle.std.specs.declared.cmp.Ordering.TheVariants.{Less, Equal, Greater}
 use Rattle.std.proofs.lemmas.Bool.{cases_Bool, and_parts, eqb-true, eq-eqb, ltb-false, ne_eqb, false≢true}
@@ -22,7 +22,7 @@ use Rattle.wk_good_rows.proofs.Sets.{same-title}
 use Rattle.wk_listing_rules.specs.Members.{MemberPage, category_members, member_lt, member_placed, members_on}
 use Rattle.wk_index.specs.Entries.{Entry, FindsEntries, entry_cmp, has_entry, lists_entry}
 use Rattle.wk_index.specs.Listing.{members_from, own_members, page_members}
-use Rattle.wk_index.specs.Named.{page_passes, rows_at}
+use Rattle.wk_index.specs.Named.{rows_at}
 use Rattle.wk_index.proofs.FindsLaws.{or-parts, or-left, or-right}
 use Rattle.wk_index.proofs.OrderLaws.{apart-after, same-equal, title_cmp_total}
 use Rattle.wk_index.proofs.PagesLaws.{any-filter, any-same}

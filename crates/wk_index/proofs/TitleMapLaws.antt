@@ -1,11 +1,10 @@
 -- A map of titles with one more.
-use Rattle.std.proofs.Common.{◌≡◌, ℕ, ℤ, Bool, true, false, cond, List, [], Option, Some, None, refl, sym, ap, ◌∙◌, subst, inl, inr}
+use Rattle.std.proofs.Common.{◌≡◌, ℕ, ℤ, true, cond, List, [], Some, None, sym, ap, ◌∙◌, inl, inr}
 use Rattle.std.specs.BTreeMap.{BTreeMap, get}
 use Rattle.std.specs.Map.{lookup}
-use Rattle.std.specs.Cmp.Lexicographic.{slice_cmp}
-use Rattle.std.specs.Ordering.{int_cmp, is_eq, nat_cmp}
+use Rattle.std.specs.Ordering.{is_eq}
 use Rattle.std.proofs.lemmas.Bool.{cases_Bool}
-use Rattle.wk_text_rules.specs.Titles.{PageTitle, title_cmp, title_eq}
+use Rattle.wk_text_rules.specs.Titles.{PageTitle}
 use Rattle.wk_good_rows.proofs.Sets.{same-title}
 use Rattle.wk_index.specs.TitleMap.{AreTitles, place_cmp}
 use Rattle.wk_index.proofs.TitleLaws.{title_eq-true}

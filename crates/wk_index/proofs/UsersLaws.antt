@@ -1,5 +1,5 @@
 -- The users of a title are the pages that are listed, and some page names a title where a first one is listed.
-use Rattle.std.proofs.Common.{◌≡◌, ℕ, suc, ◌+◌, ◌<◌, Bool, true, false, cond, ltb, ◌&&◌, List, [], ◌∷◌, length, map, take, refl, sym, ap, ◌∙◌, inl, inr, arith}
+use Rattle.std.proofs.Common.{◌≡◌, ℕ, ◌+◌, ◌<◌, Bool, true, ltb, ◌&&◌, List, [], ◌∷◌, length, map, take, refl, inl, inr, arith}
 use Rattle.std.specs.List.{enumerate_from, filter, list_any}
 use Rattle.std.proofs.lemmas.Bool.{cases_Bool, lt-ltb}
 use Rattle.wk_text_rules.specs.Titles.{PageTitle}
@@ -8,8 +8,8 @@ use Rattle.wk_row_rules.specs.declared.Reach.{Reach}
 use Rattle.wk_row_rules.specs.declared.Reach.TheVariants.{Text, Both}
 use Rattle.wk_job_rules.specs.Users.{some_page_names, users}
 use Rattle.wk_listing_rules.specs.Links.{linking_pages}
-use Rattle.wk_index.specs.declared.named.Kind.TheVariants.{Included, Mentioned, Linked}
-use Rattle.wk_index.specs.Named.{kind_of, listed, lists}
+use Rattle.wk_index.specs.declared.named.Kind.TheVariants.{Linked}
+use Rattle.wk_index.specs.Named.{kind_of, listed}
 
 pub users-listed : (stored : List PageRows) (title : PageTitle) (reach : Reach) (above most : ℕ) → users stored title reach above most ≡ listed (kind_of reach) stored title above most
 unfolding users

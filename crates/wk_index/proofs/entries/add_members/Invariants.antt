@@ -1,4 +1,4 @@
-use Rattle.std.proofs.Common.{◌≡◌, true, take, List, ℕ}
+use Rattle.std.proofs.Common.{◌≡◌, true, take}
 use Rattle.std.specs.List.{list_any}
 use Rattle.wk_index.specs.Entries.{KeptEntries, has_entry}
 use Rattle.wk_index.proofs.EntryLaws.{Name, is_in}

@@ -1,7 +1,7 @@
-use Rattle.std.proofs.Common.{◌≡◌, ◌∙◌, true, eqb, List, Option, map, ap, sym, subst, refl}
+use Rattle.std.proofs.Common.{◌≡◌, ◌∙◌, true, eqb, List, Option, map, ap, sym, subst}
 use Rattle.std.specs.Prelude.{slice_get}
 use Rattle.std.specs.Option.{option_map}
-use Rattle.std.specs.List.{All, filter, find}
+use Rattle.std.specs.List.{All, filter}
 use Rattle.std.proofs.lemmas.List.Elements.{All-filter}
 use Rattle.wk_text_rules.specs.Titles.{PageTitle, is_normal}
 use Rattle.wk_row_rules.specs.PageRows.{Member, PageRows}

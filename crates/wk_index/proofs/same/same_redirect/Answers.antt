@@ -1,4 +1,4 @@
-use Rattle.std.proofs.Common.{ap, sym, ◌∙◌}
+use Rattle.std.proofs.Common.{sym, ◌∙◌}
 use Rattle.wk_index.proofs.SameLaws.{Decides-redirect}
 use Rattle.wk_index.proofs.same.same_redirect.Goals as goal
 

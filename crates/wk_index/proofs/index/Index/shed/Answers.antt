@@ -1,4 +1,4 @@
-use Rattle.std.proofs.Common.{ap, sym, subst, arith}
+use Rattle.std.proofs.Common.{sym, subst, arith}
 use Rattle.std.specs.Option.{IsSome}
 use Rattle.wk_listing_rules.specs.Names.{AreAmong}
 use Rattle.wk_index.specs.Found.{SparesAll}
