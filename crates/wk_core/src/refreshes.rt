@@ -169,6 +169,7 @@ fn store_rows<K: Keeper>(
     ensures no_fault { OnOk result (K.faults keeper.new ≡ K.faults keeper.old) }
     ensures fault { result ≡ Err KeeperRefusal.Failed → Rose (K.faults keeper.old) (K.faults keeper.new) }
 {
+    life.facts();
     let alloc = life.allocator();
     let rows = rows(alloc, draft)?;
     if is_stored(life.live(), page, &rows) {
@@ -200,6 +201,7 @@ fn finish_current<K: Keeper>(
     ensures no_fault { result ≡ Finished.Done → K.faults keeper.new ≡ K.faults keeper.old }
     ensures not_stale { told_stale result ≡ None }
 {
+    life.facts();
     let Some(page) = life.live().jobs().page_held(ticket) else {
         unreachable!()
     };
