@@ -100,8 +100,7 @@ module _ (held : LifeHeld) (capacity : ℕ) (keeps : KeepsLife held capacity) wh
       let goes_on = saved_life held.life (length (journal_of held.life)) moment accepted.edit title text keeps.life refl unsealed accepted.is in
       let next : IsNext held.life (Save title text moment) (with_entry held.life (entry.Save revision) state) = rw (is, number) goes_on in
       let same = out-step-save fan_pages held.life.state state (length (journal_of held.life)) title text moment next.done in
-      let within = keeps.room in
-      (
+      let within = keeps.room in (
         keeps-next (Save title text moment) state (entry.Save revision) room spare (ap (λ n. entry.Save n ∷ []) (sym number)) next (omega (arith, same, within, less)),
         next,
       )
@@ -164,5 +163,5 @@ pub next-as : (life seen : Life) (event : Event) (one : Entry) (told : List Entr
     → IsNext seen event (record life { entries = told; state = state })
 next-as life seen event one told state same is next =
     let here : IsNext life event (record life { entries = told; state = state }) =
-        subst (λ (es : List Entry). IsNext life event (record life { entries = es; state = state })) (sym same) next in
+    subst (λ (es : List Entry). IsNext life event (record life { entries = es; state = state })) (sym same) next in
     subst (λ (l : Life). IsNext l event (record life { entries = told; state = state })) is here

@@ -37,7 +37,7 @@ module _ {X : Type 0} (same : X → X → Bool) (reflects : (a : X) → same a a
   old-among [] all new within = tt
   old-among (x ∷ old) all new within = (
     list_any-append (same x) all (filter (λ y. not (list_any (same y) all)) new)
-    ∙ or_left (list_any (same x) all) (list_any (same x) (filter (λ y. not (list_any (same y) all)) new)) (within x (or_left (same x x) (list_any (same x) old) (reflects x))),
+        ∙ or_left (list_any (same x) all) (list_any (same x) (filter (λ y. not (list_any (same y) all)) new)) (within x (or_left (same x x) (list_any (same x) old) (reflects x))),
     old-among old all new (λ y there. within y (or_right (same y x) (list_any (same y) old) there)),
   )
 
@@ -188,8 +188,8 @@ module _ (life : Life) (is : IsLife life) (ticket page : ℕ) (holds : page_held
   refreshed-same current =
       let there = rows-get life.state.stored page page-there.0 page-there.1 in
       let at : stored_at life.state page ≡ page-there.0 =
-          ap (λ b. cond b no_rows (unwrap_or (slice_get life.state.stored (page - 1)) no_rows)) (not-zero page page-within.0)
-          ∙ ap (λ o. unwrap_or o no_rows) there in
+      ap (λ b. cond b no_rows (unwrap_or (slice_get life.state.stored (page - 1)) no_rows)) (not-zero page page-within.0)
+      ∙ ap (λ o. unwrap_or o no_rows) there in
       let same : page-there.0 ≡ rows (world_of life.state) (title_at life.state.history page) = sym at ∙ current in
       let set = set-same life.state.stored (page - 1) (rows (world_of life.state) (title_at life.state.history page)) (there ∙ ap (λ r. Some r) same) in
       ap (λ stored. let next : State = record { history = life.state.history; stored = stored; jobs = refresh_dropped life.state.jobs page } in next) (sym set)
@@ -200,7 +200,7 @@ module _ (life : Life) (is : IsLife life) (ticket page : ℕ) (holds : page_held
   done-changes next change made is_change =
       let job = job-there in
       let same : rows (world_of life.state) (title_at life.state.history page) ≡ rows (world_of life.state) (title_at life.state.history job.0.page) =
-          ap (λ p. rows (world_of life.state) (title_at life.state.history p)) (sym job.1.1) in
+      ap (λ p. rows (world_of life.state) (title_at life.state.history p)) (sym job.1.1) in
       let changed = is_change job.0 job.1.0 job.1.1 ∙ ap (refresh_change job.0) same in
       subst (λ c. Makes (tables_of life.state) c (tables_of next.state)) (sym changed)
       (refresh-step fan_pages life.state next.state (length (journal_of life)) ticket job.0 kept-now job.1.0 made.done)
@@ -212,7 +212,7 @@ module _ (life : Life) (is : IsLife life) (ticket page : ℕ) (holds : page_held
   done-changes-job next change made is_change current =
       let job = job-there in
       let stored : stored_at life.state job.0.page ≡ rows (world_of life.state) (title_at life.state.history job.0.page) =
-          subst (λ p. stored_at life.state p ≡ rows (world_of life.state) (title_at life.state.history p)) (sym job.1.1) current in
+      subst (λ p. stored_at life.state p ≡ rows (world_of life.state) (title_at life.state.history p)) (sym job.1.1) current in
       subst (λ c. Makes (tables_of life.state) c (tables_of next.state)) (sym (is_change job.0 job.1.0 job.1.1))
       (refresh-step-same fan_pages life.state next.state (length (journal_of life)) ticket job.0 kept-now job.1.0 made.done stored)
 

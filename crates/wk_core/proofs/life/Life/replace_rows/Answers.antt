@@ -1,4 +1,4 @@
-use Rattle.std.proofs.Common.{◌≡◌, ℕ, ◌+◌, ◌≤◌, ◌<◌, ◌×◌, true, List, [], ◌∷◌, ◌++◌, length, Some, refl, sym, ap, ◌∙◌, subst, arith}
+use Rattle.std.proofs.Common.{◌≡◌, ℕ, ◌+◌, ◌≤◌, ◌<◌, true, List, [], ◌∷◌, ◌++◌, length, Some, refl, sym, ap, ◌∙◌, subst, arith}
 use Rattle.std.specs.Prelude.{IsSome, vec_capacity}
 use Rattle.wk_row_rules.specs.PageRows.{PageRows}
 use Rattle.wk_view_rules.specs.Rows.{rows}
@@ -23,6 +23,7 @@ use Rattle.wk_core.specs.Seen.{IsTold}
 use Rattle.wk_core.proofs.HeldLives.{behind, held-as, held-done, next-as}
 use Rattle.wk_core.proofs.RefreshFacts.{claimed-there, done-changes, one-a-page, page-there}
 use Rattle.wk_core.proofs.WikiSteps.{told-fits, told-made}
+use Rattle.wk_core.proofs.life.Life.replace_rows.Given as given
 use Rattle.wk_core.proofs.life.Life.replace_rows.Goals as goal
 
 -- the facts that are required, of the life that is opened
@@ -33,6 +34,10 @@ record Asked (h : LifeHeld) (ticket page : ℕ) (new : PageRows) : Type 0 where
 asked : (h told : LifeHeld) (ticket page : ℕ) (new : PageRows) → h ≡ told → page_held_by told.life.state.jobs ticket ≡ Some page
     → new ≡ rows (world_of told.life.state) (title_at told.life.state.history page) → Asked h ticket page new
 asked h told ticket page new same holds current = subst (λ (l : LifeHeld). Asked l ticket page new) (sym same) (record { holds = holds; current = current })
+
+-- the same of rows that are equal
+shared : {h : LifeHeld} {ticket page : ℕ} {rows new : PageRows} → rows ≡ new → Asked h ticket page new → Asked h ticket page rows
+shared same facts = record { holds = facts.holds; current = same ∙ facts.current }
 
 pub refresh_change-requires-clause-there : goal.refresh_change-requires-clause-there
 refresh_change-requires-clause-there g c =
@@ -65,8 +70,8 @@ write_rows-requires-clause-fits g c =
     let facts = asked h c.args.self.now c.args.ticket c.args.page c.args.new c.self.view_is c.requires.held c.requires.rows in
     let told = subst (λ (l : LifeHeld). IsTold g.K.Keeper.told l.life.state c.args.keeper.now) (sym c.self.view_is) c.requires.told in
     let next = done_life h.life c.args.ticket c.args.page c.self.invariant.life facts.holds in
-    let makes = changes h (vec_capacity c.self.inside.entries) c.args.ticket c.args.page c.args.new c.in_ok-change.change c.jobs.result.now.lists c.self.invariant facts (ap (λ (j : HeldJobs). j.lists) c.jobs.ensures) c.in_ok-change.ensures
-        (with_entry h.life (entry.Done c.args.ticket) (with_refreshed h.life.state c.args.page)) next in
+    let makes = changes h (vec_capacity c.self.inside.entries) c.args.ticket c.args.page c.rows.result.now c.in_ok-change.change c.jobs.result.now.lists c.self.invariant (shared c.rows.ensures facts) (ap (λ (j : HeldJobs). j.lists) c.jobs.ensures) c.in_ok-change.ensures
+    (with_entry h.life (entry.Done c.args.ticket) (with_refreshed h.life.state c.args.page)) next in
     told-fits h.life.state (g.K.Keeper.told c.args.keeper.now) c.in_ok-change.change (tables_of (with_refreshed h.life.state c.args.page)) told makes
 
 pub invariant_of-self : goal.invariant_of-self
@@ -92,19 +97,19 @@ push_reserved-requires g c =
     let len = c.self.inside.entries.ok.0 in
     omega (arith, room, one, len)
 
-done : (g : goal.Over) (c : goal.After-drop-change-inside-2 g)
+done : (g : given.Over) (c : goal.After-drop-change-inside-2 g)
     → KeepsLife (behind (held c.self.inside) (c.self.inside.entries.items ++ entry.Done c.args.ticket ∷ []) c.drop_refresh.new.self.state c.drop_refresh.new.self.room c.self.inside.spare) (vec_capacity c.self.inside.entries)
     × IsNext (held c.self.inside).life (Done c.args.ticket) (with_entry (held c.self.inside).life (entry.Done c.args.ticket) c.drop_refresh.new.self.state)
 done g c =
     let facts = asked (held c.self.inside) c.args.self.now c.args.ticket c.args.page c.args.new c.self.view_is c.requires.held c.requires.rows in
     let written = c.drop_refresh.ensures.state ∙ ap (λ (s : State). let next : State = record { history = s.history; stored = s.stored; jobs = refresh_dropped s.jobs c.args.page } in next) c.in_ok-write_rows.ensures.written in
-    let rows_are = c.in_ok-new.ensures ∙ facts.current in
+    let rows_are = facts.current in
     let state : c.drop_refresh.new.self.state ≡ with_refreshed c.self.inside.live.state c.args.page =
-        written ∙ ap (λ (r : PageRows). let next : State = record {
-          history = c.self.inside.live.state.history;
-          stored = with_rows_at c.self.inside.live.state.stored c.args.page r;
-          jobs = refresh_dropped c.self.inside.live.state.jobs c.args.page;
-        } in next) rows_are in
+    written ∙ ap (λ (r : PageRows). let next : State = record {
+      history = c.self.inside.live.state.history;
+      stored = with_rows_at c.self.inside.live.state.stored c.args.page r;
+      jobs = refresh_dropped c.self.inside.live.state.jobs c.args.page;
+    } in next) rows_are in
     held-done (held c.self.inside) (vec_capacity c.self.inside.entries) c.self.invariant c.args.ticket c.args.page c.drop_refresh.new.self.state c.drop_refresh.new.self.room facts.holds state
 
 pub invariant_of-self-2 : goal.invariant_of-self-2
@@ -122,6 +127,6 @@ returns-clause-told g c =
     let h = held c.self.inside in
     let facts = asked h c.args.self.now c.args.ticket c.args.page c.args.new c.self.view_is c.requires.held c.requires.rows in
     let told = subst (λ (l : LifeHeld). IsTold g.K.Keeper.told l.life.state c.args.keeper.now) (sym c.self.view_is) c.requires.told in
-    let makes = changes h (vec_capacity c.self.inside.entries) c.args.ticket c.args.page c.args.new c.in_ok-change.change c.jobs.result.now.lists c.self.invariant facts (ap (λ (j : HeldJobs). j.lists) c.jobs.ensures) c.in_ok-change.ensures
-        (with_entry h.life (entry.Done c.args.ticket) c.drop_refresh.new.self.state) (done g c).1 in
+    let makes = changes h (vec_capacity c.self.inside.entries) c.args.ticket c.args.page c.rows.result.now c.in_ok-change.change c.jobs.result.now.lists c.self.invariant (shared c.rows.ensures facts) (ap (λ (j : HeldJobs). j.lists) c.jobs.ensures) c.in_ok-change.ensures
+    (with_entry h.life (entry.Done c.args.ticket) c.drop_refresh.new.self.state) (done g c).1 in
     told-made h.life.state (g.K.Keeper.told c.args.keeper.now) (g.K.Keeper.told c.write_rows.new.keeper) c.in_ok-change.change c.drop_refresh.new.self.state told makes c.in_ok-write_rows.ensures.keeper.tells c.in_ok-write_rows.ensures.applied
