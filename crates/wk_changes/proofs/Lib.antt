@@ -1,0 +1,8 @@
+pub mod RefreshEdits
+pub mod FanChanges
+pub mod FanEdits
+pub mod HeldJob
+pub mod OldStores
+pub mod NumberedRows
+pub mod Served
+pub mod SortedJobs

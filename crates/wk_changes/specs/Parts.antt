@@ -16,11 +16,11 @@ abbrev pub parts : Stored → HeldJobs → Held → State
 parts revs jobs index = record { history = revs.history; stored = index.stored; jobs = jobs.lists }
 
 -- A save sets or adds a fan job: the title has one, or some page's link rows name it. A page that is new has none.
-abbrev pub wants_fan : State → PageTitle → Option (List ℕ) → Bool
-wants_fan state title text =
+abbrev pub is_fan_wanted : State → PageTitle → Option (List ℕ) → Bool
+is_fan_wanted state title text =
     has_fan state.jobs title || some_page_names state.stored title (reach_of_save (page_exists state.history title) (is_some text))
 
 -- the fan job goes once its next pages are served: no page above the last of them names its title
-abbrev pub is_last : List PageRows → ℕ → FanEntry → Bool
-is_last stored most fan =
+abbrev pub are_last : List PageRows → ℕ → FanEntry → Bool
+are_last stored most fan =
     length (users stored fan.title fan.reach (cursor_behind (next_served stored most fan) fan.cursor) 1) == 0

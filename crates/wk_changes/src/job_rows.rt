@@ -1,9 +1,10 @@
 //! The rows of jobs, and the refresh jobs that pages get.
-ghost use Rattle.std.specs.Prelude.{◌≡◌, ◌+◌, ◌<◌, ◌^◌, length, map, string_bytes, IfOk};
+ghost use Rattle.std.specs.Prelude.{◌≡◌, ◌+◌, ◌<◌, ◌^◌, ◌++◌, length, map, IfOk, OnOk};
 ghost use Rattle.std.specs.List.{AllPairs};
-ghost use Rattle.wk_table_rules.specs.JobTable.{FanParams, params_text, refresh_row};
+ghost use Rattle.wk_table_rules.specs.JobTable.{params_text, reach_word, refresh_row};
 ghost use Rattle.wk_state_rules.specs.States.{title_at};
-ghost use Rattle.wk_wiki_rules.specs.TableChanges.{refreshes_edits, row_of_fan};
+ghost use Rattle.wk_job_rules.specs.Jobs.{JobLists, has_refresh, refresh_queued};
+ghost use Rattle.wk_wiki_rules.specs.TableChanges.{refresh_edits, refreshes_edits, row_of_fan};
 ghost use Rattle.wk_tables.specs.Edits.{edit_of};
 
 use std::alloc::Global;
@@ -47,14 +48,21 @@ pub fn refresh_row_at(alloc: Global, revs: &Revs, number: u64, page: u32) -> Res
     }
 }
 
+/// The word of the reach in a fan job's params.
+fn reach_word(reach: Reach) -> &'static str
+    ensures { result.now ≡ reach_word reach }
+{
+    match reach {
+        Reach::Text => "text",
+        Reach::Both => "both",
+    }
+}
+
 /// The params of a fan job's row.
 fn params_text(alloc: Global, reach: Reach, cursor: u32) -> Result<Text, Memory>
     ensures { IfOk result (λ text. text ≡ params_text (record { reach = reach; cursor = cursor })) }
 {
-    let word = match reach {
-        Reach::Text => "text",
-        Reach::Both => "both",
-    };
+    let word = reach_word(reach);
     let text = format!(in alloc; "{word}:{cursor}")?;
     Text::new(alloc, &text)
 }
@@ -74,8 +82,31 @@ pub fn row_of_fan(alloc: Global, fan: FanJob) -> Result<JobRow, Memory>
     })
 }
 
-/// The edits that add a refresh job of each of these pages, whose numbers rise, that has none. Their number is that of
-/// the pages at most.
+/// Appends the edit that adds a refresh job with this number of the page, where it has none; and the number of the next
+/// one.
+fn push_refresh(
+    alloc: Global,
+    edits: &mut Vec<RowEdit>,
+    revs: &Revs,
+    jobs: &Jobs,
+    number: u64,
+    page: u32,
+) -> Result<u64, Memory>
+    requires { number + 1 < 2 ^ 64 }
+    ensures edits { OnOk result ((lists : JobLists) → lists.next ≡ number → has_refresh lists page ≡ has_refresh jobs.now.lists page
+        → map edit_of edits.new.items ≡ map edit_of edits.old.items ++ refresh_edits lists page (title_at revs.now.history page)) }
+    ensures number { IfOk result (λ next. (lists : JobLists) → lists.next ≡ number → has_refresh lists page ≡ has_refresh jobs.now.lists page
+        → next ≡ (refresh_queued lists page).next) }
+{
+    if jobs.refresh_job(page).is_some() {
+        return Ok(number);
+    }
+    let row = refresh_row_at(alloc, revs, number, page)?;
+    edits.push(RowEdit::AddJob(row))?;
+    Ok(number + 1)
+}
+
+/// The edits that add a refresh job of each of these pages, whose numbers rise, that has none.
 pub fn refreshes_edits(
     alloc: Global,
     revs: &Revs,
@@ -90,10 +121,7 @@ pub fn refreshes_edits(
     let mut edits = Vec::new(alloc);
     let mut number = jobs.next_number();
     for page in pages {
-        if jobs.refresh_job(*page).is_none() {
-            edits.push(RowEdit::AddJob(refresh_row_at(alloc, revs, number, *page)?))?;
-            number += 1;
-        }
+        number = push_refresh(alloc, &mut edits, revs, jobs, number, *page)?;
     }
     Ok(edits)
 }

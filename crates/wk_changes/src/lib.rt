@@ -2,16 +2,19 @@
 //! rows, and the tables of all that it holds.
 #![tactic(auto)]
 
+mod all_tables;
 mod fans;
 mod job_rows;
-mod migration;
+mod links;
+mod migrations;
 mod refreshes;
 mod rows;
 mod saves;
-mod tables;
+#[cfg(test)]
+mod tests;
 
+pub use all_tables::tables;
 pub use fans::fan_change;
-pub use migration::migration;
+pub use migrations::migration;
 pub use refreshes::{refresh_change, refresh_change_without_rows};
 pub use saves::save_change;
-pub use tables::tables;

@@ -1,5 +1,5 @@
 //! The rows of revisions and pages.
-ghost use Rattle.std.specs.Prelude.{◌≡◌, ◌^◌, ◌<◌, [], length, unwrap_or, IfOk};
+ghost use Rattle.std.specs.Prelude.{◌≡◌, [], length, unwrap_or, IfOk};
 ghost use Rattle.std.specs.Option.{option_copied};
 ghost use Rattle.wk_state_rules.specs.Tables.{revision_row};
 
@@ -53,13 +53,18 @@ pub fn revision_row(
 }
 
 /// The row of the page with this number, of which this is the current revision, and this its text.
-pub fn page_row(number: u32, title: &Title, latest: u64, text: Option<&Text>) -> Result<PageRow, Memory>
+pub fn page_row(
+    number: u32,
+    title: &Title,
+    latest: u64,
+    text: Option<&Text>,
+) -> Result<PageRow, Memory>
     ensures { IfOk result (λ row. row ≡ record {
-        page_id = number;
-        page_title = title.now;
-        page_latest = latest;
-        page_len = length (unwrap_or (option_copied text.entry) []);
-      }) }
+      page_id = number;
+      page_title = title.now;
+      page_latest = latest;
+      page_len = length (unwrap_or (option_copied text.entry) []);
+    }) }
 {
     let (namespace, key) = title.share()?.into_parts();
     Ok(PageRow {

@@ -1,13 +1,14 @@
 //! The change of a save.
-ghost use Rattle.std.specs.Prelude.{◌≡◌, ℕ, ◌+◌, ◌<◌, ◌^◌, ◌++◌, ◌∷◌, ◌||◌, [], not, map, is_some, List, true, IfOk, OnOk};
+ghost use Rattle.std.specs.Prelude.{◌≡◌, ◌+◌, ◌<◌, ◌^◌, ◌++◌, ◌∷◌, ◌||◌, [], map, List, IfOk, OnOk};
 ghost use Rattle.std.specs.Option.{option_copied, option_to_list};
 ghost use Rattle.wk_row_rules.specs.PageRows.{PageRows};
+ghost use Rattle.wk_table_rules.specs.Changes.{add_revision, set_page};
 ghost use Rattle.wk_job_rules.specs.Jobs.{JobLists, has_fan, refresh_queued, wider};
 ghost use Rattle.wk_job_rules.specs.Steps.{reach_of_save};
 ghost use Rattle.wk_job_rules.specs.Users.{some_page_names};
 ghost use Rattle.wk_wiki_rules.specs.TableChanges.{fan_edits, refresh_edits, save_change, saved_page, saved_revision};
 ghost use Rattle.wk_tables.specs.Edits.{edit_of};
-ghost use Rattle.wk_changes.specs.Parts.{parts, wants_fan};
+ghost use Rattle.wk_changes.specs.Parts.{is_fan_wanted, parts};
 
 use crate::job_rows::{refresh_row, row_of_fan};
 use crate::rows::{page_row, revision_row};
@@ -49,6 +50,25 @@ fn saved_page(revs: &Revs, title: &Title, text: Option<&Text>) -> Result<PageRow
         0
     };
     page_row(page, title, latest, text)
+}
+
+/// The edits of the revision and of the page.
+fn page_edits(
+    alloc: Global,
+    revs: &Revs,
+    title: &Title,
+    text: Option<&Text>,
+    moment: u64,
+) -> Result<Vec<RowEdit>, Memory>
+    ensures { IfOk result (λ edits. map edit_of edits.items ≡ add_revision (saved_revision revs.now.history title.now (option_copied text.entry) moment)
+        ∷ set_page (saved_page revs.now.history title.now (option_copied text.entry)) ∷ []) }
+{
+    let revision = saved_revision(alloc, revs, title, text, moment)?;
+    let page = saved_page(revs, title, text)?;
+    let mut edits = Vec::with_capacity(alloc, 4)?;
+    edits.push(RowEdit::AddRevision(revision))?;
+    edits.push(RowEdit::SetPage(page))?;
+    Ok(edits)
 }
 
 /// Whether the save reaches the pages that test for the title's existence.
@@ -100,18 +120,23 @@ fn wider(a: Reach, b: Reach) -> Reach
     }
 }
 
-/// The edit that begins the title's fan job anew, or adds one with this number where it has none. One is wanted.
+/// The edit that begins the title's fan job anew, or adds one with this number where it has none; none where no fan job is
+/// wanted.
 fn fan_edit(
     alloc: Global,
     jobs: &Jobs,
     number: u64,
     title: &Title,
     reach: Reach,
-) -> Result<RowEdit, Memory>
+    is_wanted: bool,
+) -> Result<Option<RowEdit>, Memory>
     ensures { IfOk result (λ edit. (stored : List PageRows) (lists : JobLists) → lists.fans ≡ jobs.now.lists.fans → lists.next ≡ number
-        → (has_fan lists title.now || some_page_names stored title.now reach) ≡ true
-        → edit_of edit ∷ [] ≡ fan_edits stored lists title.now reach) }
+        → is_wanted ≡ (has_fan lists title.now || some_page_names stored title.now reach)
+        → map edit_of (option_to_list edit) ≡ fan_edits stored lists title.now reach) }
 {
+    if !is_wanted {
+        return Ok(None);
+    }
     match jobs.fan_job(title) {
         Some(fan) => {
             let anew = FanJob {
@@ -120,7 +145,7 @@ fn fan_edit(
                 reach: wider(fan.reach, reach),
                 cursor: 0,
             };
-            Ok(RowEdit::SetJob(row_of_fan(alloc, anew)?))
+            Ok(Some(RowEdit::SetJob(row_of_fan(alloc, anew)?)))
         }
         None => {
             let new = FanJob {
@@ -129,36 +154,22 @@ fn fan_edit(
                 reach,
                 cursor: 0,
             };
-            Ok(RowEdit::AddJob(row_of_fan(alloc, new)?))
+            Ok(Some(RowEdit::AddJob(row_of_fan(alloc, new)?)))
         }
     }
 }
 
-/// The edits of the jobs that the save of this page queues, which has this title: a refresh job of the page, and a fan
-/// job of the title where one is wanted.
-fn job_edits(
-    alloc: Global,
-    jobs: &Jobs,
-    page: u32,
-    title: &Title,
-    reach: Reach,
-    wants_fan: bool,
-) -> Result<Vec<RowEdit>, Memory>
-    requires numbers { jobs.now.lists.next < 2 ^ 63 }
-    ensures { IfOk result (λ edits. (stored : List PageRows)
-        → wants_fan ≡ (has_fan jobs.now.lists title.now || some_page_names stored title.now reach)
-        → map edit_of edits.items ≡ refresh_edits jobs.now.lists page title.now
-          ++ fan_edits stored (refresh_queued jobs.now.lists page) title.now reach) }
+/// Appends the edit, where there is one.
+fn push_some(edits: &mut Vec<RowEdit>, edit: Option<RowEdit>) -> Result<(), Memory>
+    ensures { OnOk result (map edit_of edits.new.items ≡ map edit_of edits.old.items ++ map edit_of (option_to_list edit)) }
 {
-    let mut edits = Vec::with_capacity(alloc, 2)?;
-    if let Some(edit) = refresh_edit(alloc, jobs, page, title)? {
-        edits.push(edit)?;
+    match edit {
+        Some(edit) => {
+            edits.push(edit)?;
+            Ok(())
+        }
+        None => Ok(()),
     }
-    if wants_fan {
-        let number = number_behind(jobs, page);
-        edits.push(fan_edit(alloc, jobs, number, title, reach)?)?;
-    }
-    Ok(edits)
 }
 
 /// The change of the tables that goes with a save of the title, of this text or, where there is none, of a deletion, at
@@ -176,19 +187,17 @@ pub fn save_change(
     wants_fan: bool,
 ) -> Result<Change, Memory>
     requires numbers { jobs.now.lists.next < 2 ^ 63 }
-    requires wants_fan { wants_fan ≡ wants_fan (parts revs.now jobs.now index.now) title.now (option_copied text.entry) }
+    requires wants_fan { wants_fan ≡ is_fan_wanted (parts revs.now jobs.now index.now) title.now (option_copied text) }
     ensures { IfOk result (λ change. change ≡ save_change (parts revs.now jobs.now index.now) title.now (option_copied text.entry) moment) }
 {
     let page = revs.page_to_save(title);
     let reach = reach_of_save(revs.current(title) != 0, text.is_some());
-    let queued = job_edits(alloc, jobs, page, title, reach, wants_fan)?;
-    let revision = saved_revision(alloc, revs, title, text, moment)?;
-    let row = saved_page(revs, title, text)?;
-    let mut edits = Vec::with_capacity(alloc, 4)?;
-    edits.push(RowEdit::AddRevision(revision))?;
-    edits.push(RowEdit::SetPage(row))?;
-    for edit in queued {
-        edits.push(edit)?;
-    }
+    let number = number_behind(jobs, page);
+    let mut edits = page_edits(alloc, revs, title, text, moment)?;
+    push_some(&mut edits, refresh_edit(alloc, jobs, page, title)?)?;
+    push_some(
+        &mut edits,
+        fan_edit(alloc, jobs, number, title, reach, wants_fan)?,
+    )?;
     Ok(Change { edits })
 }
