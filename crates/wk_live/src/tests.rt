@@ -1,27 +1,17 @@
-// What no clause says: that calls which may answer `Memory` answer otherwise.
+// What no clause says: that a store is loaded.
 
 use crate::Live;
 use std::alloc::Global;
 use std::test::Fail;
 use wk_bytes::Text;
-use wk_expand::{Answer, Kind};
-use wk_row_rules::Reach;
-use wk_table_rows::{JobRow, PageRow, PageRows, RevisionRow, TableRows};
+use wk_table_rows::{JobRow, PageRow, RevisionRow, TableRows};
 use wk_tables::{Tables, broken};
-use wk_title::{Title, page_named};
 
 fn text(alloc: Global, bytes: &'static str) -> Result<Text, Fail> {
     if bytes.len() < 1000 {
         Ok(Text::new(alloc, bytes)?)
     } else {
         Err(Fail::from("a long text"))
-    }
-}
-
-fn title(alloc: Global, bytes: &'static str) -> Result<Title, Fail> {
-    match page_named(alloc, bytes)? {
-        Some(title) => Ok(title),
-        None => Err(Fail::from("no title")),
     }
 }
 
@@ -91,54 +81,5 @@ fn a_store_is_loaded(rt: HostRuntime) -> Result<(), Fail> {
     let alloc = rt.alloc();
     let old = load(alloc, 1)?;
     assert_eq!(rt; old.jobs().left().queued, 1);
-    let live = load(alloc, 2)?;
-    assert_eq!(rt; live.jobs().left().queued, 0);
-    let kept = live.kept()?;
-    assert_eq!(rt; kept.pages, 1);
-    Ok(())
-}
-
-#[test]
-fn a_page_is_found(rt: HostRuntime) -> Result<(), Fail> {
-    let alloc = rt.alloc();
-    let live = load(alloc, 2)?;
-    let page = title(alloc, "P")?;
-    assert!(rt; live.wants_fan(&page, Reach::Both)?);
-    match live.fetch(&page, Kind::View)? {
-        Answer::Page(Some((revision, _))) => assert_eq!(rt; revision, 1),
-        _ => assert!(rt; false),
-    }
-    Ok(())
-}
-
-/// The pages that the first fan job serves next, and whether they are the last.
-fn served(live: &Live) -> Result<(usize, bool), Fail> {
-    match live.jobs().first_fan() {
-        Some(_) => {
-            let (pages, is_last) = live.next_served(300)?;
-            Ok((pages.len(), is_last))
-        }
-        None => Err(Fail::from("no fan job")),
-    }
-}
-
-/// Adds no rows to those of page 1.
-fn admit(alloc: Global, live: &mut Live) -> Result<(), Fail> {
-    match live.index().rows(1) {
-        Some(_) => {}
-        None => return Err(Fail::from("no page")),
-    }
-    Ok(live.admit(1, &PageRows::new(alloc))?)
-}
-
-#[test]
-fn events_are_prepared(rt: HostRuntime) -> Result<(), Fail> {
-    let alloc = rt.alloc();
-    let mut live = load(alloc, 2)?;
-    live.make_room(1)?;
-    let (count, is_last) = served(&live)?;
-    assert_eq!(rt; count, 0);
-    assert!(rt; is_last);
-    admit(alloc, &mut live)?;
     Ok(())
 }
