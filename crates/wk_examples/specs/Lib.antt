@@ -10,3 +10,4 @@ pub mod Edits
 pub mod Listings
 pub mod Scripts
 pub mod Cached
+pub mod Lived

@@ -10,6 +10,7 @@ pub mod jobs;
 pub mod laws;
 pub mod links;
 pub mod listings;
+pub mod lives;
 pub mod numerals;
 pub mod pages;
 pub mod redirects;

@@ -1,4 +1,6 @@
 pub mod RunFacts
 pub mod RunRoom
 pub mod RunTickets
+pub mod TicketsBehind
+pub mod NumbersFit
 pub mod Lives

@@ -1,8 +1,7 @@
 -- What a wiki keeps: how it begins, and what each event and a seal make of it.
-use Rattle.std.proofs.Common.{◌≡◌, Bool, ℕ, ◌+◌, true, false, eqb, List, [], ◌∷◌, ◌++◌, length, drop, Option, Some, None, refl, sym, ap, ◌∙◌, subst, arith}
+use Rattle.std.proofs.Common.{◌≡◌, Bool, ℕ, ◌+◌, true, false, eqb, List, [], ◌∷◌, ◌++◌, length, drop, Option, Some, None, refl, sym, ap, subst, arith}
 use Rattle.std.specs.Prelude.{All, option_map, if◌then◌else◌}
 use Rattle.std.specs.List.{list_any}
-use Rattle.std.proofs.lemmas.List.{length-append}
 use Rattle.std.proofs.lemmas.List.Elements.{All-from_recursion}
 use Rattle.wk_text_rules.specs.Titles.{PageTitle}
 use Rattle.wk_page_rules.specs.History.{next_revision}
@@ -21,9 +20,10 @@ use Rattle.wk_state_laws.specs.Reached.{IsWithinFull}
 use Rattle.wk_state_laws.proofs.GoodJobs.{IsKept-opened}
 use Rattle.wk_state_laws.proofs.Kept.{IsKept-none, IsKept-reopened}
 use Rattle.wk_wiki_rules.specs.Calls.{IsMade, by_save, by_claim, by_finish, by_give_back, by_fan}
-use Rattle.wk_wiki_rules.specs.Entries.{entries_from, is_save}
+use Rattle.wk_wiki_rules.specs.Entries.{is_save}
 use Rattle.wk_wiki_rules.specs.Room.{HasRoom, is_claim_refused, is_fan_refused, tickets_out}
-use Rattle.wk_wiki_rules.specs.Starts.{Start, kept_of, told_start}
+use Rattle.wk_wiki_rules.specs.Starts.{Start}
+use Rattle.wk_wiki_rules.specs.declared.Entry.{Entry}
 use Rattle.wk_wiki_rules.specs.declared.Entry.TheVariants as entry
 use Rattle.wk_wiki_laws.proofs.Room.{out-reopened}
 use Rattle.wk_wiki_laws.proofs.SealedHistory.{sealed-now}
@@ -107,6 +107,12 @@ next_life life event next is made may done =
       journal = journal;
       done = done;
     }
+
+pub next_with : (life : Life) (event : Event) (entry : Entry) (entries : List Entry) (made state : State) → IsNext life event (with_entry life entry made) → entries ≡ life.entries ++ entry ∷ [] → state ≡ made
+    → IsNext life event (record life { entries = entries; state = state })
+next_with life event entry entries made state next listed is =
+    subst (λ (s : State). IsNext life event (record life { entries = entries; state = s })) (sym is)
+    (subst (λ (es : List Entry). IsNext life event (record life { entries = es; state = made })) (sym listed) next)
 
 -- ---- each kind of event
 

@@ -1,6 +1,5 @@
 -- What holds of the start, the journal and the state that a wiki tells.
-use Rattle.std.proofs.Common.{◌≡◌, ◌≢◌, Bool, ℕ, ◌+◌, ◌≤◌, ◌^◌, true, false, ◌||◌, List, [], ◌∷◌, ◌++◌, length, take, drop, Option, Some, None, refl, sym, ap, ◌∙◌, inl, inr, subst, arith}
-use Rattle.std.specs.List.{list_any}
+use Rattle.std.proofs.Common.{◌≡◌, Bool, ℕ, ◌+◌, ◌≤◌, true, false, ◌||◌, List, [], ◌∷◌, ◌++◌, length, take, drop, Option, Some, None, sym, ap, ◌∙◌, inl, inr, subst}
 use Rattle.std.proofs.Math.Seq.{take-length}
 use Rattle.std.proofs.lemmas.Bool.{cases_Bool}
 use Rattle.std.proofs.lemmas.List.{take-append-drop}
@@ -17,12 +16,11 @@ use Rattle.wk_state_rules.specs.Tables.{state_of, tables_of}
 use Rattle.wk_state_laws.specs.Kept.{IsKept}
 use Rattle.wk_state_laws.specs.Reached.{IsWithinFull}
 use Rattle.wk_state_laws.specs.Saves.{Continues, after_saves, saves}
-use Rattle.wk_state_laws.specs.WellFormed.{IsWellFormed}
 use Rattle.wk_state_laws.proofs.HonestReads.{IsHonest-replayed}
 use Rattle.wk_state_laws.proofs.Kept.{IsGood-kept, few-pages}
 use Rattle.wk_state_laws.proofs.ReadBack.{opened-is, state-back}
 use Rattle.wk_state_laws.proofs.Saves.{continues-after_saves, history-replayed}
-use Rattle.wk_wiki_rules.specs.Calls.{IsMade, CallsMake, no_call, one_more}
+use Rattle.wk_wiki_rules.specs.Calls.{IsMade, no_call, one_more}
 use Rattle.wk_wiki_rules.specs.Entries.{KeepsSeal, is_save}
 use Rattle.wk_wiki_rules.specs.Passes.{CacheEntry}
 use Rattle.wk_wiki_rules.specs.Room.{tickets_out}
@@ -56,6 +54,15 @@ run_next start journal state next event run made may done = record {
   none_out = run.none_out;
   calls = one_more run.calls made done;
   seal = seal-next start.sealed journal event may run.seal;
+}
+
+pub run_whole : (start : Start) (journal : List Event) (state : State) (whole : Bool) → IsRun start journal state → IsRun (record start { whole = whole }) journal state
+run_whole start journal state whole run = record {
+  full = run.full;
+  kept = run.kept;
+  none_out = run.none_out;
+  calls = run.calls;
+  seal = run.seal;
 }
 
 -- ---- what follows

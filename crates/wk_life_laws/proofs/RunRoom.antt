@@ -1,8 +1,8 @@
 -- Room in the journal that a wiki tells.
-use Rattle.std.proofs.Common.{◌≡◌, Bool, ℕ, ◌+◌, ◌≤◌, ◌<◌, true, false, ◌||◌, eqb, leb, ltb, List, length, Option, Some, refl, ap₂, ap, ◌∙◌, inl, inr, arith}
+use Rattle.std.proofs.Common.{◌≡◌, Bool, ℕ, ◌+◌, ◌≤◌, ◌<◌, true, false, ◌||◌, eqb, leb, ltb, List, length, Option, Some, refl, ap₂, ap, inl, inr, arith}
 use Rattle.std.proofs.lemmas.Bool.{cases_Bool, leb-true, leb-false, ltb-true, ltb-false, or_parts}
 use Rattle.wk_text_rules.specs.Titles.{PageTitle}
-use Rattle.wk_page_rules.specs.Verdict.{EditAsked, MostHeld, Refusal, Verdict, accept, is_journal_full, journal_full, judged, max_job, no_change, refuse, with_room}
+use Rattle.wk_page_rules.specs.Verdict.{EditAsked, MostHeld, Refusal, accept, is_journal_full, journal_full, judged, max_job, no_change, refuse, with_room}
 use Rattle.wk_job_rules.specs.Jobs.{page_held_by}
 use Rattle.wk_job_rules.specs.Steps.{fan_pages}
 use Rattle.wk_state_rules.specs.States.{State}

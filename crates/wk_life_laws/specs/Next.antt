@@ -1,5 +1,5 @@
 -- How what a wiki keeps begins, and what an event and a seal make of it (own).
-use Rattle.std.specs.Prelude.{◌≡◌, ℕ, Bool, List, [], ◌∷◌, ◌++◌, length, None, Some}
+use Rattle.std.specs.Prelude.{◌≡◌, ℕ, Bool, [], ◌∷◌, ◌++◌, length, None, Some}
 use Rattle.wk_page_rules.specs.History.{next_revision}
 use Rattle.wk_page_rules.specs.Verdict.{MostHeld}
 use Rattle.wk_state_rules.specs.States.{State}

@@ -1,8 +1,8 @@
 -- What holds at all times of the start, the journal and the state that a wiki tells (own).
-use Rattle.std.specs.Prelude.{◌≡◌, ◌++◌, ◌∷◌, [], length, List, Some}
+use Rattle.std.specs.Prelude.{◌≡◌, List}
 use Rattle.wk_job_rules.specs.Steps.{fan_pages}
 use Rattle.wk_state_rules.specs.States.{State}
-use Rattle.wk_state_rules.specs.Events.{Event, step}
+use Rattle.wk_state_rules.specs.Events.{Event}
 use Rattle.wk_state_laws.specs.Kept.{IsKept}
 use Rattle.wk_state_laws.specs.Reached.{IsWithinFull}
 use Rattle.wk_wiki_rules.specs.Calls.{CallsMake}

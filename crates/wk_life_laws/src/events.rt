@@ -1,5 +1,5 @@
 //! What each event makes of what a wiki keeps.
-ghost use Rattle.std.specs.Prelude.{◌≡◌, ℕ, ◌+◌, false, true, length, List, None, Option, Some};
+ghost use Rattle.std.specs.Prelude.{◌≡◌, ◌++◌, ◌∷◌, [], ℕ, ◌+◌, false, true, length, List, None, Option, Some};
 ghost use Rattle.wk_text_rules.specs.Titles.{PageTitle};
 ghost use Rattle.wk_page_rules.specs.History.{next_revision};
 ghost use Rattle.wk_page_rules.specs.Verdict.{EditAsked, accept};
@@ -11,6 +11,7 @@ ghost use Rattle.wk_state_rules.specs.Verdicts.{verdict_in};
 ghost use Rattle.wk_wiki_rules.specs.Calls.{IsMade};
 ghost use Rattle.wk_wiki_rules.specs.Entries.{is_save};
 ghost use Rattle.wk_wiki_rules.specs.Room.{is_claim_refused, is_fan_refused};
+ghost use Rattle.wk_wiki_rules.specs.declared.Entry.{Entry};
 ghost use Rattle.wk_wiki_rules.specs.declared.Entry.TheVariants as entry;
 ghost use Rattle.wk_life_laws.specs.Lives.{Life, IsLife, journal_of};
 ghost use Rattle.wk_life_laws.specs.Next.{IsNext, with_entry, with_event};
@@ -46,4 +47,11 @@ pub fn each_event_goes_on()
         → IsLife life → length (journal_of life) ≡ point
         → is_fan_refused life.limits life.state point ≡ false → after_fan life.state.stored fan_pages life.state.jobs ≡ Some jobs
         → IsNext life Fan (with_entry life entry.Fan (with_jobs life.state jobs)) }
+{}
+
+/// The same where the entries and the state are known to be these.
+pub fn equal_parts_go_on()
+    ensures { (life : Life) (event : Event) (entry : Entry) (entries : List Entry) (made state : State)
+        → IsNext life event (with_entry life entry made) → entries ≡ life.entries ++ entry ∷ [] → state ≡ made
+        → IsNext life event (record life { entries = entries; state = state }) }
 {}

@@ -4,6 +4,7 @@
 
 pub mod begins;
 pub mod events;
+pub mod numbers;
 pub mod room;
 pub mod runs;
 pub mod saves;

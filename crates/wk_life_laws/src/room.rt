@@ -2,9 +2,10 @@
 ghost use Rattle.std.specs.Prelude.{◌≡◌, ℕ, ◌+◌, ◌≤◌, ◌<◌, ◌==◌, ◌||◌, false, true, length, List, nat_lt, Option, Some};
 ghost use Rattle.wk_text_rules.specs.Titles.{PageTitle};
 ghost use Rattle.wk_page_rules.specs.Verdict.{EditAsked, MostHeld, Refusal, accept, is_journal_full, journal_full, judged, max_job, no_change, refuse};
-ghost use Rattle.wk_job_rules.specs.Jobs.{page_held_by};
+ghost use Rattle.wk_job_rules.specs.Jobs.{JobLists, claimed_by, given_back, page_held_by};
+ghost use Rattle.wk_job_rules.specs.Steps.{after_fan};
 ghost use Rattle.wk_state_rules.specs.States.{State};
-ghost use Rattle.wk_state_rules.specs.Events.{Event};
+ghost use Rattle.wk_state_rules.specs.Events.{Event, with_jobs, with_refreshed, with_saved};
 ghost use Rattle.wk_state_rules.specs.Verdicts.{journal_use, verdict_in};
 ghost use Rattle.wk_wiki_rules.specs.Room.{is_claim_refused, is_fan_refused, tickets_out};
 ghost use Rattle.wk_wiki_rules.specs.Starts.{Start};
@@ -67,4 +68,20 @@ pub fn room_decides_on_accepted_edits()
     ensures only_so { (most : MostHeld) (state : State) (point : ℕ) (edit : EditAsked) (title : PageTitle) (text : Option (List ℕ))
         → verdict_in most state point edit ≡ accept title text
         → (judged state.history most edit ≡ accept title text) × (is_journal_full most (journal_use state point) ≡ false) }
+{}
+
+/// The tickets that are out behind each event: a claim adds at most one, a refresh that comes in takes at least one away,
+/// and a save and a fan leave them as many.
+pub fn events_change_the_tickets_that_are_out()
+    ensures saved { (state : State) (title : PageTitle) (text : Option (List ℕ)) (moment : ℕ)
+        → tickets_out (with_saved state title text moment) ≡ tickets_out state }
+    ensures claimed { (state : State) (ticket : ℕ)
+        → tickets_out (with_jobs state (claimed_by state.jobs ticket)) ≤ tickets_out state + 1 }
+    ensures done { (state : State) (ticket page : ℕ)
+        → page_held_by state.jobs ticket ≡ Some page → tickets_out (with_refreshed state page) + 1 ≤ tickets_out state }
+    ensures given_back { (state : State) (ticket page : ℕ)
+        → page_held_by state.jobs ticket ≡ Some page
+        → tickets_out (with_jobs state (given_back state.jobs page)) + 1 ≤ tickets_out state }
+    ensures fanned { (most : ℕ) (state : State) (jobs : JobLists)
+        → after_fan state.stored most state.jobs ≡ Some jobs → tickets_out (with_jobs state jobs) ≡ tickets_out state }
 {}

@@ -1,5 +1,5 @@
 //! What holds of the start, the journal and the state that a wiki tells.
-ghost use Rattle.std.specs.Prelude.{◌≡◌, ◌++◌, ◌∷◌, [], ℕ, ◌≤◌, ◌^◌, true, length, List, None, Some};
+ghost use Rattle.std.specs.Prelude.{◌≡◌, ◌++◌, ◌∷◌, [], Bool, ℕ, ◌≤◌, ◌^◌, true, length, List, None, Some};
 ghost use Rattle.wk_page_rules.specs.History.{text_of_revision};
 ghost use Rattle.wk_page_rules.specs.Verdict.{max_pages};
 ghost use Rattle.wk_table_rules.specs.GoodStore.{IsGood};
@@ -24,6 +24,12 @@ pub fn a_run_goes_on()
         → IsRun start journal state → IsMade start.limits state (length journal) event
         → (is_save event ≡ true → start.sealed ≡ None) → step state (length journal) event ≡ Some next
         → IsRun start (journal ++ event ∷ []) next }
+{}
+
+/// Whether the keeper of the tables can fail plays no part.
+pub fn a_run_is_one_with_any_keeper()
+    ensures { (start : Start) (journal : List Event) (state : State) (whole : Bool)
+        → IsRun start journal state → IsRun (record start { whole = whole }) journal state }
 {}
 
 /// The journal leads from the start to the state, which is of good form.

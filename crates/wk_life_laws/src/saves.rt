@@ -1,5 +1,5 @@
 //! The saves of what a wiki tells, and the conflicts.
-ghost use Rattle.std.specs.Prelude.{◌≡◌, ℕ, length, List};
+ghost use Rattle.std.specs.Prelude.{◌≡◌, ℕ, List};
 ghost use Rattle.wk_page_rules.specs.Verdict.{EditAsked, edit_conflict, refuse};
 ghost use Rattle.wk_state_rules.specs.States.{State};
 ghost use Rattle.wk_state_rules.specs.Events.{Event};
