@@ -1,7 +1,7 @@
 -- What a life holds behind each event.
 use Rattle.std.proofs.Common.{◌≡◌, Bool, ℕ, suc, ◌+◌, ◌-◌, ◌≤◌, true, false, cond, List, [], ◌∷◌, ◌++◌, length, map, take, drop, Option, Some, None, refl, sym, ap, ◌∙◌, subst, arith, length-append, length-drop, length-take-le}
 use Rattle.std.proofs.lemmas.List.{length-map}
-use Rattle.std.specs.Prelude.{count_by, filter_map, is_some, option_map}
+use Rattle.std.specs.Prelude.{IsSome}
 use Rattle.wk_text_rules.specs.Titles.{PageTitle}
 use Rattle.wk_page_rules.specs.History.{Revision, next_revision}
 use Rattle.wk_page_rules.specs.Verdict.{accept, max_journal}
@@ -100,8 +100,7 @@ module _ (held : LifeHeld) (capacity : ℕ) (keeps : KeepsLife held capacity) wh
       let goes_on = saved_life held.life (length (journal_of held.life)) moment accepted.edit title text keeps.life refl unsealed accepted.is in
       let next : IsNext held.life (Save title text moment) (with_entry held.life (entry.Save revision) state) = rw (is, number) goes_on in
       let same = out-step-save fan_pages held.life.state state (length (journal_of held.life)) title text moment next.done in
-      let within = keeps.room in
-      (
+      let within = keeps.room in (
         keeps-next (Save title text moment) state (entry.Save revision) room spare (ap (λ n. entry.Save n ∷ []) (sym number)) next (omega (arith, same, within, less)),
         next,
       )
@@ -147,3 +146,22 @@ module _ (held : LifeHeld) (capacity : ℕ) (keeps : KeepsLife held capacity) wh
       let same = out-step-fan fan_pages held.life.state state (length (journal_of held.life)) next.done in
       let within = keeps.room in
       (keeps-next Fan state entry.Fan room spare refl next (omega (arith, same, within, less)), next)
+
+-- ---- the same for entries and room that are told by equations
+
+pub some-is : {X : Type 0} (o : Option X) → IsSome o → (x : X) × (o ≡ Some x)
+some-is None none = absurd cc
+some-is (Some x) some = (x, refl)
+
+pub held-as : (held : LifeHeld) (entries told : List Entry) (state : State) (room : Rooms) (spare capacity other : ℕ) → told ≡ entries → other ≡ capacity
+    → KeepsLife (behind held entries state room spare) capacity → KeepsLife (behind held told state room spare) other
+held-as held entries told state room spare capacity other same_entries same keeps =
+    subst (λ k. KeepsLife (behind held told state room spare) k) (sym same)
+    (subst (λ es. KeepsLife (behind held es state room spare) capacity) (sym same_entries) keeps)
+
+pub next-as : (life seen : Life) (event : Event) (one : Entry) (told : List Entry) (state : State) → told ≡ life.entries ++ one ∷ [] → life ≡ seen → IsNext life event (with_entry life one state)
+    → IsNext seen event (record life { entries = told; state = state })
+next-as life seen event one told state same is next =
+    let here : IsNext life event (record life { entries = told; state = state }) =
+    subst (λ (es : List Entry). IsNext life event (record life { entries = es; state = state })) (sym same) next in
+    subst (λ (l : Life). IsNext l event (record life { entries = told; state = state })) is here

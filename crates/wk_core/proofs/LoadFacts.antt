@@ -1,17 +1,21 @@
 -- What holds of a life that begins.
-use Rattle.std.proofs.Common.{◌≡◌, ℕ, ◌+◌, ◌≤◌, Bool, false, cond, eqb, List, [], length, Option, Some, None, refl, sym, ap, ◌∙◌, subst, arith}
+use Rattle.std.proofs.Common.{◌≡◌, ℕ, ◌+◌, ◌≤◌, Bool, true, false, cond, eqb, ne_eqb, Result, Ok, Err, List, [], length, Option, Some, None, refl, sym, ap, ◌∙◌, subst, arith}
 use Rattle.wk_page_rules.specs.Verdict.{MostHeld, full_limits, max_journal}
 use Rattle.wk_table_rules.specs.Rows.{StoreTables, newest_version}
 use Rattle.wk_table_rules.specs.GoodStore.{IsGood}
 use Rattle.wk_job_rules.specs.Steps.{reopened_jobs}
 use Rattle.wk_state_rules.specs.States.{State}
 use Rattle.wk_state_rules.specs.Lives.{all_refreshed, opened, reopened}
-use Rattle.wk_state_rules.specs.Tables.{state_of}
+use Rattle.wk_state_rules.specs.Tables.{state_of, tables_of}
 use Rattle.wk_state_laws.specs.Reached.{IsWithinFull}
 use Rattle.wk_wiki_rules.specs.Room.{tickets_out}
 use Rattle.wk_wiki_rules.specs.Starts.{StartKept, kept_of}
 use Rattle.wk_wiki_laws.proofs.Room.{out-reopened}
-use Rattle.wk_wiki_laws.proofs.StoresOpened.{reopened-again}
+use Rattle.wk_wiki_laws.proofs.StoresOpened.{migration-makes, reopened-again}
+use Rattle.wk_wiki_rules.specs.TableChanges.{migration}
+use Rattle.wk_table_rules.specs.Changes.{TableEdit, applied, fits}
+use Rattle.wk_wiki_laws.specs.Makes.{Makes}
+use Rattle.std.specs.Prelude.{IfSome, OnOk, is_some}
 use Rattle.wk_life_laws.specs.Lives.{Life, IsLife, journal_of, start_of}
 use Rattle.wk_life_laws.specs.Next.{Begins, begun, new_start}
 use Rattle.wk_life_laws.proofs.Lives.{opened_life, reopened_life}
@@ -63,9 +67,48 @@ opened-kept tables = ap kept_of (opened-again tables)
 
 -- ---- behind a restart
 
+pub renewed-begins : (held : LifeHeld) (capacity : ℕ) → KeepsLife held capacity
+    → Begins (begun (reopened held.life.state) held.life.limits false) (new_start (reopened held.life.state) held.life.limits false)
+renewed-begins held capacity keeps =
+    let run = keeps.life.run in
+    reopened_life held.life.state held.life.limits false run.full (run_kept (start_of held.life) (journal_of held.life) held.life.state run)
+
 pub renewed-held : (held : LifeHeld) (capacity : ℕ) (room : Rooms) (more : ℕ) → KeepsLife held capacity → KeepsLife (begun-held (reopened held.life.state) held.life.limits room) more
 renewed-held held capacity room more keeps =
-    let run = keeps.life.run in
-    begins-held (reopened held.life.state) held.life.limits room more
-    (reopened_life held.life.state held.life.limits false run.full (run_kept (start_of held.life) (journal_of held.life) held.life.state run))
-    keeps.few (out-reopened held.life.state)
+    begins-held (reopened held.life.state) held.life.limits room more (renewed-begins held capacity keeps) keeps.few (out-reopened held.life.state)
+
+-- ---- a store of version 1
+
+module _ (tables : StoreTables) (good : IsGood tables) (o : Option StoreTables) where
+  pub migrated-fits : (change : List TableEdit) → IfSome o (λ kept. kept ≡ tables) → change ≡ migration tables → IfSome o (λ kept. fits kept change ≡ true)
+  migrated-fits change told is = by o told
+    where
+      by : (old : Option StoreTables) → IfSome old (λ kept. kept ≡ tables) → IfSome old (λ kept. fits kept change ≡ true)
+      by None none = tt
+      by (Some kept) same = ap (λ t. fits t change) same ∙ (ap (fits tables) is ∙ (migration-makes tables good).fitting)
+
+  pub migrated-told : {E : Type 0} (result : Result (Unit {0}) E) (new : Option StoreTables) (change : List TableEdit) → IfSome o (λ kept. kept ≡ tables) → change ≡ migration tables
+      → is_some new ≡ is_some o → OnOk result (IfSome o (λ kept. new ≡ Some (applied kept change))) → OnOk result (IfSome new (λ told. told ≡ tables_of (opened tables)))
+  migrated-told (Err e) new change told is tells made = tt
+  migrated-told (Ok x) new change told is tells made = by o new told tells made
+    where
+      by : (old now : Option StoreTables) → IfSome old (λ kept. kept ≡ tables) → is_some now ≡ is_some old → IfSome old (λ kept. now ≡ Some (applied kept change)) → IfSome now (λ t. t ≡ tables_of (opened tables))
+      by None None none same nothing = tt
+      by None (Some t) none same nothing = absurd cc
+      by (Some kept) now was same is_now =
+          let result : applied kept change ≡ tables_of (opened tables) = ap (λ t. applied t change) was ∙ (ap (applied tables) is ∙ (migration-makes tables good).result) in
+          subst (λ n. IfSome n (λ t. t ≡ tables_of (opened tables))) (sym is_now) result
+
+  -- tables of another version are those of the wiki that is opened over them
+  pub newest-told : (tables.version ≡ 1 → ⊥) → IfSome o (λ kept. kept ≡ tables) → IfSome o (λ told. told ≡ tables_of (opened tables))
+  newest-told newer told = by o told
+    where
+      same : tables ≡ tables_of (opened tables)
+      same =
+          let other : eqb tables.version 1 ≡ false = ne_eqb tables.version 1 newer in
+          let none : migration tables ≡ [] = rw other refl in
+          sym (ap (applied tables) none) ∙ (migration-makes tables good).result
+
+      by : (old : Option StoreTables) → IfSome old (λ kept. kept ≡ tables) → IfSome old (λ t. t ≡ tables_of (opened tables))
+      by None none = tt
+      by (Some kept) was = was ∙ same

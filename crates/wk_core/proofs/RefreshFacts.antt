@@ -1,9 +1,9 @@
 -- What holds of a refresh that comes in.
 use Rattle.std.proofs.Common.{◌≡◌, ℕ, zero, suc, ◌+◌, ◌-◌, ◌≤◌, ◌<◌, eqb, Bool, true, false, cond, ◌&&◌, List, [], ◌∷◌, ◌++◌, length, filter, not, Option, Some, None, refl, sym, ap, ◌∙◌, inl, inr, subst, arith}
-use Rattle.std.specs.Prelude.{slice_get, slice_set, is_some, IfSome, IsSome, bytes_eq, option_map, find, unwrap_or}
+use Rattle.std.specs.Prelude.{slice_get, slice_set, is_some, IfSome, IsSome, bytes_eq, option_map, find, map, unwrap_or}
 use Rattle.std.specs.List.{All, AllByRecursion, list_any}
-use Rattle.std.proofs.lemmas.Bool.{cases_Bool, eqb-true, or_left, or_right, and_from}
-use Rattle.std.proofs.lemmas.List.Elements.{All-from_recursion}
+use Rattle.std.proofs.lemmas.Bool.{cases_Bool, eqb-true, or_left, or_right, and_from, and_parts}
+use Rattle.std.proofs.lemmas.List.Elements.{All-from_recursion, recursion_from_All}
 use Rattle.std.proofs.lemmas.List.Folds.{list_any-append}
 use Rattle.std.proofs.lemmas.Slice.Eq.{bytes_eq-Decides}
 use Rattle.wk_text_rules.specs.Titles.{PageTitle, title_eq}
@@ -11,12 +11,14 @@ use Rattle.wk_row_rules.specs.PageRows.{Member, PageRows, no_rows}
 use Rattle.wk_view_laws.proofs.PlanLemmas.{title_eq-same}
 use Rattle.wk_view_rules.specs.Rows.{rows}
 use Rattle.wk_table_rules.specs.Changes.{TableEdit}
-use Rattle.wk_job_rules.specs.Jobs.{RefreshEntry, IsOneAPage, page_held_by, refresh_dropped}
+use Rattle.wk_job_rules.specs.Jobs.{JobLists, RefreshEntry, IsOneAPage, first_queued, has_claimed, has_refresh, is_claimed, is_queued, page_held_by, refresh_dropped}
 use Rattle.wk_job_rules.specs.Steps.{fan_pages}
-use Rattle.wk_state_rules.specs.States.{State, stored_at, title_at, world_of}
+use Rattle.wk_state_rules.specs.States.{State, page_at, stored_at, title_at, world_of}
 use Rattle.wk_state_rules.specs.Events.{Claim, Done, Back, with_jobs, with_refreshed}
 use Rattle.wk_state_rules.specs.Tables.{tables_of}
 use Rattle.wk_state_laws.specs.Kept.{IsKept}
+use Rattle.wk_state_laws.specs.WellFormed.{IsWellFormed}
+use Rattle.wk_page_rules.specs.History.{Page}
 use Rattle.wk_state_laws.proofs.Refreshed.{held-within}
 use Rattle.wk_wiki_rules.specs.TableChanges.{job_held_by, refresh_change, refresh_change_without_rows}
 use Rattle.wk_wiki_laws.specs.Makes.{Makes}
@@ -25,6 +27,7 @@ use Rattle.wk_wiki_laws.proofs.TicketsOut.{held-job}
 use Rattle.wk_life_laws.specs.Lives.{Life, IsLife, journal_of, start_of}
 use Rattle.wk_life_laws.specs.Next.{IsNext}
 use Rattle.wk_life_laws.proofs.RunFacts.{run_kept}
+use Rattle.wk_wiki_laws.proofs.TwoHalves.{new-rows}
 use Rattle.wk_listing_rules.specs.Names.{admitted, joined, member_eq, AreAmong, with_rows_at}
 
 -- ---- the old rows are among those of both
@@ -34,7 +37,7 @@ module _ {X : Type 0} (same : X → X → Bool) (reflects : (a : X) → same a a
   old-among [] all new within = tt
   old-among (x ∷ old) all new within = (
     list_any-append (same x) all (filter (λ y. not (list_any (same y) all)) new)
-    ∙ or_left (list_any (same x) all) (list_any (same x) (filter (λ y. not (list_any (same y) all)) new)) (within x (or_left (same x x) (list_any (same x) old) (reflects x))),
+        ∙ or_left (list_any (same x) all) (list_any (same x) (filter (λ y. not (list_any (same y) all)) new)) (within x (or_left (same x x) (list_any (same x) old) (reflects x))),
     old-among old all new (λ y there. within y (or_right (same y x) (list_any (same y) old) there)),
   )
 
@@ -126,6 +129,42 @@ rows-back stored page old between there = set-set-back stored (page - 1) old bet
 pub rows-new : (stored : List PageRows) (page : ℕ) (between new : PageRows) → with_rows_at (with_rows_at stored page between) page new ≡ with_rows_at stored page new
 rows-new stored page between new = set-twice stored (page - 1) between new
 
+-- what set_rows asks and gives between the halves
+abbrev rows-or-none : List PageRows → ℕ → PageRows
+rows-or-none stored page = unwrap_or (rows-at stored page) no_rows
+
+module _ (stored between-stored : List PageRows) (page : ℕ) (old added new : PageRows) (there : rows-at stored page ≡ Some old) (same : added ≡ new)
+    (between : between-stored ≡ with_rows_at stored page (admitted (rows-or-none stored page) added)) where
+  at-between : rows-at between-stored page ≡ Some (admitted (rows-or-none stored page) added)
+  at-between = ap (λ s. rows-at s page) between ∙ rows-between stored page old (admitted (rows-or-none stored page) added) there
+
+  pub between-there : IsSome (rows-at between-stored page)
+  between-there = rw at-between refl
+
+  pub between-new : AreAmong new (rows-or-none between-stored page)
+  between-new =
+      let now : rows-or-none between-stored page ≡ admitted (rows-or-none stored page) added = ap (λ o. unwrap_or o no_rows) at-between in
+      subst (λ r. AreAmong new r) (sym now) (subst (λ r. AreAmong r (admitted (rows-or-none stored page) added)) same (new-rows (rows-or-none stored page) added))
+
+  pub between-old : AreAmong old (rows-or-none between-stored page)
+  between-old =
+      let now : rows-or-none between-stored page ≡ admitted (rows-or-none stored page) added = ap (λ o. unwrap_or o no_rows) at-between in
+      let was : rows-or-none stored page ≡ old = ap (λ o. unwrap_or o no_rows) there in
+      subst (λ r. AreAmong old r) (sym now) (subst (λ r. AreAmong r (admitted (rows-or-none stored page) added)) was (old-rows (rows-or-none stored page) added))
+
+abbrev pub with-stored : State → List PageRows → State
+with-stored state stored = record state { stored = stored }
+
+pub written-rows : (start middle last : State) (page : ℕ) (between new : PageRows) → middle ≡ with-stored start (with_rows_at start.stored page between) → last ≡ with-stored middle (with_rows_at middle.stored page new)
+    → last ≡ with-stored start (with_rows_at start.stored page new)
+written-rows start middle last page between new first second =
+    second ∙ (ap (λ (s : State). with-stored s (with_rows_at s.stored page new)) first ∙ ap (with-stored start) (rows-new start.stored page between new))
+
+pub refused-rows : (start middle last : State) (page : ℕ) (between old : PageRows) → rows-at start.stored page ≡ Some old → middle ≡ with-stored start (with_rows_at start.stored page between)
+    → last ≡ with-stored middle (with_rows_at middle.stored page old) → last ≡ start
+refused-rows start middle last page between old there first second =
+    second ∙ (ap (λ (s : State). with-stored s (with_rows_at s.stored page old)) first ∙ ap (with-stored start) (rows-back start.stored page old between there))
+
 -- ---- a refresh that is done
 
 module _ (life : Life) (is : IsLife life) (ticket page : ℕ) (holds : page_held_by life.state.jobs ticket ≡ Some page) where
@@ -149,8 +188,8 @@ module _ (life : Life) (is : IsLife life) (ticket page : ℕ) (holds : page_held
   refreshed-same current =
       let there = rows-get life.state.stored page page-there.0 page-there.1 in
       let at : stored_at life.state page ≡ page-there.0 =
-          ap (λ b. cond b no_rows (unwrap_or (slice_get life.state.stored (page - 1)) no_rows)) (not-zero page page-within.0)
-          ∙ ap (λ o. unwrap_or o no_rows) there in
+      ap (λ b. cond b no_rows (unwrap_or (slice_get life.state.stored (page - 1)) no_rows)) (not-zero page page-within.0)
+      ∙ ap (λ o. unwrap_or o no_rows) there in
       let same : page-there.0 ≡ rows (world_of life.state) (title_at life.state.history page) = sym at ∙ current in
       let set = set-same life.state.stored (page - 1) (rows (world_of life.state) (title_at life.state.history page)) (there ∙ ap (λ r. Some r) same) in
       ap (λ stored. let next : State = record { history = life.state.history; stored = stored; jobs = refresh_dropped life.state.jobs page } in next) (sym set)
@@ -161,7 +200,7 @@ module _ (life : Life) (is : IsLife life) (ticket page : ℕ) (holds : page_held
   done-changes next change made is_change =
       let job = job-there in
       let same : rows (world_of life.state) (title_at life.state.history page) ≡ rows (world_of life.state) (title_at life.state.history job.0.page) =
-          ap (λ p. rows (world_of life.state) (title_at life.state.history p)) (sym job.1.1) in
+      ap (λ p. rows (world_of life.state) (title_at life.state.history p)) (sym job.1.1) in
       let changed = is_change job.0 job.1.0 job.1.1 ∙ ap (refresh_change job.0) same in
       subst (λ c. Makes (tables_of life.state) c (tables_of next.state)) (sym changed)
       (refresh-step fan_pages life.state next.state (length (journal_of life)) ticket job.0 kept-now job.1.0 made.done)
@@ -173,7 +212,7 @@ module _ (life : Life) (is : IsLife life) (ticket page : ℕ) (holds : page_held
   done-changes-job next change made is_change current =
       let job = job-there in
       let stored : stored_at life.state job.0.page ≡ rows (world_of life.state) (title_at life.state.history job.0.page) =
-          subst (λ p. stored_at life.state p ≡ rows (world_of life.state) (title_at life.state.history p)) (sym job.1.1) current in
+      subst (λ p. stored_at life.state p ≡ rows (world_of life.state) (title_at life.state.history p)) (sym job.1.1) current in
       subst (λ c. Makes (tables_of life.state) c (tables_of next.state)) (sym (is_change job.0 job.1.0 job.1.1))
       (refresh-step-same fan_pages life.state next.state (length (journal_of life)) ticket job.0 kept-now job.1.0 made.done stored)
 
@@ -183,3 +222,39 @@ module _ (life : Life) (is : IsLife life) (ticket page : ℕ) (holds : page_held
 -- a claim changes no table
 pub claim-tables : (life next : Life) → IsNext life Claim next → tables_of next.state ≡ tables_of life.state
 claim-tables life next made = claim-step fan_pages life.state next.state (length (journal_of life)) made.done
+
+-- ---- the page of a job
+
+any-first : (p q : RefreshEntry → Bool) (jobs : List RefreshEntry) → list_any (λ job. p job && q job) jobs ≡ true → list_any p jobs ≡ true
+any-first p q [] there = there
+any-first p q (job ∷ jobs) there = elim (cases_Bool (p job && q job)) [
+  | inl both ↦ or_left (p job) (list_any p jobs) (and_parts (p job) (q job) both).0
+  | inr not_both ↦ or_right (p job) (list_any p jobs) (any-first p q jobs (rw not_both at there))
+]
+
+pub claimed-there : (lists : JobLists) (page : ℕ) → has_claimed lists page ≡ true → has_refresh lists page ≡ true
+claimed-there lists page claimed = any-first (λ (job : RefreshEntry). eqb job.page page) is_claimed lists.refreshes claimed
+
+found-page : (P : ℕ → Type 0) (p : RefreshEntry → Bool) (jobs : List RefreshEntry) (job : RefreshEntry) → find p jobs ≡ Some job → AllByRecursion P (map (λ (j : RefreshEntry). j.page) jobs) → P job.page
+found-page P p [] job none all = absurd (let e : None ≡ Some job = none in cc)
+found-page P p (j ∷ jobs) job found all = elim (cases_Bool (p j)) [
+  | inl fits ↦ let same : Some j ≡ Some job = rw fits at found in let here : j ≡ job = cc in subst (λ (x : RefreshEntry). P x.page) here all.0
+  | inr fails ↦ found-page P p jobs job (rw fails at found) all.1
+]
+
+-- the page of the first queued job is there
+pub first-page : (life : Life) → IsLife life → (page : ℕ) → first_queued life.state.jobs ≡ Some page → (at : Page) × (page_at life.state.history page ≡ Some at)
+first-page life is page first = by (find is_queued life.state.jobs.refreshes) refl first
+  where
+    formed : IsWellFormed life.state
+    formed = (run_kept (start_of life) (journal_of life) life.state is.run).formed
+
+    by : (o : Option RefreshEntry) → find is_queued life.state.jobs.refreshes ≡ o → option_map (λ (job : RefreshEntry). job.page) o ≡ Some page → (at : Page) × (page_at life.state.history page ≡ Some at)
+    by None none is_page = absurd (let e : None ≡ Some page = is_page in cc)
+    by (Some job) found is_page =
+        let same : job.page ≡ page = (let e : Some job.page ≡ Some page = is_page in cc) in
+        let within = found-page (λ p. (1 ≤ p) × (p ≤ length life.state.history.pages)) is_queued life.state.jobs.refreshes job found (recursion_from_All (λ p. (1 ≤ p) × (p ≤ length life.state.history.pages)) (map (λ (j : RefreshEntry). j.page) life.state.jobs.refreshes) formed.jobs) in
+        let some = within.0 in
+        let few = within.1 in
+        let at = get-there life.state.history.pages (page - 1) (omega (arith, some, few, same)) in
+        (at.0, ap (λ b. cond b None (slice_get life.state.history.pages (page - 1))) (not-zero page (omega (arith, some, same))) ∙ at.1)

@@ -102,11 +102,11 @@ module _ {K : Type 0} (told : K → Option StoreTables) (faults : K → ℕ) (is
 -- ---- entries and seals
 
 -- the entries are those of the journal
-pub entries-are : {K : Type 0} (is_whole : K → Bool) (held : LifeHeld) (capacity : ℕ) (keeper : K) → KeepsLife held capacity → held.life.entries ≡ entries_seen (seen is_whole held.life keeper)
-entries-are is_whole held capacity keeper keeps =
-    let taken = length-take-le held.life.kept.revisions held.life.state.history.revisions keeps.life.revisions in
-    let number : held.life.kept.revisions + 1 ≡ next_revision (start_of held.life).state.history = omega (arith, taken) in
-    keeps.named ∙ ap (λ n. entries_from n (journal_of held.life)) number
+pub entries-are : {K : Type 0} (is_whole : K → Bool) (life : Life) (keeper : K) → IsLife life → life.entries ≡ entries_from (life.kept.revisions + 1) (journal_of life) → life.entries ≡ entries_seen (seen is_whole life keeper)
+entries-are is_whole life keeper is named =
+    let taken = length-take-le life.kept.revisions life.state.history.revisions is.revisions in
+    let number : life.kept.revisions + 1 ≡ next_revision (start_of life).state.history = omega (arith, taken) in
+    named ∙ ap (λ n. entries_from n (journal_of life)) number
 
 pub sealed-held : (held : LifeHeld) (capacity point : ℕ) → KeepsLife held capacity → length (journal_of held.life) ≡ point → KeepsLife (record held { life = with_seal held.life point }) capacity
 sealed-held held capacity point keeps at = record {

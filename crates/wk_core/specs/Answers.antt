@@ -1,6 +1,7 @@
 -- What the wiki's calls answer, as the rules have it.
-use Rattle.std.specs.Prelude.{◌≡◌, ℕ, Option, Some, None}
-use Rattle.wk_wiki_rules.specs.SaveOutcomes.{SaveOutcome, created, changed, unchanged}
+use Rattle.std.specs.Prelude.{◌≡◌, ℕ, ◌==◌, Option, Some, None, if◌then◌else◌}
+use Rattle.wk_text_rules.specs.Titles.{PageTitle}
+use Rattle.wk_wiki_rules.specs.SaveOutcomes.{SaveNumbers, SaveOutcome, created, changed, unchanged}
 use Rattle.wk_wiki_rules.specs.Fans.{FanOutcome}
 use Rattle.wk_wiki_rules.specs.Staleness.{StaleRead}
 use Rattle.wk_state_rules.specs.Events as event
@@ -19,6 +20,10 @@ abbrev pub saved_outcome : Saved → SaveOutcome
 saved_outcome (New title page old new) = created title (record { page = page; old = old; new = new })
 saved_outcome (Changed title page old new) = changed title (record { page = page; old = old; new = new })
 saved_outcome (NoChange title page) = unchanged title page
+
+-- the numbers of a save of a page that was missing are those of a new page
+abbrev pub told_of_save : PageTitle → SaveNumbers → SaveOutcome
+told_of_save title numbers = if numbers.old == 0 then created title numbers else changed title numbers
 
 abbrev pub fanned_outcome : Fanned → FanOutcome
 fanned_outcome fanned = record { title = fanned.title; served = fanned.served; queued = fanned.queued }

@@ -8,10 +8,10 @@ use Rattle.wk_core.specs.declared.outcomes.LoadCause.{LoadCause}
 use Rattle.wk_core.specs.declared.outcomes.LoadCause.TheVariants as cause
 
 -- the journal is empty, the state is its start, in which each job waits, and it isn't sealed
-pub record HasOpened {K : Type 0} (wiki : WikiSeen K) (limits : MostHeld) : Type 0 where
+pub record HasOpened {K : Type 0} (wiki : WikiSeen K) (most : MostHeld) : Type 0 where
   pub journal : wiki.journal ≡ []
   pub start : wiki.start.state ≡ wiki.state
-  pub limits : wiki.start.limits ≡ limits
+  pub limits : wiki.start.limits ≡ most
   pub unsealed : wiki.start.sealed ≡ None
   pub queued : reopened wiki.state ≡ wiki.state
 

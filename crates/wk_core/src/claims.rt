@@ -95,6 +95,7 @@ impl<K: Keeper> Wiki<K> {
         ensures event { HasMade self.old self.new (Back ticket.ticket) }
         ensures keeper { self.new.keeper ≡ self.old.keeper }
     {
+        self.life.facts();
         self.life.give_back(ticket.spend());
     }
 }

@@ -115,6 +115,7 @@ fn serve_first<K: Keeper>(keeper: &mut K, life: &mut Life) -> Result<Fanned, Fan
     ensures fault { result ≡ Err FanRefusal.StoreFault → Rose (K.faults keeper.old) (K.faults keeper.new) }
     ensures no_fault { OnOk result (K.faults keeper.new ≡ K.faults keeper.old) }
 {
+    life.facts();
     let Ok(prepared) = life.prepare_fan() else {
         return Err(FanRefusal::Memory);
     };

@@ -11,11 +11,16 @@ use wk_title::Title;
 use wk_wiki_rules::Entry;
 
 impl Life {
+    ghost use Rattle.std.specs.Prelude.{◌+◌};
+    ghost use Rattle.wk_wiki_rules.specs.Entries.{entries_from};
+    ghost use Rattle.wk_life_laws.specs.Lives.{journal_of};
     ghost use Rattle.wk_core.specs.Entries.{entry_at};
 
     /// The entry with this number, from 1; `None` exactly where there is none. Takes no memory.
     pub fn entry(&self, number: u64) -> Option<Entry>
-        ensures { result ≡ entry_at self.now.life.entries number }
+        ensures value { result ≡ entry_at self.now.life.entries number }
+        // The entries name the revisions in their order.
+        ensures named { self.now.life.entries ≡ entries_from (self.now.life.kept.revisions + 1) (journal_of self.now.life) }
     {
         if number == 0 || (self.entries.len() as u64) < number {
             return None;
@@ -58,6 +63,7 @@ impl<K: Keeper> Wiki<K> {
     pub fn event(&self, number: u64) -> Option<Entry>
         ensures { result ≡ entry_at (entries_seen self.now) number }
     {
+        self.life.facts();
         self.life.entry(number)
     }
 }

@@ -59,6 +59,37 @@ fn migrate<K: Keeper>(alloc: Global, keeper: &mut K, tables: &Tables) -> Result<
     Ok(())
 }
 
+/// Opens these tables of a keeper, where they are good.
+fn open_tables<K: Keeper>(
+    alloc: Global,
+    keeper: &mut K,
+    tables: &Tables,
+    limits: Limits,
+) -> Result<Life, LoadCause>
+    requires within { AreWithinFull (most_held limits) }
+    requires given { IfSome (K.told keeper.old) (λ kept. kept ≡ tables.now.tables) }
+    ensures opened { IfOk result (λ life. Begins life.life (new_start life.life.state (most_held limits) false)) }
+    ensures queued { IfOk result (λ life. reopened life.life.state ≡ life.life.state) }
+    ensures good { IfOk result (λ life. IsGood tables.now.tables) }
+    ensures state { IfOk result (λ life. life.life.state ≡ opened tables.now.tables) }
+    ensures told { IfOk result (λ life. IsTold K.told life.life.state keeper.new) }
+    ensures bad { IfErr result (λ cause. IfSome (bad_store_of cause) (λ bad. first_broken tables.now.tables ≡ Some bad)) }
+    ensures refused { OnErr result (K.told keeper.new ≡ K.told keeper.old) }
+    ensures keeper { KeeperGoesOn K.told K.faults K.is_whole keeper.old keeper.new }
+    ensures no_fault { OnOk result (K.faults keeper.new ≡ K.faults keeper.old) }
+    ensures fault { result ≡ Err LoadCause.StoreFault → Rose (K.faults keeper.old) (K.faults keeper.new) }
+{
+    match broken(alloc, tables)? {
+        Some(bad) => return Err(LoadCause::BadStore(bad)),
+        None => {}
+    }
+    let life = Life::begin(alloc, tables, limits)?;
+    match migrate(alloc, keeper, tables) {
+        Ok(()) => Ok(life),
+        Err(refusal) => Err(LoadCause::from(refusal)),
+    }
+}
+
 /// Opens the keeper's tables.
 fn open_life<K: Keeper>(alloc: Global, keeper: &mut K, limits: Limits) -> Result<Life, LoadCause>
     requires within { AreWithinFull (most_held limits) }
@@ -72,14 +103,10 @@ fn open_life<K: Keeper>(alloc: Global, keeper: &mut K, limits: Limits) -> Result
     ensures no_fault { OnOk result (K.faults keeper.new ≡ K.faults keeper.old) }
     ensures fault { result ≡ Err LoadCause.StoreFault → Rose (K.faults keeper.old) (K.faults keeper.new) }
 {
-    let tables = keeper.load()?;
-    match broken(alloc, &tables)? {
-        Some(bad) => return Err(LoadCause::BadStore(bad)),
-        None => {}
+    match keeper.load() {
+        Ok(tables) => open_tables(alloc, keeper, &tables, limits),
+        Err(refusal) => Err(LoadCause::from(refusal)),
     }
-    let life = Life::begin(alloc, &tables, limits)?;
-    migrate(alloc, keeper, &tables)?;
-    Ok(life)
 }
 
 impl<K: Keeper> Wiki<K> {

@@ -4,7 +4,8 @@ ghost use Rattle.std.specs.Option.{option_map};
 ghost use Rattle.wk_base.specs.Faults.{Rose};
 ghost use Rattle.wk_table_rules.specs.Changes.{applied, fits};
 ghost use Rattle.wk_view_rules.specs.Rows.{rows};
-ghost use Rattle.wk_view_rules.specs.Worlds.{Agrees, of_world};
+ghost use Rattle.wk_page_rules.specs.History.{text_of_revision};
+ghost use Rattle.wk_view_rules.specs.Worlds.{Agrees, IsHonest, of_world};
 ghost use Rattle.wk_job_rules.specs.Jobs.{page_held_by};
 ghost use Rattle.wk_state_rules.specs.States.{stored_at, title_at, world_of};
 ghost use Rattle.wk_state_rules.specs.Events.{Done};
@@ -112,10 +113,10 @@ impl Life {
         keeper: &mut K,
         ticket: u64,
         page: u32,
-        rows: PageRows,
+        new: SharedRows,
     ) -> Result<(), KeeperRefusal>
         requires held { page_held_by self.old.life.state.jobs ticket ≡ Some page }
-        requires rows { rows ≡ rows (world_of self.old.life.state) (title_at self.old.life.state.history page) }
+        requires rows { new ≡ rows (world_of self.old.life.state) (title_at self.old.life.state.history page) }
         requires told { IsTold K.told self.old.life.state keeper.old }
         ensures done { OnOk result (IsNext self.old.life (Done ticket) self.new.life) }
         ensures refused { OnErr result (self.new.life ≡ self.old.life) }
@@ -126,8 +127,7 @@ impl Life {
         ensures fault { result ≡ Err KeeperRefusal.Failed → Rose (K.faults keeper.old) (K.faults keeper.new) }
     {
         let alloc = *self.entries.allocator();
-        let change = refresh_change(alloc, self.live.jobs(), page, &rows)?;
-        let new = SharedRows::new(rows)?;
+        let change = refresh_change(alloc, self.live.jobs(), page, new.rows())?;
         let old = stored_rows(&self.live, page)?;
         write_rows(keeper, &mut self.live, page, old, new, &change)?;
         self.live.drop_refresh(page);
@@ -169,15 +169,16 @@ fn store_rows<K: Keeper>(
     ensures no_fault { OnOk result (K.faults keeper.new ≡ K.faults keeper.old) }
     ensures fault { result ≡ Err KeeperRefusal.Failed → Rose (K.faults keeper.old) (K.faults keeper.new) }
 {
+    life.facts();
     let alloc = life.allocator();
-    let rows = rows(alloc, draft)?;
-    if is_stored(life.live(), page, &rows) {
+    let new = SharedRows::new(rows(alloc, draft)?)?;
+    if is_stored(life.live(), page, new.rows()) {
         let change = refresh_change_without_rows(alloc, life.live().jobs(), page)?;
         keeper.apply(&change)?;
         life.drop_job(ticket, page);
         return Ok(());
     }
-    life.replace_rows(keeper, ticket, page, rows)
+    life.replace_rows(keeper, ticket, page, new)
 }
 
 /// Finishes a refresh each of whose reads is current. Where the store refuses, or memory runs out, its job is queued
@@ -200,6 +201,7 @@ fn finish_current<K: Keeper>(
     ensures no_fault { result ≡ Finished.Done → K.faults keeper.new ≡ K.faults keeper.old }
     ensures not_stale { told_stale result ≡ None }
 {
+    life.facts();
     let Some(page) = life.live().jobs().page_held(ticket) else {
         unreachable!()
     };
@@ -220,6 +222,28 @@ fn refused_answer(refusal: KeeperRefusal) -> Finished
         KeeperRefusal::Failed => Finished::StoreFault,
         KeeperRefusal::Memory => Finished::Memory,
     }
+}
+
+/// Finishes a refresh: sets its page's rows where each read is current, and else queues its job again.
+fn finish_by<K: Keeper>(keeper: &mut K, life: &mut Life, ticket: u64, draft: &Draft) -> Finished
+    requires held { (page : ℕ) × (page_held_by life.old.life.state.jobs ticket ≡ Some page) × (title_at life.old.life.state.history page ≡ draft.now.page) }
+    requires own_text { draft.now.given ≡ None }
+    requires honest { IsHonest (text_of_revision life.old.life.state.history) draft.now.reads }
+    requires told { IsTold K.told life.old.life.state keeper.old }
+    ensures next { IsNext life.old.life (event_of_answer ticket result) life.new.life }
+    ensures told { IsTold K.told life.new.life.state keeper.new }
+    ensures stale { result ≢ Finished.Memory → told_stale result ≡ first_stale (world_of life.old.life.state) draft.now.reads }
+    ensures kept { result ≢ Finished.Done → K.told keeper.new ≡ K.told keeper.old }
+    ensures keeper { KeeperGoesOn K.told K.faults K.is_whole keeper.old keeper.new }
+    ensures fault { result ≡ Finished.StoreFault → Rose (K.faults keeper.old) (K.faults keeper.new) }
+    ensures no_fault { result ≡ Finished.Done → K.faults keeper.new ≡ K.faults keeper.old }
+{
+    life.facts();
+    let Some(answer) = stale_answer(life.live(), draft.reads()) else {
+        return finish_current(keeper, life, ticket, draft);
+    };
+    life.give_back(ticket);
+    answer
 }
 
 impl<K: Keeper> Wiki<K> {
@@ -243,11 +267,6 @@ impl<K: Keeper> Wiki<K> {
         ensures fault { result ≡ Finished.StoreFault → Rose (K.faults self.old.keeper) (K.faults self.new.keeper) }
         ensures no_fault { result ≡ Finished.Done → K.faults self.new.keeper ≡ K.faults self.old.keeper }
     {
-        let number = ticket.spend();
-        let Some(answer) = stale_answer(self.life.live(), draft.reads()) else {
-            return finish_current(&mut self.keeper, &mut self.life, number, &draft);
-        };
-        self.life.give_back(number);
-        answer
+        finish_by(&mut self.keeper, &mut self.life, ticket.spend(), &draft)
     }
 }

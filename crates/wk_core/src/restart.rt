@@ -28,6 +28,7 @@ impl Life {
         ensures renewed { OnOk result (Begins self.new.life (new_start (reopened self.old.life.state) self.old.life.limits self.old.life.whole)) }
         ensures state { OnOk result (self.new.life.state ≡ reopened self.old.life.state) }
         ensures refused { OnErr result (self.new ≡ self.old) }
+        ensures tables { tables_of self.new.life.state ≡ tables_of self.old.life.state }
     {
         let kept = self.live.kept()?;
         self.live.reopen();

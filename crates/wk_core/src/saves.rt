@@ -15,7 +15,7 @@ ghost use Rattle.wk_live.specs.Wanted.{fan_of_save};
 ghost use Rattle.wk_life_laws.specs.Lives.{journal_of};
 ghost use Rattle.wk_life_laws.specs.Next.{IsNext};
 ghost use Rattle.wk_core.specs.Accepted.{IsAccepted};
-ghost use Rattle.wk_core.specs.Answers.{saved_outcome};
+ghost use Rattle.wk_core.specs.Answers.{saved_outcome, told_of_save};
 ghost use Rattle.wk_core.specs.Seen.{IsTold, seen, verdict_now};
 ghost use Rattle.wk_core.specs.Steps.{GoesOn, HasMade, HasMadeAtMost, HasMadeNothing};
 
@@ -79,7 +79,7 @@ impl Life {
         text: Option<&Text>,
         moment: u64,
     ) -> Result<Prepared, Memory>
-        requires accepted { IsAccepted self.old.life title.now (option_copied text.entry) }
+        requires accepted { IsAccepted self.old.life title.now (option_copied text) }
         ensures change { IfOk result (λ p. p.change ≡ save_change self.old.life.state title.now (option_copied text.entry) moment) }
         ensures told { IfOk result (λ p. p.told ≡ title.now) }
         ensures fan { IfOk result (λ p. p.fan ≡ fan_of_save self.old.life.state title.now (option_copied text.entry)) }
@@ -135,6 +135,7 @@ fn save_accepted<K: Keeper>(
     ensures fault { result ≡ Err SaveRefusal.StoreFault → Rose (K.faults keeper.old) (K.faults keeper.new) }
     ensures no_fault { OnOk result (K.faults keeper.new ≡ K.faults keeper.old) }
 {
+    life.facts();
     let Ok(prepared) = life.prepare_save(&title, text.as_ref(), moment) else {
         return Err(SaveRefusal::Memory);
     };
@@ -151,7 +152,9 @@ fn save_accepted<K: Keeper>(
 }
 
 /// What is told of a save. Takes no memory.
-fn saved(title: Title, page: u32, old: u64, new: u64) -> Saved {
+fn saved(title: Title, page: u32, old: u64, new: u64) -> Saved
+    ensures { saved_outcome result ≡ told_of_save title (record { page = page; old = old; new = new }) }
+{
     if old == 0 {
         Saved::New {
             title,
