@@ -4,3 +4,4 @@ pub mod LoadFacts
 pub mod RefreshFacts
 pub mod SaveFacts
 pub mod WikiSteps
+pub mod TicketFacts

@@ -72,6 +72,7 @@ impl<K: Keeper> Wiki<K> {
     pub fn claim(&mut self) -> Result<Option<Ticket>, ClaimRefusal>
         ensures claimed { IfOk result (λ ticket. ticket ≡ claim_outcome self.old.state (length self.old.journal)) }
         ensures event { IfOk result (λ ticket. IfSome ticket (λ _. HasMade self.old self.new Claim)) }
+        ensures out { IfOk result (λ ticket. IfSome ticket (λ out. IsOut self.new.state out)) }
         ensures none { IfOk result (λ ticket. IfNone ticket (self.new ≡ self.old)) }
         ensures room { IfOk result (λ ticket. IfSome ticket (λ _. is_claim_refused_now self.old ≡ false)) }
         ensures full { result ≡ Err ClaimRefusal.JournalFull → IsSome (first_queued self.old.state.jobs) × (is_claim_refused_now self.old ≡ true) }
@@ -85,6 +86,7 @@ impl<K: Keeper> Wiki<K> {
             return Err(ClaimRefusal::JournalFull);
         }
         self.life.make_room(2)?;
+        self.life.facts();
         let number = self.life.claim();
         Ok(Some(Ticket::new(number, title)))
     }

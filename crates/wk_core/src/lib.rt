@@ -4,6 +4,7 @@
 mod claims;
 mod fans;
 mod fetches;
+mod laws;
 mod life;
 mod listings;
 mod load;
@@ -15,6 +16,7 @@ mod storied;
 mod ticket;
 mod wiki;
 
+pub use laws::{a_draft_stays_fit, a_ticket_stays_out};
 pub use outcomes::{
     ClaimRefusal, FanRefusal, Fanned, Finished, LoadCause, LoadRefusal, PageRead, ReadRefusal,
     Saved,

@@ -44,8 +44,8 @@ apply-requires g c =
     let life = c.args.life.now.life in
     let same = ap (λ (j : HeldJobs). j.lists) c.jobs.ensures ∙ ap (λ (s : HeldState). s.state.jobs) c.live-then-is_stored.ensures in
     let current : stored_at life.state c.args.page ≡ rows (world_of life.state) (title_at life.state.history c.args.page) =
-        ap (λ (s : HeldState). stored_at s.state c.args.page) (sym c.live.ensures)
-        ∙ (c.is_stored.ensures c.if-is_stored.true ∙ (c.rows-2.ensures ∙ (c.in_ok-new.ensures ∙ (c.in_ok-rows.ensures.worlds (world_of life.state) c.requires.current ∙ ap (rows (world_of life.state)) c.requires.page)))) in
+    ap (λ (s : HeldState). stored_at s.state c.args.page) (sym c.live.ensures)
+    ∙ (c.is_stored.ensures c.if-is_stored.true ∙ (c.rows-2.ensures ∙ (c.in_ok-new.ensures ∙ (c.in_ok-rows.ensures.worlds (world_of life.state) c.requires.current ∙ ap (rows (world_of life.state)) c.requires.page)))) in
     let next = done_life life c.args.ticket c.args.page c.facts.ensures c.requires.held in
     let makes = changes life c.args.ticket c.args.page c.in_ok-change.change c.jobs.result.now.lists c.facts.ensures c.requires.held same c.in_ok-change.ensures current
     (with_entry life (entry.Done c.args.ticket) (with_refreshed life.state c.args.page)) next in
@@ -56,7 +56,7 @@ returns-then-is_stored-clause-told g c =
     let life = c.args.life.now.life in
     let same = ap (λ (j : HeldJobs). j.lists) c.jobs.ensures ∙ ap (λ (s : HeldState). s.state.jobs) c.live-then-is_stored.ensures in
     let current : stored_at life.state c.args.page ≡ rows (world_of life.state) (title_at life.state.history c.args.page) =
-        ap (λ (s : HeldState). stored_at s.state c.args.page) (sym c.live.ensures)
-        ∙ (c.is_stored.ensures c.if-is_stored.true ∙ (c.rows-2.ensures ∙ (c.in_ok-new.ensures ∙ (c.in_ok-rows.ensures.worlds (world_of life.state) c.requires.current ∙ ap (rows (world_of life.state)) c.requires.page)))) in
+    ap (λ (s : HeldState). stored_at s.state c.args.page) (sym c.live.ensures)
+    ∙ (c.is_stored.ensures c.if-is_stored.true ∙ (c.rows-2.ensures ∙ (c.in_ok-new.ensures ∙ (c.in_ok-rows.ensures.worlds (world_of life.state) c.requires.current ∙ ap (rows (world_of life.state)) c.requires.page)))) in
     let makes = changes life c.args.ticket c.args.page c.in_ok-change.change c.jobs.result.now.lists c.facts.ensures c.requires.held same c.in_ok-change.ensures current c.drop_job.new.self.life c.drop_job.ensures in
     told-made life.state (g.K.Keeper.told c.args.keeper.now) (g.K.Keeper.told c.apply.new.self) c.in_ok-change.change c.drop_job.new.self.life.state c.requires.told makes c.in_ok-apply.ensures.tells c.in_ok-apply.ensures.made

@@ -34,5 +34,5 @@ tables-requires-clause-numbered c =
 pub returns : goal.returns
 returns c =
     let same : tables_of (parts c.revs-revs.result.now c.jobs-jobs.result.now c.index-index.result.now) ≡ tables_of c.self.inside.live.state =
-        λ i. tables_of (parts (c.revs-revs.ensures i) (c.jobs-jobs.ensures i) (c.index-index.ensures i)) in
+    λ i. tables_of (parts (c.revs-revs.ensures i) (c.jobs-jobs.ensures i) (c.index-index.ensures i)) in
     subst (λ (t : StoreTables). IfOk c.tables.result (λ tables. tables.tables ≡ t)) (same ∙ ap (λ (h : LifeHeld). tables_of h.life.state) c.self.view_is) c.tables.ensures
