@@ -1,0 +1,2 @@
+mod JobCounts
+mod Shown

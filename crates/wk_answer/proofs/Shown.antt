@@ -1,0 +1,27 @@
+-- A draft of the present world shows what the rules show of the page.
+use Rattle.std.proofs.Common.{◌≡◌, ℕ, List, Option, Some, None, refl, sym, ap, ◌∙◌}
+use Rattle.wk_text_rules.specs.Marked.{text_of}
+use Rattle.wk_text_rules.specs.Titles.{PageTitle}
+use Rattle.wk_page_rules.specs.History.{current_revision}
+use Rattle.wk_row_rules.specs.PageRows.{PageRows}
+use Rattle.wk_view_rules.specs.Plans.{Outcome}
+use Rattle.wk_view_rules.specs.Rows.{rows}
+use Rattle.wk_view_rules.specs.Views.{Expanded}
+use Rattle.wk_view_rules.specs.Worlds.{Agrees, World, of_world}
+use Rattle.wk_state_rules.specs.States.{State, world_of}
+use Rattle.wk_wiki_rules.specs.Passes.{drafted_in, shown_number}
+use Rattle.wk_answer_rules.specs.Pages.{PageShown, page_shown, text_shown}
+use Rattle.wk_expand.specs.Drafts.{DraftShown}
+use Rattle.wk_present.specs.Drafted.{IsPresent}
+
+pub text-shown : (pages : World) (title : PageTitle) (given : Option (List ℕ)) (d : DraftShown) → IsPresent pages title given d → text_of d.expanded.out ≡ text_shown (drafted_in pages title given)
+text-shown pages title given d present = sym (ap text_shown present.drafted)
+
+pub page-shown : (state : State) (title : PageTitle) (number revision : ℕ) (text : List ℕ) (found : PageRows) (d : DraftShown) → IsPresent (world_of state) title None d
+    → number ≡ shown_number state.history title → revision ≡ current_revision state.history title → text ≡ text_of d.expanded.out
+    → ((pages : World) → Agrees (of_world pages) d.reads → found ≡ rows pages d.page)
+    → record { title = title; number = number; revision = revision; text = text; rows = found } ≡ page_shown state title
+page-shown state title number revision text found d present of_number of_revision of_text of_rows =
+    let texts : text ≡ text_shown (drafted_in (world_of state) title None) = of_text ∙ text-shown (world_of state) title None d present in
+    let all : found ≡ rows (world_of state) title = of_rows (world_of state) present.answered ∙ ap (rows (world_of state)) present.page_is in
+    λ i. record { title = title; number = of_number i; revision = of_revision i; text = texts i; rows = all i }

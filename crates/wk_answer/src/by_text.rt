@@ -1,0 +1,140 @@
+//! What is told of a page and of a given text (MediaWiki's API:Parsing wikitext and API:Expandtemplates).
+ghost use Rattle.std.specs.Prelude.{◌≡◌, IfOk};
+ghost use Rattle.serde_json.specs.View.{view};
+ghost use Rattle.wk_page_rules.specs.Verdict.{real_title};
+ghost use Rattle.wk_wiki_rules.specs.Passes.{shown_number};
+ghost use Rattle.wk_answer_rules.specs.ApiErrors.{contenttoobig};
+ghost use Rattle.wk_answer_rules.specs.Pages.{expand_answer, expanded_in, fails, page_shown, parse_answer, parse_entries, shows};
+ghost use Rattle.wk_listings.specs.Replied.{value_at};
+
+use serde_json::Value;
+use std::alloc::Global;
+use wk_bytes::Text;
+use wk_expand::{Root, Trees};
+use wk_listings::{invalid_title, missing_title};
+use wk_live::Live;
+use wk_memory::Memory;
+use wk_present::draft_now;
+use wk_replies::{PageShown, error_reply, expanded, parsed};
+use wk_revs::Revs;
+use wk_rows::rows;
+use wk_title::{Title, named};
+
+/// How many bytes a text has at most (own).
+const MAX_TEXT: usize = 2_097_152;
+
+/// The page that a text names: its title, in main by default; none exactly where it names no title, or one in a virtual
+/// namespace.
+fn real_title(alloc: Global, text: &str) -> Result<Option<Title>, Memory>
+    ensures { IfOk result (λ title. title ≡ real_title text.now) }
+{
+    match named(alloc, text, 0)? {
+        Some(title) => {
+            if title.is_virtual() {
+                return Ok(None);
+            }
+            Ok(Some(title))
+        }
+        None => Ok(None),
+    }
+}
+
+/// The number of the title's page, 0 where it doesn't exist.
+fn shown_number(revs: &Revs, title: &Title) -> u32
+    ensures { result ≡ shown_number revs.now.history title.now }
+{
+    if revs.current(title) == 0 {
+        return 0;
+    }
+    match revs.page(title) {
+        Some(page) => page,
+        None => 0,
+    }
+}
+
+/// What is told of a page that exists.
+fn parsed_page(
+    alloc: Global,
+    live: &Live,
+    title: &Title,
+    point: u64,
+    trees: &mut Trees,
+) -> Result<Value, Memory>
+    ensures { IfOk result (λ v. view v ≡ value_at point (shows (parse_entries (page_shown live.now.state title.now)))) }
+{
+    let draft = draft_now(alloc, live, title, &Root::Page, trees)?;
+    let rows = rows(alloc, &draft)?;
+    let page = PageShown {
+        title,
+        number: shown_number(live.revs(), title),
+        revision: live.revs().current(title),
+        text: draft.out().text(),
+        rows: &rows,
+    };
+    parsed(alloc, &page, point)
+}
+
+/// What is told of the page that a text names: an error where it names none, or one that doesn't exist.
+pub fn parse(
+    alloc: Global,
+    live: &Live,
+    page: &str,
+    point: u64,
+    trees: &mut Trees,
+) -> Result<Value, Memory>
+    ensures { IfOk result (λ v. view v ≡ value_at point (parse_answer live.now.state page.now)) }
+{
+    match real_title(alloc, page)? {
+        None => invalid_title(alloc, point),
+        Some(title) => {
+            if live.revs().current(&title) == 0 {
+                return missing_title(alloc, point);
+            }
+            parsed_page(alloc, live, &title, point, trees)
+        }
+    }
+}
+
+/// The text is longer than any that is kept.
+fn content_too_big(alloc: Global, point: u64) -> Result<Value, Memory>
+    ensures { IfOk result (λ v. view v ≡ value_at point (fails contenttoobig)) }
+{
+    let info = "The text is longer than 2097152 bytes.";
+    Ok(error_reply(alloc, "contenttoobig", info, point)?)
+}
+
+/// What a text expands to in the place of a title's page: an error where the text is too long.
+fn expanded_in(
+    alloc: Global,
+    live: &Live,
+    text: &str,
+    title: &Title,
+    point: u64,
+    trees: &mut Trees,
+) -> Result<Value, Memory>
+    ensures { IfOk result (λ v. view v ≡ value_at point (expanded_in live.now.state text.now title.now)) }
+{
+    if MAX_TEXT < text.len() {
+        return content_too_big(alloc, point);
+    }
+    let root = Root::Given(Text::new(alloc, text)?);
+    let draft = draft_now(alloc, live, title, &root, trees)?;
+    expanded(alloc, draft.out().text(), point)
+}
+
+/// What a text expands to in the place of the page that a text names: an error where it names no title.
+pub fn expand(
+    alloc: Global,
+    live: &Live,
+    text: &str,
+    page: &str,
+    point: u64,
+    trees: &mut Trees,
+) -> Result<Value, Memory>
+    ensures { IfOk result (λ v. view v ≡ value_at point (expand_answer live.now.state text.now page.now)) }
+{
+    match named(alloc, page, 0)? {
+        None => invalid_title(alloc, point),
+        Some(title) => expanded_in(alloc, live, text, &title, point, trees),
+    }
+}
