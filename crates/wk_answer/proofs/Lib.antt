@@ -1,2 +1,3 @@
+mod ByNumber
 mod JobCounts
 mod Shown

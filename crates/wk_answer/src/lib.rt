@@ -4,5 +4,8 @@
 mod by_text;
 mod counts;
 mod reading;
+mod refusals;
 
 pub use reading::read_answer;
+pub use refusals::refused;
+pub use wk_replies::error_reply;
