@@ -1,5 +1,6 @@
 //! The answer to a line.
 
+use crate::asked::request_value;
 use crate::atoms::{atoms_value, select_value};
 use crate::expansions::expand_value;
 use crate::links::links_value;
@@ -31,6 +32,7 @@ fn answer(alloc: Global, bytes: &[u8]) -> Result<Value, Refusal> {
         Some("links") => links_value(alloc, &request),
         Some("http") => http_value(alloc, &request),
         Some("params") => params_value(alloc, &request),
+        Some("request") => request_value(alloc, &request),
         Some(_) => Err(Refusal::UnknownOp),
         None => Err(Refusal::NoOp),
     }

@@ -12,7 +12,7 @@ use crate::seen::{keep, kind_word, seen_of};
 use crate::titles::{shown_text, title_of};
 use serde_json::{Value, json};
 use std::alloc::Global;
-use wk_expand::{Counts, Draft, Kind, Read, Root, Seen, Step, Trees, draft};
+use wk_expand::{Counts, Draft, Read, Root, Seen, Step, Trees, draft, resumed};
 use wk_memory::Memory;
 use wk_out::Out;
 use wk_rows::rows;
@@ -46,38 +46,70 @@ fn root_of(alloc: Global, request: &Value) -> Result<Root, Refusal> {
     }
 }
 
-/// The draft over the answers that the pages give, each where it is needed.
-fn drafted_over(alloc: Global, page: &Title, root: &Root, pages: &Pages) -> Result<Step, Memory>
-    ensures { IfOk result (IsOf root.now) }
-{
-    let mut trees = Trees::new(alloc, MOST_TREES)?;
+/// The answers that the pages give, each where the draft needs it.
+fn answers_of(
+    alloc: Global,
+    page: &Title,
+    root: &Root,
+    pages: &Pages,
+    trees: &mut Trees,
+) -> Result<Seen, Memory> {
     let mut seen = Seen::new(alloc);
     for _ in 0..MOST_READS {
-        match draft(alloc, page, root, &seen, &mut trees)? {
-            Step::Done(draft) => return Ok(Step::Done(draft)),
+        match draft(alloc, page, root, &seen, trees)? {
+            Step::Done(_) => return Ok(seen),
             Step::Needs(title, kind) => {
                 let answer = pages.answer(&title, kind)?;
                 let _was_new = keep(&mut seen, title, kind, answer)?;
             }
         }
     }
-    draft(alloc, page, root, &seen, &mut trees)
+    Ok(seen)
 }
 
-/// The draft over the answers of the member `seen`, or without it over those that the pages give.
-fn drafted(alloc: Global, request: &Value, page: &Title, root: &Root) -> Result<Step, Refusal>
-    ensures { IfOk result (IsOf root.now) }
-{
+/// The answers of the member `seen`, or without it those that the pages give.
+fn known_of(
+    alloc: Global,
+    request: &Value,
+    page: &Title,
+    root: &Root,
+    trees: &mut Trees,
+) -> Result<Seen, Refusal> {
     let Some(member) = request.get("seen") else {
         let pages = pages_of(alloc, request)?;
-        return Ok(drafted_over(alloc, page, root, &pages)?);
+        return Ok(answers_of(alloc, page, root, &pages, trees)?);
     };
-    let Some(entries) = member.as_array() else {
-        return Err(Refusal::NoSeen);
-    };
-    let seen = seen_of(alloc, entries.as_slice())?;
-    let mut trees = Trees::new(alloc, MOST_TREES)?;
-    Ok(draft(alloc, page, root, &seen, &mut trees)?)
+    match member.as_array() {
+        Some(entries) => seen_of(alloc, entries.as_slice()),
+        None => Err(Refusal::NoSeen),
+    }
+}
+
+/// Whether one machine is asked for, by the member `resume`.
+fn is_resumed(request: &Value) -> bool {
+    match request.get("resume") {
+        Some(member) => member.as_bool() == Some(true),
+        None => false,
+    }
+}
+
+/// What is drafted over the answers that are known; with the number of its runs where one machine is asked for.
+fn drafted(
+    alloc: Global,
+    page: &Title,
+    root: &Root,
+    known: &Seen,
+    trees: &mut Trees,
+    by_machine: bool,
+) -> Result<(Step, Option<u64>), Memory>
+    ensures { IfOk result (λ found. IsOf root.now found.0) }
+{
+    if by_machine {
+        let (step, runs) = resumed(alloc, page, root, known, trees)?;
+        return Ok((step, Some(runs)));
+    }
+    let step = draft(alloc, page, root, known, trees)?;
+    Ok((step, None))
 }
 
 /// What the expansion cost.
@@ -158,16 +190,39 @@ fn draft_value(alloc: Global, root: &Root, draft: &Draft) -> Result<Value, Memor
     Ok(value)
 }
 
+/// What a draft comes to, as it is answered.
+fn step_value(alloc: Global, root: &Root, step: &Step) -> Result<Value, Memory>
+    requires { IsOf root.now step.now }
+{
+    match step {
+        Step::Done(draft) => draft_value(alloc, root, draft),
+        Step::Needs(title, kind) => {
+            let title = shown_text(alloc, title)?;
+            let kind = kind_word(*kind);
+            Ok(json!(in alloc; {"needs": [&title, kind]})?)
+        }
+    }
+}
+
+/// Adds the number of runs to an answer.
+fn add_rounds(alloc: Global, value: &mut Value, runs: u64) -> Result<(), Memory> {
+    if let Some(members) = value.as_object_mut() {
+        members.insert(String::from_str(alloc, "rounds")?, json!(in alloc; runs)?)?;
+    }
+    Ok(())
+}
+
 /// What a page, or a text in the place of its own, expands to; or what is needed for that and wasn't seen.
 pub fn expand_value(alloc: Global, request: &Value) -> Result<Value, Refusal> {
     let page = viewed_page(alloc, request)?;
     let root = root_of(alloc, request)?;
-    match drafted(alloc, request, &page, &root)? {
-        Step::Done(draft) => Ok(draft_value(alloc, &root, &draft)?),
-        Step::Needs(title, kind) => {
-            let title = shown_text(alloc, &title)?;
-            let kind = kind_word(kind);
-            Ok(json!(in alloc; {"needs": [&title, kind]})?)
-        }
+    let mut trees = Trees::new(alloc, MOST_TREES)?;
+    let known = known_of(alloc, request, &page, &root, &mut trees)?;
+    let by_machine = is_resumed(request);
+    let (step, runs) = drafted(alloc, &page, &root, &known, &mut trees, by_machine)?;
+    let mut value = step_value(alloc, &root, &step)?;
+    if let Some(runs) = runs {
+        add_rounds(alloc, &mut value, runs)?;
     }
+    Ok(value)
 }

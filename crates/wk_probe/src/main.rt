@@ -29,12 +29,20 @@
 //! - `{"op":"expand","page":P,"seen":[[T,KIND,A],..]}`, also with a member `text`, asks what is known by these answers,
 //!   each to another pair of a title and a kind. A is `[revision,text]`, or `null` where the page is missing; of
 //!   existence it is `true` or `false`. Where they are too few, the answer is `{"needs":[title,kind]}`.
+//! - With a member `"resume":true` these two ask the same of one machine, to which the answers are given one at a time.
+//!   The answer has `rounds` too, the number of its runs.
 //! - `{"op":"http","pieces":[T,..]}` asks for the messages of a connection whose bytes come in these pieces: each
 //!   character, which is one of the first 256, is one byte. The answer is `{"end":E,"messages":[..]}`, where E is `peer`
 //!   between messages, `cut` within one, `closed` after a message that is the last, or `{"bad":STATUS}`. A message has
 //!   `body`, `last`, `method` (`get`, `post` or `other`), `multipart`, `path` and `query`.
 //! - `{"op":"params","query":Q,"body":B,"name":N}` asks for the first value of the parameter N in the query and the
 //!   body, which are given as bytes in the same way. The answer is the value or `null`.
+//! - `{"op":"request","query":Q,"body":B,"posted":P}` asks what the query and the body, which are given as bytes in the
+//!   same way, ask of the API, where P says whether they were posted. The answer is `{"ask":A,"least":N}`, where N is the
+//!   least point, or `{"refused":[NUMBER,PARAMETER]}`. A is `"tokens"`, `"siteinfo"`, or an object with one member: `edit`
+//!   has `base`, `body`, `create_only`, `no_create` and `title`, `delete` has `base` and `title`, `parse` has `page`,
+//!   `expand` has `text` and `title`, `backlinks`, `embedded`, `members`, `changes` and `revisions` have `from`, `limit`
+//!   and `title`, and `revisions` has `content` too. What isn't given is `null`.
 //!
 //! Other members are ignored, and of members with one name the last counts. A line that is none of these forms is
 //! answered with `{"error":"..."}`, which says what is wrong, and the next line goes on. The program takes no words.
@@ -44,6 +52,7 @@
 #![tactic(auto)]
 
 mod answers;
+mod asked;
 mod atoms;
 mod expansions;
 mod links;

@@ -16,7 +16,7 @@ fn add_byte(bytes: &mut Vec<u8>, byte: u8) -> Result<(), Memory> {
 }
 
 /// The bytes that a text stands for.
-fn bytes_of(alloc: Global, text: &str) -> Result<Vec<u8>, Refusal> {
+pub fn bytes_of(alloc: Global, text: &str) -> Result<Vec<u8>, Refusal> {
     let mut bytes = Vec::new(alloc);
     for character in text.chars() {
         match u8::try_from(u32::from(character)) {
