@@ -2,7 +2,7 @@
 use Rattle.std.proofs.Common.{◌≡◌, ℕ, ◌+◌, ◌≤◌, Bool, true, false, cond, eqb, ne_eqb, Result, Ok, Err, List, [], length, Option, Some, None, refl, sym, ap, ◌∙◌, subst, arith}
 use Rattle.wk_page_rules.specs.Verdict.{MostHeld, full_limits, max_journal}
 use Rattle.wk_table_rules.specs.Rows.{StoreTables, newest_version}
-use Rattle.wk_table_rules.specs.GoodStore.{IsGood}
+use Rattle.wk_table_rules.specs.GoodStore.{IsGood, first_broken}
 use Rattle.wk_job_rules.specs.Steps.{reopened_jobs}
 use Rattle.wk_state_rules.specs.States.{State}
 use Rattle.wk_state_rules.specs.Lives.{all_refreshed, opened, reopened}
@@ -15,8 +15,9 @@ use Rattle.wk_wiki_laws.proofs.StoresOpened.{migration-makes, reopened-again}
 use Rattle.wk_wiki_rules.specs.TableChanges.{migration}
 use Rattle.wk_table_rules.specs.Changes.{TableEdit, applied, fits}
 use Rattle.wk_wiki_laws.specs.Makes.{Makes}
-use Rattle.std.specs.Prelude.{IfSome, OnOk, is_some}
+use Rattle.std.specs.Prelude.{IfOk, IfSome, OnOk, is_some}
 use Rattle.wk_life_laws.specs.Lives.{Life, IsLife, journal_of, start_of}
+use Rattle.wk_wiki_rules.specs.declared.Entry.{Entry}
 use Rattle.wk_life_laws.specs.Next.{Begins, begun, new_start}
 use Rattle.wk_life_laws.proofs.Lives.{opened_life, reopened_life}
 use Rattle.wk_life_laws.proofs.RunFacts.{run_kept}
@@ -112,3 +113,40 @@ module _ (tables : StoreTables) (good : IsGood tables) (o : Option StoreTables) 
       by : (old : Option StoreTables) → IfSome old (λ kept. kept ≡ tables) → IfSome old (λ t. t ≡ tables_of (opened tables))
       by None none = tt
       by (Some kept) was = was ∙ same
+
+-- ---- what is begun over tables that were loaded
+
+module _ (tables : StoreTables) (limits : MostHeld) (good : IsGood tables) (within : AreWithinFull limits) where
+  abbrev life-of : StartKept → List Entry → State → Life
+  life-of kept entries state = record { kept = kept; limits = limits; whole = false; sealed = None; entries = entries; state = state }
+
+  kept-is : (state : State) (kept : StartKept) → state ≡ opened tables → kept ≡ kept_of state → kept-before kept ≡ kept_of state
+  kept-is state kept is same = ap kept-before same ∙ subst (λ s. kept-before (kept_of s) ≡ kept_of s) (sym is) (opened-kept tables)
+
+  pub loaded-held : (state : State) (kept : StartKept) (entries : List Entry) (room : Rooms) (capacity : ℕ) → state ≡ opened tables → kept ≡ kept_of state → entries ≡ []
+      → KeepsLife (record { life = life-of (kept-before kept) entries state; room = room; spare = 0 }) capacity
+  loaded-held state kept entries room capacity is same none =
+      subst (λ e. KeepsLife (record { life = life-of (kept-before kept) e state; room = room; spare = 0 }) capacity) (sym none)
+      (subst (λ k. KeepsLife (record { life = life-of k [] state; room = room; spare = 0 }) capacity) (sym (kept-is state kept is same))
+      (opened-held tables limits good within state room capacity is))
+
+  pub loaded-begins : (state : State) (kept : StartKept) (entries : List Entry) → state ≡ opened tables → kept ≡ kept_of state → entries ≡ []
+      → Begins (life-of (kept-before kept) entries state) (new_start (opened tables) limits false)
+  loaded-begins state kept entries is same none =
+      subst (λ e. Begins (life-of (kept-before kept) e state) (new_start (opened tables) limits false)) (sym none)
+      (subst (λ k. Begins (life-of k [] state) (new_start (opened tables) limits false)) (sym (kept-is state kept is same))
+      (subst (λ s. Begins (life-of (kept_of s) [] s) (new_start (opened tables) limits false)) (sym is) (opened-begins tables limits good within)))
+
+-- what is as it is opened is as behind a restart
+pub loaded-again : (tables : StoreTables) (state : State) → state ≡ opened tables → reopened state ≡ state
+loaded-again tables state is = subst (λ s. reopened s ≡ s) (sym is) (opened-again tables)
+
+-- what was opened over these tables was opened over those that are told
+pub opened-told : (o : Option StoreTables) (tables : StoreTables) (state : State) → IfSome o (λ kept. tables ≡ kept) → first_broken tables ≡ None → state ≡ opened tables
+    → IfSome o (λ t. (first_broken t ≡ None) × (state ≡ opened t))
+opened-told None tables state given good is = tt
+opened-told (Some kept) tables state given good is = (subst (λ t. first_broken t ≡ None) given good, is ∙ ap opened given)
+
+pub both-ok : {A E : Type 0} (P Q R : A → Type 0) (result : Result A E) → ((a : A) → P a → Q a → R a) → IfOk result P → IfOk result Q → IfOk result R
+both-ok P Q R (Ok a) f p q = f a p q
+both-ok P Q R (Err e) f p q = tt
