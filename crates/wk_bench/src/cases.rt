@@ -29,9 +29,26 @@ pub enum Case {
         size: usize,
         piece: usize,
     },
-    /// A page is drafted so many times.
+    /// A page is drafted so many times, with the parsed texts kept from one draft to the next.
     Expand {
         page: Page,
+        rounds: u64,
+    },
+    /// A page is drafted so many times, and nothing is kept.
+    Cold {
+        page: Page,
+        rounds: u64,
+    },
+    /// One machine drafts a page with so many templates, whose texts are given to it one at a time.
+    Resume {
+        templates: u64,
+    },
+    /// Such a page is drafted anew each time that one more text is given.
+    Anew {
+        templates: u64,
+    },
+    /// The page that opens the most nodes within each other is drafted so many times on the least stack of a thread.
+    Stack {
         rounds: u64,
     },
     /// A short output is appended to another so many times.
@@ -55,6 +72,14 @@ pub enum Case {
     Broken {
         pages: u64,
     },
+    /// So many new pages are saved, and then so many changes of them.
+    Saves(Listing),
+    /// So many pages are queued, and then so many claimed and dropped.
+    Claims(Listing),
+    /// The pages that use a title are listed so many times.
+    Users(Listing),
+    /// The members of a category are listed so many times.
+    Members(Listing),
 }
 
 /// N turns in all, on T threads.
@@ -63,6 +88,13 @@ pub struct Turns {
     pub turns: u64,
     pub threads: u64,
     ghost hires: { 0 < threads },
+}
+
+/// So many pages, with ten link rows each where links count, and what is done so many times with them.
+#[derive(Clone, Copy)]
+pub struct Listing {
+    pub pages: u32,
+    pub times: u32,
 }
 
 /// A text of a sort, its bytes, and how many times it is read.
@@ -75,10 +107,11 @@ pub struct Reading {
 
 pub const USAGE: &str = "wk_bench turns N T, with N from 0 to 10000000 and T from 1 to 64; or \
 wk_bench select|atoms|tree|links SORT SIZE ROUNDS, wk_bench same SIZE ROUNDS, wk_bench append TIMES, \
-wk_bench expand infobox|calls|nesting ROUNDS, or \
+wk_bench expand|cold infobox|calls|nesting|deepest ROUNDS, wk_bench resume|anew TEMPLATES, wk_bench stack ROUNDS, or \
 wk_bench http messages|head|body SIZE PIECE, with SIZE and PIECE up to 16777216, or \
 wk_bench set_page|add_revision TIMES, wk_bench set_rows PAGES TIMES, wk_bench broken PAGES, \
-and ROUNDS, TIMES and PAGES from 1 to 1000000";
+wk_bench saves|claims|users|members PAGES TIMES, \
+and ROUNDS, TIMES, TEMPLATES and PAGES from 1 to 1000000";
 
 /// The number, where the word is one between these.
 fn number(word: &str, least: u64, most: u64) -> Option<u64>
@@ -143,14 +176,59 @@ fn set_rows_asked(words: &[String]) -> Option<Case> {
     Some(Case::SetRows { pages, times })
 }
 
-/// The page that the words behind a case's name ask to draft.
-fn expand_asked(words: &[String]) -> Option<Case> {
+/// The pages, and how often something is done with them, that the words behind a case's name ask for.
+fn listing_asked(words: &[String]) -> Option<Listing> {
+    if words.len() != 2 {
+        return None;
+    }
+    let pages = number(&words[0], 1, 1_000_000)? as u32;
+    let times = number(&words[1], 1, 1_000_000)? as u32;
+    Some(Listing { pages, times })
+}
+
+/// The work on a wiki's lists that the words behind this name ask for.
+fn lists_asked(name: &str, words: &[String]) -> Option<Case> {
+    match name {
+        "saves" => Some(Case::Saves(listing_asked(words)?)),
+        "claims" => Some(Case::Claims(listing_asked(words)?)),
+        "users" => Some(Case::Users(listing_asked(words)?)),
+        "members" => Some(Case::Members(listing_asked(words)?)),
+        _ => None,
+    }
+}
+
+/// The page that the words behind a case's name ask to draft, and how often.
+fn page_asked(words: &[String]) -> Option<(Page, u64)> {
     if words.len() != 2 {
         return None;
     }
     let page = page_named(&words[0])?;
     let rounds = number(&words[1], 1, 1_000_000)?;
-    Some(Case::Expand { page, rounds })
+    Some((page, rounds))
+}
+
+/// The drafts that the words behind this name ask for.
+fn drafts_asked(name: &str, words: &[String]) -> Option<Case> {
+    match name {
+        "expand" => {
+            let (page, rounds) = page_asked(words)?;
+            Some(Case::Expand { page, rounds })
+        }
+        "cold" => {
+            let (page, rounds) = page_asked(words)?;
+            Some(Case::Cold { page, rounds })
+        }
+        "resume" => Some(Case::Resume {
+            templates: only_asked(words)?,
+        }),
+        "anew" => Some(Case::Anew {
+            templates: only_asked(words)?,
+        }),
+        "stack" => Some(Case::Stack {
+            rounds: only_asked(words)?,
+        }),
+        name => lists_asked(name, words),
+    }
 }
 
 /// The stream that the words behind a case's name ask for.
@@ -181,7 +259,6 @@ pub fn chosen(words: &[String]) -> Option<Case> {
         "append" => Some(Case::Append {
             times: only_asked(others)?,
         }),
-        "expand" => expand_asked(others),
         "http" => http_asked(others),
         "set_page" => Some(Case::SetPage {
             times: only_asked(others)?,
@@ -193,6 +270,6 @@ pub fn chosen(words: &[String]) -> Option<Case> {
         "broken" => Some(Case::Broken {
             pages: only_asked(others)?,
         }),
-        _ => None,
+        name => drafts_asked(name, others),
     }
 }

@@ -1,8 +1,9 @@
 //! Pages that are drafted from their texts, with every answer seen.
 
 use std::alloc::Global;
+use std::thread::{Builder, Threads};
 use wk_bytes::Text;
-use wk_expand::{Answer, Kind, Root, Seen, Step, Trees, draft};
+use wk_expand::{Answer, Kind, Root, Seen, Step, Trees, draft, resumed};
 use wk_memory::Memory;
 use wk_title::{Title, TitleRefusal, normalize};
 
@@ -15,6 +16,8 @@ pub enum Page {
     Calls,
     /// A page with 40 templates within each other.
     Nesting,
+    /// A page with 40 templates within each other, each within four arguments: 200 nodes are open.
+    Deepest,
 }
 
 /// The page with this word, if there is one.
@@ -23,6 +26,7 @@ pub fn page_named(word: &str) -> Option<Page> {
         "infobox" => Some(Page::Infobox),
         "calls" => Some(Page::Calls),
         "nesting" => Some(Page::Nesting),
+        "deepest" => Some(Page::Deepest),
         _ => None,
     }
 }
@@ -92,6 +96,14 @@ fn nested(alloc: Global, at: u64) -> Result<String, Memory> {
     }
 }
 
+/// The text of a template of the deepest page, which calls the next one.
+fn deep(alloc: Global, at: u64) -> Result<String, Memory> {
+    let next = at.saturating_add(1);
+    Ok(format!(in alloc;
+        "{{{{{{a|{{{{{{b|{{{{{{c|{{{{{{d|{{{{Deep {next}}}}}}}}}}}}}}}}}}}}}}}}}}}}}"
+    )?)
+}
+
 /// Keeps the answer that a page with this title is there and has this text, unless an answer is kept.
 fn keep(seen: &mut Seen, title: Title, kind: Kind, text: Text) -> Result<(), Memory> {
     if seen.get(&title, kind)?.is_some() {
@@ -133,6 +145,16 @@ fn add_nesting(alloc: Global, seen: &mut Seen) -> Result<(), Memory> {
     Ok(())
 }
 
+/// Keeps the answers of the templates of the deepest page. The last one calls no other.
+fn add_deepest(alloc: Global, seen: &mut Seen) -> Result<(), Memory> {
+    for at in 1..DEPTH {
+        let name = format!(in alloc; "Template:Deep {at}")?;
+        add(alloc, seen, &name, Kind::Include, &deep(alloc, at)?)?;
+    }
+    let name = format!(in alloc; "Template:Deep {DEPTH}")?;
+    add(alloc, seen, &name, Kind::Include, "x")
+}
+
 /// The answers that the draft of a page reads.
 fn answers(alloc: Global, page: Page) -> Result<Seen, Memory> {
     let mut seen = Seen::new(alloc);
@@ -159,6 +181,10 @@ fn answers(alloc: Global, page: Page) -> Result<Seen, Memory> {
             add(alloc, &mut seen, VIEWED, Kind::View, "{{Nested 1}}")?;
             add_nesting(alloc, &mut seen)?;
         }
+        Page::Deepest => {
+            add(alloc, &mut seen, VIEWED, Kind::View, &deep(alloc, 0)?)?;
+            add_deepest(alloc, &mut seen)?;
+        }
     }
     Ok(seen)
 }
@@ -171,17 +197,86 @@ fn bytes(step: &Step) -> u64 {
     }
 }
 
-/// Drafts a page so many times. The bytes of the outputs in all.
-pub fn drafted(alloc: Global, page: Page, rounds: u64) -> Result<u64, Memory> {
+/// How many parsed texts are kept where they are: more than a page here has.
+pub const MANY_TREES: usize = 1024;
+
+/// Drafts a page so many times, where at most so many parsed texts are kept from one draft to the next. The bytes of the
+/// outputs in all.
+pub fn drafted(alloc: Global, page: Page, rounds: u64, most: usize) -> Result<u64, Memory> {
     let seen = answers(alloc, page)?;
     let Some(viewed) = title_of(alloc, VIEWED)? else {
         return Ok(0);
     };
-    let mut trees = Trees::new(alloc, 16)?;
+    let mut trees = Trees::new(alloc, most)?;
     let mut count = 0u64;
     for _ in 0..rounds {
         let step = draft(alloc, &viewed, &Root::Page, &seen, &mut trees)?;
         count = count.saturating_add(bytes(&step));
     }
     Ok(count)
+}
+
+/// The answers about a page that includes so many templates, each another one, with a short text.
+fn many(alloc: Global, templates: u64) -> Result<Seen, Memory> {
+    let mut seen = Seen::new(alloc);
+    let mut text = String::new(alloc);
+    for at in 1..=templates {
+        text.push_str(&format!(in alloc; "{{{{Many {at}}}}} ")?)?;
+        let name = format!(in alloc; "Template:Many {at}")?;
+        add(alloc, &mut seen, &name, Kind::Include, "x")?;
+    }
+    add(alloc, &mut seen, VIEWED, Kind::View, &text)?;
+    Ok(seen)
+}
+
+/// One machine drafts a page that includes so many templates, of which the texts are given to it one at a time. How often
+/// it runs.
+pub fn resumed_runs(alloc: Global, templates: u64) -> Result<u64, Memory> {
+    let seen = many(alloc, templates)?;
+    let Some(viewed) = title_of(alloc, VIEWED)? else {
+        return Ok(0);
+    };
+    let mut trees = Trees::new(alloc, MANY_TREES)?;
+    let (_step, runs) = resumed(alloc, &viewed, &Root::Page, &seen, &mut trees)?;
+    Ok(runs)
+}
+
+/// The same page is drafted anew each time that one more text is given. How many drafts there are.
+pub fn anew_runs(alloc: Global, templates: u64) -> Result<u64, Memory> {
+    let seen = many(alloc, templates)?;
+    let Some(viewed) = title_of(alloc, VIEWED)? else {
+        return Ok(0);
+    };
+    let mut trees = Trees::new(alloc, MANY_TREES)?;
+    let mut given = Seen::new(alloc);
+    let mut runs = 0u64;
+    for _ in 0..u64::MAX {
+        runs = runs.saturating_add(1);
+        match draft(alloc, &viewed, &Root::Page, &given, &mut trees)? {
+            Step::Done(_) => return Ok(runs),
+            Step::Needs(title, kind) => {
+                let Some(answer) = seen.get(&title, kind)? else {
+                    return Ok(runs);
+                };
+                given.add(title, kind, answer.share()?)?;
+            }
+        }
+    }
+    Ok(runs)
+}
+
+/// The same for the deepest page, on a thread with the least stack that there is, 128 KiB; where no thread can be started,
+/// on this one.
+pub fn drafted_on_least_stack<R: Threads>(
+    rt: &R,
+    alloc: Global,
+    rounds: u64,
+) -> Result<u64, Memory> {
+    match Builder::new().stack_size(1).spawn(
+        rt,
+        move || drafted(alloc, Page::Deepest, rounds, MANY_TREES),
+    ) {
+        Ok(handle) => handle.join(rt),
+        Err(_) => drafted(alloc, Page::Deepest, rounds, MANY_TREES),
+    }
 }

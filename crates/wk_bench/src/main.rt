@@ -5,6 +5,7 @@
 
 mod cases;
 mod drafts;
+mod lists;
 mod reading;
 mod stores;
 mod texts;
@@ -12,8 +13,8 @@ mod turns;
 mod values;
 mod wire;
 
-use cases::{Case, Reading, Turns, USAGE, chosen};
-use drafts::Page;
+use cases::{Case, Listing, Reading, Turns, USAGE, chosen};
+use drafts::{MANY_TREES, Page};
 use std::alloc::Global;
 use std::process::ExitCode;
 use std::rt::Env;
@@ -25,7 +26,7 @@ use wire::Stream;
 use wk_memory::Memory;
 
 /// What is run without words.
-const SMALL: [Case; 15] = [
+const SMALL: [Case; 24] = [
     Case::Turns(Turns {
         turns: 400,
         threads: 4,
@@ -67,6 +68,17 @@ const SMALL: [Case; 15] = [
         page: Page::Nesting,
         rounds: 1,
     },
+    Case::Cold {
+        page: Page::Infobox,
+        rounds: 1,
+    },
+    Case::Expand {
+        page: Page::Deepest,
+        rounds: 1,
+    },
+    Case::Resume { templates: 20 },
+    Case::Anew { templates: 20 },
+    Case::Stack { rounds: 1 },
     Case::Http {
         stream: Stream::Messages,
         size: 10,
@@ -79,6 +91,22 @@ const SMALL: [Case; 15] = [
         times: 10,
     },
     Case::Broken { pages: 20 },
+    Case::Saves(Listing {
+        pages: 20,
+        times: 10,
+    }),
+    Case::Claims(Listing {
+        pages: 20,
+        times: 10,
+    }),
+    Case::Users(Listing {
+        pages: 20,
+        times: 3,
+    }),
+    Case::Members(Listing {
+        pages: 20,
+        times: 3,
+    }),
 ];
 
 /// The words after the program's name.
@@ -127,7 +155,17 @@ fn worked<R: Threads + Wait + Sync>(
         } => Ok(("http: messages", wire::fed(alloc, stream, size, piece)?)),
         Case::Expand { page, rounds } => Ok((
             "expand: bytes",
-            drafts::drafted(alloc, page, rounds)?,
+            drafts::drafted(alloc, page, rounds, MANY_TREES)?,
+        )),
+        Case::Cold { page, rounds } => Ok((
+            "cold: bytes",
+            drafts::drafted(alloc, page, rounds, 0)?,
+        )),
+        Case::Resume { templates } => Ok(("resume: runs", drafts::resumed_runs(alloc, templates)?)),
+        Case::Anew { templates } => Ok(("anew: drafts", drafts::anew_runs(alloc, templates)?)),
+        Case::Stack { rounds } => Ok((
+            "stack: bytes",
+            drafts::drafted_on_least_stack(rt, alloc, rounds)?,
         )),
         Case::Append { times } => Ok(("append: bytes", values::appended(alloc, times)?)),
         Case::SetPage { times } => Ok(("set_page: pages", stores::pages_added(alloc, times)?)),
@@ -141,6 +179,10 @@ fn worked<R: Threads + Wait + Sync>(
             Ok(("set_rows: edits", stores::rows_set(alloc, pages, times)?))
         }
         Case::Broken { pages } => Ok(("broken: pages", stores::judged(alloc, pages)?)),
+        Case::Saves(listing) => Ok(("saves: revisions", lists::saved(alloc, listing)?)),
+        Case::Claims(listing) => Ok(("claims: jobs", lists::claimed(alloc, listing)?)),
+        Case::Users(listing) => Ok(("users: pages", lists::users(alloc, listing)?)),
+        Case::Members(listing) => Ok(("members: pages", lists::members(alloc, listing)?)),
     }
 }
 
