@@ -28,6 +28,7 @@ pub use wk_expand::{Answer, Draft, Kind, SharedDraft};
 pub use wk_index::MemberPage;
 pub use wk_jobs::Left;
 pub use wk_keeper::{Keeper, KeeperRefusal};
+pub use wk_live::Live;
 pub use wk_revs::{Edit, Limit, Limits, Revision, SaveRefusal};
 pub use wk_tables::{BadStore, Reach, Tables};
 pub use wk_wiki_rules::Entry;

@@ -6,8 +6,10 @@ ghost use Rattle.wk_life_laws.specs.Runs.{IsRun};
 ghost use Rattle.wk_core.specs.Seen.{IsTold};
 
 use crate::life::Life;
+use std::alloc::Global;
 use std::marker::Model;
 use wk_keeper::Keeper;
+use wk_live::Live;
 
 /// A wiki over a store. Contracts see how it began, the journal of what has happened since, its state, and its keeper.
 ///
@@ -46,5 +48,17 @@ impl<K: Keeper> Wiki<K> {
         ensures whole { K.is_whole self.now.keeper ≡ self.now.start.whole }
     {
         self.life.facts();
+    }
+
+    /// The state as it is held in memory, for calls that read it. Takes no memory.
+    pub fn live(&self) -> &Live
+        ensures { result.now.state ≡ self.now.state }
+    {
+        self.life.live()
+    }
+
+    /// The allocator of what the wiki holds. Takes no memory.
+    pub fn allocator(&self) -> Global {
+        self.life.allocator()
     }
 }
