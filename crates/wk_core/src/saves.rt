@@ -1,5 +1,5 @@
 //! Saves.
-ghost use Rattle.std.specs.Prelude.{◌≡◌, ◌≤◌, None, Some, length, IfOk, IfErr, IfSome, OnErr, OnOk};
+ghost use Rattle.std.specs.Prelude.{◌≡◌, ◌≤◌, None, Some, length, IfOk, IfErr, IfSome, IsSome, OnErr, OnOk};
 ghost use Rattle.std.specs.Option.{option_copied};
 ghost use Rattle.wk_base.specs.Faults.{Rose};
 ghost use Rattle.wk_page_rules.specs.History.{next_revision};
@@ -183,7 +183,7 @@ impl<K: Keeper> Wiki<K> {
     /// where the page is missing. Then comes `NoChange`, which is no refusal: the page has this text already. `WikiFull`:
     /// a limit would be passed. `JournalFull`: the journal's length and the tickets that are out are at the limit, or the
     /// numbers of jobs have come to their end. `Memory` may come at any place of this order, and `StoreFault` only where
-    /// the keeper's count of faults rose.
+    /// the edit is accepted and the keeper's count of faults rose.
     ///
     /// What is accepted is the event of a save; after a refusal and after `NoChange` the wiki is as before.
     pub fn save(&mut self, edit: &Edit, now: u64) -> Result<Saved, SaveRefusal>
@@ -196,6 +196,7 @@ impl<K: Keeper> Wiki<K> {
         ensures refused { OnErr result (HasMadeNothing K.told self.old self.new) }
         ensures keeper { GoesOn K.told K.faults self.old self.new }
         ensures fault { result ≡ Err SaveRefusal.StoreFault → Rose (K.faults self.old.keeper) (K.faults self.new.keeper) }
+        ensures fault_at_event { result ≡ Err SaveRefusal.StoreFault → IsSome (event_of (verdict_now self.old (edit_asked edit.now)) now) }
         ensures no_fault { OnOk result (K.faults self.new.keeper ≡ K.faults self.old.keeper) }
     {
         let Ok(verdict) = self.life.judge(edit) else {
@@ -225,6 +226,7 @@ impl<K: Keeper> Wiki<K> {
         ensures refused { OnErr result (HasMadeNothing K.told self.old self.new) }
         ensures keeper { GoesOn K.told K.faults self.old self.new }
         ensures fault { result ≡ Err SaveRefusal.StoreFault → Rose (K.faults self.old.keeper) (K.faults self.new.keeper) }
+        ensures fault_at_event { result ≡ Err SaveRefusal.StoreFault → IsSome (event_of (verdict_now self.old (deletion title.now base)) now) }
         ensures no_fault { OnOk result (K.faults self.new.keeper ≡ K.faults self.old.keeper) }
     {
         let alloc = self.life.allocator();
