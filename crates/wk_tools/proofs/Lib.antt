@@ -1,0 +1,4 @@
+pub mod FanWork
+pub mod RefreshWork
+pub mod LivesOn
+pub mod Rounds

@@ -1,0 +1,3 @@
+pub mod Lived
+pub mod Drains
+pub mod Rounds
