@@ -171,6 +171,20 @@ module _ (start : Start) (journal : List Event) (state : State) (run : IsRun sta
       let by_middle : next.jobs ≡ refresh_dropped steps.middle.jobs claim.0 = ap (λ (s : State). s.jobs) (sym in_again.1.1) ∙ ap (refresh_dropped steps.middle.jobs) page in
       (claim.0, (claim.1.first, (by_middle ∙ ap (λ (s : State). refresh_dropped s.jobs claim.0) (sym claim.1.is), ap (λ (s : State). s.history) (sym in_again.1.1) ∙ ap (λ (s : State). s.history) (sym claim.1.is))))
 
+  -- a job less is left
+  pub fewer-left : (next : State) → replay_from fan_pages state (length journal) (Claim ∷ Done (length journal + 1) ∷ []) ≡ Some next → length next.jobs.refreshes < length state.jobs.refreshes
+  fewer-left next done =
+      let steps = two-steps state next (length journal) Claim (Done (length journal + 1)) done in
+      let claim = claims steps.middle steps.first in
+      let in_again = brought-in with_refreshed steps.middle next (length journal + 1) steps.second in
+      let held = held-job steps.middle.jobs (length journal + 1) in_again.0 in_again.1.0 in
+      let fewer = length-others (is_held_by (length journal + 1)) steps.middle.jobs.refreshes held.0 held.1.0 in
+      let is : length next.jobs.refreshes ≡ length (jobs_of_others held.0.page steps.middle.jobs.refreshes) =
+      ap (λ (s : State). length s.jobs.refreshes) (sym in_again.1.1) ∙ ap (λ p. length (jobs_of_others p steps.middle.jobs.refreshes)) (sym held.1.1) in
+      let many : length steps.middle.jobs.refreshes ≡ length state.jobs.refreshes =
+      ap (λ (s : State). length s.jobs.refreshes) (sym claim.1.is) ∙ length-claimed state.jobs.refreshes (length journal + 1) in
+      omega (arith, fewer, is, many)
+
   pub done-tickets : (next : State) → replay_from fan_pages state (length journal) (Claim ∷ Done (length journal + 1) ∷ []) ≡ Some next → tickets_of next.jobs ≡ tickets_of state.jobs
   done-tickets next done =
       let jobs = done-jobs next done in

@@ -1,3 +1,4 @@
 pub mod Lived
+pub mod Outdated
 pub mod Drains
 pub mod Rounds

@@ -30,14 +30,14 @@ pub record Renews {K : Type 0} (old new : WikiSeen K) : Type 0 where
 
 -- a round behind which a drain goes on
 pub data GoesOnBy {K : Type 0} : WikiSeen K → WikiSeen K → Type 0 where
-  fans : {old new : WikiSeen K} → HasMade old new Fan → GoesOnBy old new
-  refreshes : {old new : WikiSeen K} → HasMadeEach old new (Claim ∷ Done (length old.journal + 1) ∷ []) → GoesOnBy old new
-  renews : {old new : WikiSeen K} → Renews old new → GoesOnBy old new
+  by_fan : {old new : WikiSeen K} → HasMade old new Fan → GoesOnBy old new
+  by_refresh : {old new : WikiSeen K} → HasMadeEach old new (Claim ∷ Done (length old.journal + 1) ∷ []) → GoesOnBy old new
+  by_renewal : {old new : WikiSeen K} → Renews old new → GoesOnBy old new
 
 -- a round with which a drain ends: nothing happened, or a job was claimed and is queued again
 pub data EndsBy {K : Type 0} (told : K → Option StoreTables) : WikiSeen K → WikiSeen K → Type 0 where
-  rests : {old new : WikiSeen K} → HasMadeNothing told old new → EndsBy told old new
-  returns : {old new : WikiSeen K} → HasMadeEach old new (Claim ∷ Back (length old.journal + 1) ∷ []) → EndsBy told old new
+  with_nothing : {old new : WikiSeen K} → HasMadeNothing told old new → EndsBy told old new
+  with_return : {old new : WikiSeen K} → HasMadeEach old new (Claim ∷ Back (length old.journal + 1) ∷ []) → EndsBy told old new
 
 -- some job is left, and there is no room for the next event even in an empty journal
 pub record IsFull {K : Type 0} (wiki : WikiSeen K) : Type 0 where
