@@ -134,7 +134,7 @@ module _ {K : Type 0} (told : K → Option StoreTables) (faults : K → ℕ) whe
   same-keeper : (wiki : WikiSeen K) → GoesOn told faults wiki wiki
   same-keeper wiki = record { tells = refl; never_falls = omega arith; whole = λ is. refl }
 
-  keeper-then : (old middle new : WikiSeen K) → middle.start.whole ≡ old.start.whole → GoesOn told faults old middle → GoesOn told faults middle new → GoesOn told faults old new
+  pub keeper-then : (old middle new : WikiSeen K) → middle.start.whole ≡ old.start.whole → GoesOn told faults old middle → GoesOn told faults middle new → GoesOn told faults old new
   keeper-then old middle new same first second = record {
     tells = second.tells ∙ first.tells;
     never_falls = let a = first.never_falls in let b = second.never_falls in omega (arith, a, b);

@@ -1,11 +1,10 @@
 -- Saves of edits one after the other (own).
-use Rattle.std.specs.Prelude.{◌≡◌, ◌<◌, ℕ, List, [], ◌∷◌, length, slice_get, take, Option, Some, None, IfSome}
+use Rattle.std.specs.Prelude.{◌≡◌, ℕ, List, [], ◌∷◌, length, slice_get, take, Option, Some, None, IfSome}
 use Rattle.wk_base.specs.Clock.{Ticks}
-use Rattle.wk_page_rules.specs.Verdict.{EditAsked, Verdict, refuse, no_change, accept, Refusal, wiki_full, journal_full}
+use Rattle.wk_page_rules.specs.Verdict.{EditAsked, refuse}
 use Rattle.wk_tool_rules.specs.Saving.{SavesMade, saves_made}
 use Rattle.wk_revs.specs.Verdict.{refusal_of}
 use Rattle.wk_revs.specs.declared.verdict.SaveRefusal.{SaveRefusal}
-use Rattle.wk_revs.specs.declared.verdict.SaveRefusal.TheVariants.{InvalidTitle, ContentTooBig, ArticleExists, MissingTitle, EditConflict, WikiFull, JournalFull, Memory, StoreFault}
 use Rattle.wk_core.specs.Seen.{WikiSeen, verdict_now}
 use Rattle.wk_tools.specs.Lived.{HasMadeEach}
 
@@ -28,22 +27,10 @@ pub record HasSaved {K : Type 0} (old new : WikiSeen K) (edits : List EditAsked)
   pub made : HasMadeEach old new (made_of old edits moments).events
   pub after : new.state ≡ (made_of old edits moments).after
 
--- The first of the edits were saved so, and the next one was refused, where the rules refuse it, for this cause; there is
--- no other cause than that the wiki or its journal is full, that the store failed or that memory ran out.
+-- The first of the edits were saved so, and then the saves ended with this refusal: where the rules have it, the next of the
+-- edits is refused for it.
 pub record IsRefusedAt {K : Type 0} (old new : WikiSeen K) (edits : List EditAsked) (left : Option (List ℕ)) (refusal : SaveRefusal) : Type 0 where
   pub count : ℕ
   pub later : Option (List ℕ)
   pub saved : HasSaved old new (take count edits) left later
   pub cause : IfSome (refusal_of refusal) (λ cause. (edit : EditAsked) × (slice_get edits count ≡ Some edit) × (verdict_now new edit ≡ refuse cause))
-
--- the causes for which an edit is refused that is of a valid title, has a short text and names no base
-abbrev pub IsOfRoom : SaveRefusal → Type 0
-IsOfRoom InvalidTitle = ⊥
-IsOfRoom ContentTooBig = ⊥
-IsOfRoom ArticleExists = ⊥
-IsOfRoom MissingTitle = ⊥
-IsOfRoom (EditConflict current) = ⊥
-IsOfRoom (WikiFull limit) = Unit {0}
-IsOfRoom JournalFull = Unit {0}
-IsOfRoom Memory = Unit {0}
-IsOfRoom StoreFault = Unit {0}
