@@ -154,7 +154,10 @@ pub fn generate<K: Keeper, C: Clock>(
     save_note(wiki, clock)?;
     let mut seed = number;
     'pages: for done in 0..pages {
-        seed = save_page(wiki, pages, done + 1, seed, clock)?;
+        match save_page(wiki, pages, done + 1, seed, clock) {
+            Ok(later) => seed = later,
+            Err(refusal) => return Err(refusal),
+        }
     }
     Ok(())
 }
