@@ -29,11 +29,12 @@ pages-init g c =
     let first = c.save_infobox.new.wiki in
     let later = g.C.Clock.left c.save_infobox.new.clock in
     let saved = c.in_ok-save_infobox.ensures.saved in
-    let second = c.save_note.new.wiki in
-    (behind-note told faults c.args.wiki.now c.args.pages c.args.number left first later saved second (g.C.Clock.left c.save_note.new.clock) c.in_ok-save_note.ensures.saved,
-    c.in_ok-save_note.ensures.unsealed,
-    keeper-on told faults c.args.wiki.now c.args.pages c.args.number left first second (note_save ∷ pages_left c.args.pages 1 c.args.number) later
-    (behind-infobox told faults c.args.wiki.now c.args.pages c.args.number left first later saved) c.in_ok-save_infobox.ensures.keeper c.in_ok-save_note.ensures.keeper)
+    let second = c.save_note.new.wiki in (
+      behind-note told faults c.args.wiki.now c.args.pages c.args.number left first later saved second (g.C.Clock.left c.save_note.new.clock) c.in_ok-save_note.ensures.saved,
+      c.in_ok-save_note.ensures.unsealed,
+      keeper-on told faults c.args.wiki.now c.args.pages c.args.number left first second (note_save ∷ pages_left c.args.pages 1 c.args.number) later
+          (behind-infobox told faults c.args.wiki.now c.args.pages c.args.number left first later saved) c.in_ok-save_infobox.ensures.keeper c.in_ok-save_note.ensures.keeper,
+    )
 
 pub returns-in-Err-clause-refused : goal.returns-in-Err-clause-refused
 returns-in-Err-clause-refused g c =
@@ -50,9 +51,10 @@ pages-preserved g c =
     let told = g.K.Keeper.told in
     let faults = g.K.Keeper.faults in
     let left = g.C.Clock.left c.args.clock.now in
-    let between = g.C.Clock.left c.pages.clock in
-    (behind-page told faults c.args.wiki.now c.args.pages c.args.number left c.pages.wiki c.pages.done c.pages.seed between c.pages-test.true c.pages.invariant.0 c.save_page.new.wiki c.in-Ok.later
-    (g.C.Clock.left c.save_page.new.clock) c.in-Ok.ensures.seed c.in-Ok.ensures.saved,
-    c.in-Ok.ensures.unsealed,
-    keeper-on told faults c.args.wiki.now c.args.pages c.args.number left c.pages.wiki c.save_page.new.wiki (pages_left c.args.pages (c.pages.done + 1) c.pages.seed) between c.pages.invariant.0 c.pages.invariant.2
-    c.in-Ok.ensures.keeper)
+    let between = g.C.Clock.left c.pages.clock in (
+      behind-page told faults c.args.wiki.now c.args.pages c.args.number left c.pages.wiki c.pages.done c.pages.seed between c.pages-test.true c.pages.invariant.0 c.save_page.new.wiki c.in-Ok.later
+          (g.C.Clock.left c.save_page.new.clock) c.in-Ok.ensures.seed c.in-Ok.ensures.saved,
+      c.in-Ok.ensures.unsealed,
+      keeper-on told faults c.args.wiki.now c.args.pages c.args.number left c.pages.wiki c.save_page.new.wiki (pages_left c.args.pages (c.pages.done + 1) c.pages.seed) between c.pages.invariant.0 c.pages.invariant.2
+          c.in-Ok.ensures.keeper,
+    )
