@@ -1,0 +1,71 @@
+-- Pages that are generated, one after the other.
+use Rattle.std.proofs.Common.{◌≡◌, ℕ, suc, ◌+◌, ◌-◌, ◌≤◌, ◌<◌, List, [], ◌∷◌, ◌++◌, length, take, Option, Some, None, refl, sym, ap, ◌∙◌, subst, append_assoc, arith}
+use Rattle.std.specs.Prelude.{IfSome, slice_get}
+use Rattle.std.specs.List.{range_with_len}
+use Rattle.std.proofs.lemmas.List.{append-nil, take_at}
+use Rattle.wk_table_rules.specs.Rows.{StoreTables}
+use Rattle.wk_page_rules.specs.Verdict.{EditAsked, MostHeld, Refusal, refuse}
+use Rattle.wk_tool_rules.specs.Generator.{generated, page_drawn, page_saves}
+use Rattle.wk_revs.specs.Verdict.{refusal_of}
+use Rattle.wk_revs.specs.declared.verdict.SaveRefusal.{SaveRefusal}
+use Rattle.wk_core.specs.Seen.{WikiSeen, verdict_now}
+use Rattle.wk_core.specs.Steps.{HasMadeNothing}
+use Rattle.wk_tools.specs.Generating.{IsGenerating, Refuses, SavesNext, infobox_save, note_save, page_save, pages_left}
+use Rattle.wk_tools.specs.Saves.{HasSaved, IsRefusedAt}
+use Rattle.wk_tools.proofs.SavesPush.{saved-more, saved-none, saved-same}
+
+pub pages-next : (pages page seed : ℕ) → page < pages → pages_left pages (page + 1) seed ≡ page_save pages (page + 1) seed ∷ pages_left pages (page + 1 + 1) (page_drawn pages (page + 1) seed).seed
+pages-next pages page seed below =
+    let more : pages + 1 - (page + 1) ≡ suc (pages + 1 - (page + 1 + 1)) = omega arith in
+    ap (λ n. page_saves pages (range_with_len (page + 1) n) seed) more
+
+pub pages-none : (pages page seed : ℕ) → pages ≤ page → pages_left pages (page + 1) seed ≡ []
+pages-none pages page seed past =
+    let none : pages + 1 - (page + 1) ≡ 0 = omega arith in
+    ap (λ n. page_saves pages (range_with_len (page + 1) n) seed) none
+
+pub generated-is : (pages number : ℕ) → generated pages number ≡ infobox_save ∷ note_save ∷ pages_left pages 1 number
+unfolding generated
+generated-is pages number =
+    let same : pages ≡ pages + 1 - 1 = omega arith in
+    ap (λ n. infobox_save ∷ note_save ∷ page_saves pages (range_with_len 1 n) number) same
+
+get-at : (xs : List EditAsked) (x : EditAsked) (ys : List EditAsked) → slice_get (xs ++ x ∷ ys) (length xs) ≡ Some x
+get-at [] x ys = refl
+get-at (y ∷ xs) x ys = get-at xs x ys
+
+module _ {K : Type 0} (told : K → Option StoreTables) where
+  pub generating-begin : (wiki : WikiSeen K) (whole : List EditAsked) (left : Option (List ℕ)) → IsGenerating wiki wiki whole whole left left
+  generating-begin wiki whole left = record { edits = []; saved = saved-none told wiki left; all = refl }
+
+  module _ (old middle new : WikiSeen K) (whole rest : List EditAsked) (left between : Option (List ℕ)) where
+    pub generating-more : (edit : EditAsked) (later : Option (List ℕ)) → IsGenerating old middle whole (edit ∷ rest) left between → SavesNext told middle new edit between later → IsGenerating old new whole rest left later
+    generating-more edit later before next = record {
+      edits = before.edits ++ edit ∷ [];
+      saved = saved-more told old middle new before.edits edit left between later next.moment before.saved next.ticks next.outcome next.some next.happened;
+      all = append_assoc before.edits (edit ∷ []) rest ∙ before.all;
+    }
+
+    pub generating-refused : (edit : EditAsked) (refusal : SaveRefusal) → IsGenerating old middle whole (edit ∷ rest) left between → Refuses told middle new edit refusal → IsRefusedAt old new whole left refusal
+    generating-refused edit refusal before refuses =
+        let saved = saved-same told old middle new before.edits left between before.saved refuses.nothing in
+        let first : take (length before.edits) whole ≡ before.edits = ap (take (length before.edits)) (sym before.all) ∙ take_at before.edits (edit ∷ rest) (length before.edits) refl in
+        let there : slice_get whole (length before.edits) ≡ Some edit = ap (λ edits. slice_get edits (length before.edits)) (sym before.all) ∙ get-at before.edits edit rest in
+        record {
+          count = length before.edits;
+          later = between;
+          saved = subst (λ edits. HasSaved old new edits left between) (sym first) saved;
+          cause = by (refusal_of refusal) refuses.cause there;
+        }
+      where
+        same : verdict_now new edit ≡ verdict_now middle edit
+        same = ap (λ (w : WikiSeen K). verdict_now w edit) refuses.nothing.wiki
+
+        by : (o : Option Refusal) → IfSome o (λ cause. verdict_now middle edit ≡ refuse cause) → slice_get whole (length before.edits) ≡ Some edit
+            → IfSome o (λ cause. (e : EditAsked) × (slice_get whole (length before.edits) ≡ Some e) × (verdict_now new e ≡ refuse cause))
+        by None cause there = cause
+        by (Some r) cause there = (edit, there, same ∙ cause)
+
+  pub generating-all : (old new : WikiSeen K) (whole rest : List EditAsked) (left later : Option (List ℕ)) → rest ≡ [] → IsGenerating old new whole rest left later → HasSaved old new whole left later
+  generating-all old new whole rest left later none generating =
+      subst (λ edits. HasSaved old new edits left later) (sym (append-nil generating.edits) ∙ (ap (λ r. generating.edits ++ r) (sym none) ∙ generating.all)) generating.saved
