@@ -1,10 +1,11 @@
 -- What the rounds of a drain keep, and that they come to an end.
-use Rattle.std.proofs.Common.{◌≡◌, ◌⊎◌, ℕ, ◌+◌, ◌-◌, ◌*◌, ◌≤◌, ◌<◌, Bool, true, false, cond, leb, List, [], ◌∷◌, ◌++◌, length, map, min, Option, Some, None, refl, sym, ap, ◌∙◌, inl, inr, subst, arith}
-use Rattle.std.specs.Prelude.{IsSome, count_by, find, is_none, is_some, option_map, slice_get, sum_by}
+use Rattle.std.proofs.Common.{◌≡◌, ◌≢◌, ◌⊎◌, ℕ, ◌+◌, ◌-◌, ◌*◌, ◌≤◌, ◌<◌, Bool, true, false, cond, leb, List, [], ◌∷◌, ◌++◌, length, map, min, Option, Some, None, refl, sym, ap, ◌∙◌, inl, inr, subst, arith}
+use Rattle.std.specs.Prelude.{IfNone, IsSome, count_by, find, is_none, is_some, option_map, slice_get, sum_by}
 use Rattle.std.proofs.lemmas.Bool.{cases_Bool, leb-true, ltb-true}
 use Rattle.std.proofs.lemmas.List.{append-nil, length-map}
 use Rattle.std.proofs.lemmas.List.Sorted.{length_permutation}
 use Rattle.std.proofs.lemmas.List.Sums.{sum_by-cons}
+use Rattle.wk_base.specs.Faults.{Rose}
 use Rattle.wk_page_rules.specs.Verdict.{MostHeld, max_job}
 use Rattle.wk_table_rules.specs.Rows.{StoreTables}
 use Rattle.wk_job_rules.specs.Jobs.{FanEntry, JobLists, RefreshEntry, first_fan, first_queued, is_claimed, is_queued, queued_again}
@@ -25,8 +26,9 @@ use Rattle.wk_core.specs.Seen.{WikiSeen, is_claim_refused_now, is_fan_refused_no
 use Rattle.wk_core.specs.Steps.{GoesOn, HasMade, HasMadeNothing}
 use Rattle.wk_tools.specs.Drains.{CanBeFull, HasNoJob}
 use Rattle.wk_tools.specs.Lived.{HasMadeEach, has_save}
-use Rattle.wk_tools.specs.Rounds.{Drains, EndsBy, GoesOnBy, IsFull, IsRound, Renews, by_fan, by_refresh, by_renewal, with_nothing, with_return}
+use Rattle.wk_tools.specs.Rounds.{Drains, EndsBy, GoesOnBy, IsFull, IsRound, Renews, renewed, by_fan, by_refresh, by_renewal, with_nothing, with_return}
 use Rattle.wk_tools.specs.declared.drains.DrainEnd.{DrainEnd}
+use Rattle.wk_tools.specs.declared.drains.DrainEnd.TheVariants as end
 use Rattle.wk_tools.proofs.FanWork.{fan-works, work}
 use Rattle.wk_tools.proofs.LivesOn.{lives-events, lives-renewed, same-life}
 use Rattle.wk_tools.proofs.RefreshWork.{back-jobs, done-jobs, fewer-left}
@@ -131,7 +133,7 @@ reopened-none : (state : State) → HasNoJob state → HasNoJob (reopened state)
 reopened-none state none = record { refreshes = ap (λ jobs. map queued_again (by_number (λ (job : RefreshEntry). job.number) jobs)) none.refreshes; fans = none.fans }
 
 module _ {K : Type 0} (told : K → Option StoreTables) (faults : K → ℕ) where
-  same-keeper : (wiki : WikiSeen K) → GoesOn told faults wiki wiki
+  pub same-keeper : (wiki : WikiSeen K) → GoesOn told faults wiki wiki
   same-keeper wiki = record { tells = refl; never_falls = omega arith; whole = λ is. refl }
 
   pub keeper-then : (old middle new : WikiSeen K) → middle.start.whole ≡ old.start.whole → GoesOn told faults old middle → GoesOn told faults middle new → GoesOn told faults old new
@@ -271,3 +273,79 @@ module _ {K : Type 0} where
       let empty : length new.journal ≡ 0 = ap (λ (w : WikiSeen K). length w.journal) is.is in
       let some = is.some in
       omega (arith, same, empty, some)
+
+-- ---- what one round answers
+
+pub nothing-same : {K : Type 0} (told : K → Option StoreTables) (old new : WikiSeen K) → new ≡ old → HasMadeNothing told old new
+nothing-same told old new same = record {
+  wiki = subst (λ (w : WikiSeen _). w ≡ record old { keeper = w.keeper }) (sym same) refl;
+  tables = ap (λ (w : WikiSeen _). told w.keeper) same;
+}
+
+module _ {K : Type 0} (told : K → Option StoreTables) (faults : K → ℕ) where
+  goes-same : (old new : WikiSeen K) → new.keeper ≡ old.keeper → GoesOn told faults old new
+  goes-same old new same = record {
+    tells = ap (λ k. is_some (told k)) same;
+    never_falls = let e = ap faults same in omega (arith, e);
+    whole = λ is. ap faults same;
+  }
+
+  pub round-goes : (old new : WikiSeen K) → GoesOnBy old new → GoesOn told faults old new → IsRound told faults old new None
+  round-goes old new goes keeper = record {
+    goes = goes;
+    ends = λ some. absurd (let e : false ≡ true = some in cc);
+    done = λ e. absurd cc;
+    full = λ e. absurd cc;
+    fault = λ e. absurd cc;
+    keeper = keeper;
+  }
+
+  pub round-faults : (old new : WikiSeen K) → EndsBy told old new → Rose (faults old.keeper) (faults new.keeper) → GoesOn told faults old new → IsRound told faults old new (Some end.StoreFault)
+  round-faults old new ends rose keeper = record {
+    goes = tt;
+    ends = λ some. ends;
+    done = λ e. absurd cc;
+    full = λ e. absurd cc;
+    fault = λ e. rose;
+    keeper = keeper;
+  }
+
+  pub round-lacks : (old new : WikiSeen K) → EndsBy told old new → GoesOn told faults old new → IsRound told faults old new (Some end.Memory)
+  round-lacks old new ends keeper = record {
+    goes = tt;
+    ends = λ some. ends;
+    done = λ e. absurd cc;
+    full = λ e. absurd cc;
+    fault = λ e. absurd cc;
+    keeper = keeper;
+  }
+
+  pub round-done : (wiki : WikiSeen K) → HasNoJob wiki.state → IsRound told faults wiki wiki (Some end.Done)
+  round-done wiki none = record {
+    goes = tt;
+    ends = λ some. with_nothing (nothing-same told wiki wiki refl);
+    done = λ e. none;
+    full = λ e. absurd cc;
+    fault = λ e. absurd cc;
+    keeper = same-keeper told faults wiki;
+  }
+
+  -- where a journal was to begin anew
+  pub round-renews : (old middle new : WikiSeen K) (answer : Option DrainEnd) → HasMadeNothing told old middle → GoesOn told faults old middle → middle.start.whole ≡ old.start.whole
+      → IfNone answer (Renews middle new) → (IsSome answer → new ≡ middle) → (answer ≡ Some end.JournalFull → middle.journal ≡ []) → answer ≢ Some end.Done → answer ≢ Some end.StoreFault → new.keeper ≡ middle.keeper
+      → (old.journal ≡ [] → IsFull old) → IsRound told faults old new answer
+  round-renews old middle new answer nothing goes_on same renews ends full not_done no_fault keeper is_full = record {
+    goes = by answer renews;
+    ends = λ some. with_nothing (subst (λ (w : WikiSeen K). HasMadeNothing told old w) (sym (ends some)) nothing);
+    done = λ e. absurd (not_done e);
+    full = λ e. is_full (sym (ap (λ (w : WikiSeen K). w.journal) nothing.wiki) ∙ full e);
+    fault = λ e. absurd (no_fault e);
+    keeper = keeper-then told faults old middle new same goes_on (goes-same middle new keeper);
+  }
+    where
+      by : (o : Option DrainEnd) → IfNone o (Renews middle new) → IfNone o (GoesOnBy old new)
+      by None is = by_renewal (record {
+        some = let many = ap (λ (w : WikiSeen K). length w.journal) nothing.wiki in let few = is.some in omega (arith, many, few);
+        is = is.is ∙ ap (λ (w : WikiSeen K). record (renewed w) { keeper = new.keeper }) nothing.wiki;
+      })
+      by (Some answer) is = tt

@@ -1,10 +1,7 @@
 //! A check of the link rows of all pages.
-ghost use Rattle.std.specs.Prelude.{◌≡◌, ◌++◌, ◌∷◌, [], ℕ, not, length, IfOk, OnOk, Some, if◌then◌else◌};
-ghost use Rattle.wk_page_rules.specs.History.{Page};
-ghost use Rattle.wk_state_rules.specs.States.{page_at, stored_at, world_of};
+ghost use Rattle.std.specs.Prelude.{◌≡◌, ◌≤◌, ◌++◌, length, IfOk, OnOk};
 ghost use Rattle.wk_state_laws.specs.Kept.{IsKept};
-ghost use Rattle.wk_view_rules.specs.Rows.{rows};
-ghost use Rattle.wk_tool_rules.specs.Checks.{differing, same_rows};
+ghost use Rattle.wk_tool_rules.specs.Checks.{differing};
 ghost use Rattle.wk_tools.specs.Outdated.{is_outdated, title_if};
 
 use crate::drains::KEPT_TREES;
@@ -12,6 +9,7 @@ use std::alloc::Global;
 use wk_core::{Keeper, Live, Wiki};
 use wk_expand::{Root, Trees};
 use wk_index::is_same;
+use wk_life_laws::runs::a_run_keeps_its_form;
 use wk_memory::Memory;
 use wk_present::draft_now;
 use wk_rows::rows;

@@ -24,8 +24,8 @@ pub enum DrainEnd {
     Memory,
 }
 
-/// How many parsed texts a drain keeps.
-const KEPT_TREES: usize = 64;
+/// How many parsed texts are kept while many pages are expanded.
+pub(crate) const KEPT_TREES: usize = 64;
 
 /// Begins the journal anew, where it isn't empty. Answers how the drain ends, where it does.
 fn begin_anew<K: Keeper>(wiki: &mut Wiki<K>) -> Option<DrainEnd>

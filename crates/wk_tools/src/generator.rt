@@ -68,10 +68,8 @@ fn save_next<K: Keeper, C: Clock>(
     ensures fault { result ≡ Err SaveRefusal.StoreFault → Rose (K.faults wiki.old.keeper) (K.faults wiki.new.keeper) }
 {
     let now = clock.now();
-    match wiki.save(edit, now) {
-        Ok(_) => Ok(()),
-        Err(refusal) => Err(refusal),
-    }
+    wiki.save(edit, now)?;
+    Ok(())
 }
 
 /// Saves a page of so many at the clock's next moment, where the draws go on with this number, and gives the number with
