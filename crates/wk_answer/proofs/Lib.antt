@@ -1,3 +1,5 @@
 mod ByNumber
 mod JobCounts
+mod ReadFacts
+mod SaveAnswers
 mod Shown

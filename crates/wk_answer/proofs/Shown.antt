@@ -1,16 +1,14 @@
 -- A draft of the present world shows what the rules show of the page.
-use Rattle.std.proofs.Common.{◌≡◌, ℕ, List, Option, Some, None, refl, sym, ap, ◌∙◌}
+use Rattle.std.proofs.Common.{◌≡◌, ℕ, List, Option, None, sym, ap, ◌∙◌}
 use Rattle.wk_text_rules.specs.Marked.{text_of}
 use Rattle.wk_text_rules.specs.Titles.{PageTitle}
 use Rattle.wk_page_rules.specs.History.{current_revision}
 use Rattle.wk_row_rules.specs.PageRows.{PageRows}
-use Rattle.wk_view_rules.specs.Plans.{Outcome}
 use Rattle.wk_view_rules.specs.Rows.{rows}
-use Rattle.wk_view_rules.specs.Views.{Expanded}
 use Rattle.wk_view_rules.specs.Worlds.{Agrees, World, of_world}
 use Rattle.wk_state_rules.specs.States.{State, world_of}
 use Rattle.wk_wiki_rules.specs.Passes.{drafted_in, shown_number}
-use Rattle.wk_answer_rules.specs.Pages.{PageShown, page_shown, text_shown}
+use Rattle.wk_answer_rules.specs.Pages.{page_shown, text_shown}
 use Rattle.wk_expand.specs.Drafts.{DraftShown}
 use Rattle.wk_present.specs.Drafted.{IsPresent}
 

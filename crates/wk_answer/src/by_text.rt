@@ -7,6 +7,7 @@ ghost use Rattle.wk_answer_rules.specs.ApiErrors.{contenttoobig};
 ghost use Rattle.wk_answer_rules.specs.Pages.{expand_answer, expanded_in, fails, page_shown, parse_answer, parse_entries, shows};
 ghost use Rattle.wk_listings.specs.Replied.{value_at};
 
+use crate::errors::error_reply;
 use serde_json::Value;
 use std::alloc::Global;
 use wk_bytes::Text;
@@ -15,17 +16,17 @@ use wk_listings::{invalid_title, missing_title};
 use wk_live::Live;
 use wk_memory::Memory;
 use wk_present::draft_now;
-use wk_replies::{PageShown, error_reply, expanded, parsed};
+use wk_replies::{PageShown, expanded, parsed};
 use wk_revs::Revs;
 use wk_rows::rows;
 use wk_title::{Title, named};
 
 /// How many bytes a text has at most (own).
-const MAX_TEXT: usize = 2_097_152;
+pub const MAX_TEXT: usize = 2_097_152;
 
 /// The page that a text names: its title, in main by default; none exactly where it names no title, or one in a virtual
 /// namespace.
-fn real_title(alloc: Global, text: &str) -> Result<Option<Title>, Memory>
+pub fn real_title(alloc: Global, text: &str) -> Result<Option<Title>, Memory>
     ensures { IfOk result (λ title. title ≡ real_title text.now) }
 {
     match named(alloc, text, 0)? {
@@ -96,11 +97,11 @@ pub fn parse(
 }
 
 /// The text is longer than any that is kept.
-fn content_too_big(alloc: Global, point: u64) -> Result<Value, Memory>
+pub fn content_too_big(alloc: Global, point: u64) -> Result<Value, Memory>
     ensures { IfOk result (λ v. view v ≡ value_at point (fails contenttoobig)) }
 {
     let info = "The text is longer than 2097152 bytes.";
-    Ok(error_reply(alloc, "contenttoobig", info, point)?)
+    error_reply(alloc, "contenttoobig", info, point)
 }
 
 /// What a text expands to in the place of a title's page: an error where the text is too long.

@@ -3,9 +3,16 @@
 
 mod by_text;
 mod counts;
+mod errors;
 mod reading;
+mod reads;
 mod refusals;
+mod requests;
+mod saved_replies;
+mod saving;
 
+pub use errors::error_reply;
 pub use reading::read_answer;
+pub use reads::read_reply;
 pub use refusals::refused;
-pub use wk_replies::error_reply;
+pub use requests::{act, answer};
