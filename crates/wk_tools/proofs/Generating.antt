@@ -4,12 +4,12 @@ use Rattle.std.specs.Prelude.{IfSome, slice_get}
 use Rattle.std.specs.List.{range_with_len}
 use Rattle.std.proofs.lemmas.List.{append-nil, take_at}
 use Rattle.wk_table_rules.specs.Rows.{StoreTables}
-use Rattle.wk_page_rules.specs.Verdict.{EditAsked, MostHeld, Refusal, refuse}
+use Rattle.wk_page_rules.specs.Verdict.{EditAsked, Refusal, refuse}
 use Rattle.wk_tool_rules.specs.Generator.{generated, page_drawn, page_saves}
 use Rattle.wk_revs.specs.Verdict.{refusal_of}
 use Rattle.wk_revs.specs.declared.verdict.SaveRefusal.{SaveRefusal}
 use Rattle.wk_core.specs.Seen.{WikiSeen, verdict_now}
-use Rattle.wk_core.specs.Steps.{GoesOn, HasMadeNothing}
+use Rattle.wk_core.specs.Steps.{GoesOn}
 use Rattle.wk_wiki_rules.specs.Starts.{Start}
 use Rattle.wk_tools.specs.Generating.{IsGenerating, Refuses, SavesNext, infobox_save, note_save, page_save, pages_left}
 use Rattle.wk_tools.specs.Saves.{HasSaved, IsRefusedAt}

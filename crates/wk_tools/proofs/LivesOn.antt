@@ -1,19 +1,18 @@
 -- Lives one after the other.
-use Rattle.std.proofs.Common.{◌≡◌, ℕ, ◌+◌, Bool, false, ◌||◌, List, [], ◌∷◌, ◌++◌, length, Option, Some, None, refl, sym, ap, ◌∙◌, subst, append_assoc, arith}
+use Rattle.std.proofs.Common.{◌≡◌, Bool, false, ◌||◌, List, [], ◌∷◌, ◌++◌, Option, Some, None, refl, sym, ap, ◌∙◌, append_assoc}
 use Rattle.std.specs.Prelude.{option_and_then}
 use Rattle.std.specs.List.{list_any}
 use Rattle.std.proofs.lemmas.List.{append-nil}
 use Rattle.std.proofs.lemmas.List.Folds.{list_any-append}
-use Rattle.wk_job_rules.specs.Steps.{fan_pages}
 use Rattle.wk_state_rules.specs.States.{State}
 use Rattle.wk_state_rules.specs.Events.{Event}
-use Rattle.wk_state_rules.specs.Lives.{Lives, last_state, reopened, replay}
+use Rattle.wk_state_rules.specs.Lives.{last_state, reopened, replay}
 use Rattle.wk_wiki_rules.specs.Entries.{is_save}
 use Rattle.wk_wiki_rules.specs.Starts.{Start}
 use Rattle.wk_life_laws.specs.Runs.{IsRun}
 use Rattle.wk_life_laws.proofs.RunFacts.{run_replayed}
 use Rattle.wk_core.specs.Seen.{WikiSeen}
-use Rattle.wk_tools.specs.Lived.{HasLived, HasMadeEach, has_save}
+use Rattle.wk_tools.specs.Lived.{HasLived, has_save}
 use Rattle.wk_tools.specs.Rounds.{LivesOn, in_first, in_later, renewed}
 
 -- one life more

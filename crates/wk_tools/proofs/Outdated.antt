@@ -1,16 +1,17 @@
 -- Pages that are gone over one after the other.
-use Rattle.std.proofs.Common.{◌≡◌, ◌≢◌, ℕ, zero, suc, ◌+◌, ◌-◌, ◌≤◌, ◌<◌, Bool, true, false, cond, eqb, not, List, [], ◌∷◌, ◌++◌, length, map, take, Option, Some, None, refl, sym, ap, ◌∙◌, inl, inr, subst, arith}
+use Rattle.std.proofs.Common.{◌≡◌, ◌≢◌, ℕ, zero, suc, ◌+◌, ◌-◌, ◌≤◌, ◌<◌, Bool, true, false, cond, eqb, not, List, [], ◌∷◌, ◌++◌, length, map, take, Some, None, refl, sym, ap, ◌∙◌, inl, inr, arith}
 use Rattle.std.specs.Prelude.{filter, slice_get, IsTrue, ◌↔◌}
 use Rattle.std.specs.List.{enumerate_from}
 use Rattle.std.proofs.lemmas.Bool.{cases_Bool, ne_eqb}
-use Rattle.std.proofs.lemmas.List.{append-nil, append_assoc}
+use Rattle.std.proofs.lemmas.List.{append-nil, append_assoc, take_all}
 use Rattle.wk_text_rules.specs.Titles.{PageTitle}
 use Rattle.wk_page_rules.specs.History.{Page}
-use Rattle.wk_state_rules.specs.States.{State, page_at}
-use Rattle.wk_state_rules.specs.Soundness.{IsCurrent}
+use Rattle.wk_row_rules.specs.PageRows.{PageRows}
+use Rattle.wk_view_rules.specs.Rows.{rows}
+use Rattle.wk_state_rules.specs.States.{State, page_at, stored_at, world_of}
 use Rattle.wk_tool_rules.specs.Checks.{differing, differs}
 use Rattle.wk_tool_laws.proofs.Differing.{current-page, same-page}
-use Rattle.wk_tools.specs.Outdated.{is_outdated, title_if}
+use Rattle.wk_tools.specs.Outdated.{IsPageTitled, is_outdated, title_if}
 
 -- the pages among these that differ, where the first has this number
 abbrev pub found_from : State → ℕ → List Page → List PageTitle
@@ -56,10 +57,38 @@ found-more state place page found now there before is =
     ∙ (ap (λ m. found_from state 1 (take place state.history.pages) ++ title_if (is_outdated state m page.title) page.title) (sym same)
     ∙ (sym (found-next state 1 state.history.pages place page got) ∙ ap (λ m. found_from state 1 (take m state.history.pages)) (sym next))))
 
--- a page differs exactly where its rows aren't current
-pub outdated-is : (state : State) (number : ℕ) (page : Page) (same : Bool) → (IsTrue same ↔ IsCurrent state number page) → not same ≡ is_outdated state number page.title
-outdated-is state number page true both = sym (same-page state number page (both.0 refl))
-outdated-is state number page false both = elim (cases_Bool (differs state (number, page))) [
-  | inl other ↦ sym other
-  | inr current ↦ absurd (let e : false ≡ true = both.1 (current-page state number page current) in cc)
-]
+-- a page's rows are outdated exactly where those that are stored aren't these, which it has now
+pub outdated-is : (state : State) (number : ℕ) (title : PageTitle) (now : PageRows) (same : Bool) → now ≡ rows (world_of state) title → (IsTrue same ↔ (stored_at state number ≡ now)) → not same ≡ is_outdated state number title
+outdated-is state number title now true is both =
+    let page : Page = record { title = title; current = 0 } in
+    sym (same-page state number page (both.0 refl ∙ is))
+outdated-is state number title now false is both =
+    let page : Page = record { title = title; current = 0 } in
+    elim (cases_Bool (differs state (number, page))) [
+      | inl other ↦ sym other
+      | inr current ↦ absurd (let e : false ≡ true = both.1 (current-page state number page current ∙ sym is) in cc)
+    ]
+
+-- ---- pages by their numbers
+
+page-in : (pages : List Page) (k : ℕ) → k < length pages → (page : Page) × (slice_get pages k ≡ Some page)
+page-in [] k within = absurd (omega (arith, within))
+page-in (page ∷ pages) zero within = (page, refl)
+page-in (page ∷ pages) (suc k) within = page-in pages k (omega (arith, within))
+
+-- a page that is there is found
+pub page-there : (state : State) (number : ℕ) → 1 ≤ number → number ≤ length state.history.pages → page_at state.history number ≢ None
+page-there state number some there = λ none.
+    let positive : eqb number 0 ≡ false = ne_eqb number 0 (λ e. omega (arith, e, some)) in
+    let page = page-in state.history.pages (number - 1) (omega (arith, some, there)) in
+    let found : page_at state.history number ≡ Some page.0 = rw positive page.1 in
+    let e : None ≡ Some page.0 = sym none ∙ found in cc
+
+-- one page more, by its title
+pub found-after : (state : State) (place : ℕ) (title : PageTitle) (found now : List PageTitle) → IsPageTitled state (place + 1) title → found ≡ found_from state 1 (take place state.history.pages)
+    → now ≡ found ++ title_if (is_outdated state (place + 1) title) title → now ≡ found_from state 1 (take (place + 1) state.history.pages)
+found-after state place title found now titled before is =
+    found-more state place titled.page found now titled.there before (is ∙ ap (λ t. found ++ title_if (is_outdated state (place + 1) t) t) (sym titled.titled))
+
+pub found-whole : (state : State) (place : ℕ) (found : List PageTitle) → length state.history.pages ≤ place → found ≡ found_from state 1 (take place state.history.pages) → found ≡ differing state
+found-whole state place found past before = before ∙ ap (found_from state 1) (take_all place state.history.pages past)

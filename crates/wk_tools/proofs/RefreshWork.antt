@@ -1,12 +1,12 @@
 -- What a claim does, and the event by which its ticket comes in.
 use Rattle.std.proofs.Common.{◌≡◌, ℕ, ◌+◌, ◌≤◌, ◌<◌, Bool, true, false, cond, eqb, not, List, [], ◌∷◌, ◌++◌, length, map, Option, Some, None, refl, sym, ap, ◌∙◌, inl, inr, subst, append_assoc, arith}
-use Rattle.std.specs.Prelude.{filter, filter_map, find, is_none, nat_eq, option_and_then, option_map}
+use Rattle.std.specs.Prelude.{filter, find, is_none, nat_eq, option_and_then, option_map}
 use Rattle.std.specs.List.{AllByRecursion, IsDistinct, cons_option}
 use Rattle.std.proofs.lemmas.Bool.{cases_Bool, eq-eqb}
 use Rattle.std.proofs.lemmas.List.{append-nil, length-append}
 use Rattle.std.proofs.lemmas.List.Elements.{filter_map-append}
 use Rattle.std.proofs.lemmas.Option.{option_and_then_some}
-use Rattle.wk_job_rules.specs.Jobs.{RefreshEntry, JobLists, IsOneAPage, claimed_by, first_claimed, first_queued, given_back, is_held_by, is_queued, jobs_of, jobs_of_others, page_held_by, queued_again, refresh_dropped}
+use Rattle.wk_job_rules.specs.Jobs.{RefreshEntry, claimed_by, first_claimed, first_queued, given_back, is_held_by, is_queued, jobs_of, jobs_of_others, page_held_by, queued_again, refresh_dropped}
 use Rattle.wk_job_rules.specs.Steps.{fan_pages}
 use Rattle.wk_job_rules.proofs.Lists.{eqb_flips}
 use Rattle.wk_state_rules.specs.States.{State}
@@ -23,7 +23,6 @@ use Rattle.wk_life_laws.proofs.RunTickets.{run_claimed}
 use Rattle.wk_core.specs.Seen.{WikiSeen}
 use Rattle.wk_core.specs.Steps.{HasMade}
 use Rattle.wk_tools.specs.Lived.{HasMadeEach}
-use Rattle.wk_tools.specs.Drains.{HasNoJob}
 
 -- ---- two events
 

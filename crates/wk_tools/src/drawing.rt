@@ -160,8 +160,8 @@ pub fn note_text(alloc: Global) -> Result<String, Memory>
 }
 
 /// What the template of the box begins with.
-const INFOBOX_BEGIN: &str = "<noinclude>{{Infobox|name=Example}}</noinclude><includeonly>'''{{{name|{{PAGENAME}}}}}'''";
+const INFOBOX_BEGIN: &str =
+    "<noinclude>{{Infobox|name=Example}}</noinclude><includeonly>'''{{{name|{{PAGENAME}}}}}'''";
 
 /// The template of the note.
-const NOTE: &str =
-    "<includeonly>[[Category:Notes]]</includeonly>{{#if:{{{1|}}}|({{{1}}})}}";
+const NOTE: &str = "<includeonly>[[Category:Notes]]</includeonly>{{#if:{{{1|}}}|({{{1}}})}}";

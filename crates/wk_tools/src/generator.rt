@@ -100,10 +100,7 @@ fn save_page<K: Keeper, C: Clock>(
 }
 
 /// Saves the template of the box at the clock's next moment.
-fn save_infobox<K: Keeper, C: Clock>(
-    wiki: &mut Wiki<K>,
-    clock: &mut C,
-) -> Result<(), SaveRefusal>
+fn save_infobox<K: Keeper, C: Clock>(wiki: &mut Wiki<K>, clock: &mut C) -> Result<(), SaveRefusal>
     requires { wiki.old.start.sealed ≡ None }
     ensures saved { OnOk result (SavesNext K.told wiki.old wiki.new infobox_save (C.left clock.old) (C.left clock.new)) }
     ensures refused { IfErr result (Refuses K.told wiki.old wiki.new infobox_save) }
@@ -154,7 +151,10 @@ pub fn generate<K: Keeper, C: Clock>(
     save_note(wiki, clock)?;
     let mut seed = number;
     'pages: for done in 0..pages {
-        seed = save_page(wiki, pages, done + 1, seed, clock)?;
+        match save_page(wiki, pages, done + 1, seed, clock) {
+            Ok(later) => seed = later,
+            Err(refusal) => return Err(refusal),
+        }
     }
     Ok(())
 }

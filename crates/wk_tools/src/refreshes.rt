@@ -69,7 +69,10 @@ fn bring_in<K: Keeper>(wiki: &mut Wiki<K>, ticket: Ticket, trees: &mut Trees) ->
 /// keeper's count of faults rose, and `Memory` may come: behind a claim, the job is then queued again. Whatever is answered,
 /// the tickets that are out are those that were: none is left out. What was drafted is never stale, since nothing comes
 /// between.
-pub fn refresh_here<K: Keeper>(wiki: &mut Wiki<K>, trees: &mut Trees) -> Result<bool, RefreshRefusal>
+pub fn refresh_here<K: Keeper>(
+    wiki: &mut Wiki<K>,
+    trees: &mut Trees,
+) -> Result<bool, RefreshRefusal>
     ensures done { result ≡ Ok true → HasMadeEach wiki.old wiki.new (Claim ∷ Done (length wiki.old.journal + 1) ∷ []) }
     ensures queued { result ≡ Ok true → IsSome (first_queued wiki.old.state.jobs) × (is_claim_refused_now wiki.old ≡ false) }
     ensures none { result ≡ Ok false → (first_queued wiki.old.state.jobs ≡ None) × (wiki.new ≡ wiki.old) }

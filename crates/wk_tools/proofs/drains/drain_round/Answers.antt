@@ -1,4 +1,4 @@
-use Rattle.std.proofs.Common.{◌≡◌, refl, ap, arith}
+use Rattle.std.proofs.Common.{refl, ap, arith}
 use Rattle.wk_tools.proofs.Rounds.{claimed-not-empty, no-job, nothing-same, round-done, round-renews, same-keeper, some-queued}
 use Rattle.wk_tools.proofs.drains.drain_round.Goals as goal
 

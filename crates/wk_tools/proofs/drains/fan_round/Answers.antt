@@ -1,4 +1,4 @@
-use Rattle.std.proofs.Common.{◌≡◌, Err, ap}
+use Rattle.std.proofs.Common.{Err, ap}
 use Rattle.wk_core.specs.Seen.{WikiSeen}
 use Rattle.wk_tools.specs.Rounds.{by_fan, with_nothing}
 use Rattle.wk_tools.proofs.Rounds.{fan-full, round-faults, round-goes, round-lacks, round-renews}

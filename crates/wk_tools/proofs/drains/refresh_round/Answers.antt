@@ -14,7 +14,7 @@ ends-by told old new (inr each) = with_return each
 
 pub returns-in-Ok-true : goal.returns-in-Ok-true
 returns-in-Ok-true g c =
-    round-goes g.K.Keeper.told g.K.Keeper.faults c.args.wiki.now c.refresh_here.new.wiki (by_refresh (c.in-Ok-true.ensures.done (ap (λ b. Ok b) c.in-Ok-true.field-0-is))) c.in-Ok-true.ensures.keeper
+    round-goes g.K.Keeper.told g.K.Keeper.faults c.args.wiki.now c.refresh_here.new.wiki (by_refresh (c.in-Ok-true.ensures.done (ap (λ b. Ok b) c.in-Ok-true.field-0-test))) c.in-Ok-true.ensures.keeper
 
 pub returns-in-Err-JournalFull : goal.returns-in-Err-JournalFull
 returns-in-Err-JournalFull g c =

@@ -1,4 +1,4 @@
-use Rattle.std.proofs.Common.{◌≡◌, ◌+◌, ◌∷◌, [], length, arith, rules}
+use Rattle.std.proofs.Common.{◌+◌, ◌∷◌, [], length, arith, rules}
 use Rattle.std.proofs.lemmas.Grind.{common_steps}
 use Rattle.wk_state_rules.specs.Events.{Back, Claim, Done}
 use Rattle.wk_tools.specs.Lived.{HasMadeEach}

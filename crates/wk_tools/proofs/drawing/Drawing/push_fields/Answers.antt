@@ -1,4 +1,4 @@
-use Rattle.std.proofs.Common.{fold, sym, arith}
+use Rattle.std.proofs.Common.{fold, arith}
 use Rattle.wk_tool_rules.specs.Generator.{fields, with_field}
 use Rattle.wk_tools.proofs.Numbers.{fold-end, fold-next}
 use Rattle.wk_tools.proofs.drawing.Drawing.push_fields.Goals as goal
