@@ -11,6 +11,7 @@ mod stores;
 mod texts;
 mod turns;
 mod values;
+mod wikis;
 mod wire;
 
 use cases::{Case, Listing, Reading, Turns, USAGE, chosen};
@@ -22,11 +23,12 @@ use std::sync::Wait;
 use std::thread::Threads;
 use std::{env, io};
 use texts::Sort;
+use wikis::Wiki;
 use wire::Stream;
 use wk_memory::Memory;
 
 /// What is run without words.
-const SMALL: [Case; 24] = [
+const SMALL: [Case; 28] = [
     Case::Turns(Turns {
         turns: 400,
         threads: 4,
@@ -107,6 +109,19 @@ const SMALL: [Case; 24] = [
         pages: 20,
         times: 3,
     }),
+    Case::Wiki(Wiki::Load(20)),
+    Case::Wiki(Wiki::Edits(Listing {
+        pages: 20,
+        times: 10,
+    })),
+    Case::Wiki(Wiki::Refreshes(Listing {
+        pages: 20,
+        times: 10,
+    })),
+    Case::Wiki(Wiki::FirstUsers(Listing {
+        pages: 20,
+        times: 3,
+    })),
 ];
 
 /// The words after the program's name.
@@ -183,6 +198,7 @@ fn worked<R: Threads + Wait + Sync>(
         Case::Claims(listing) => Ok(("claims: jobs", lists::claimed(alloc, listing)?)),
         Case::Users(listing) => Ok(("users: pages", lists::users(alloc, listing)?)),
         Case::Members(listing) => Ok(("members: pages", lists::members(alloc, listing)?)),
+        Case::Wiki(wiki) => wikis::worked(alloc, wiki),
     }
 }
 
