@@ -1,0 +1,86 @@
+//! The errors of lines, and those of the API that lines meet (the codes and texts are own). Each shows the length that the
+//! journal has behind the line.
+ghost use Rattle.std.specs.Prelude.{◌≡◌, IfOk};
+ghost use Rattle.serde_json.specs.View.{view};
+ghost use Rattle.wk_answer_rules.specs.ApiErrors.{api_error, journalfull, nomemory, storefault};
+ghost use Rattle.wk_script_rules.specs.Replies.{badline, kind_name, line_error, linetoolong, needsread, noread, notticket};
+
+use crate::replies::shown_text;
+use serde_json::{Value, json};
+use std::alloc::Global;
+use wk_memory::Memory;
+use wk_replies::error_reply;
+use wk_title::Title;
+use wk_view_rules::Kind;
+
+/// The line has none of the known forms.
+pub fn bad_line(alloc: Global, point: u64) -> Result<Value, Memory>
+    ensures { IfOk result (λ v. view v ≡ (line_error badline point).value) }
+{
+    Ok(error_reply(alloc, "badline", "Unknown line.", point)?)
+}
+
+/// The line has more bytes than a line may have.
+pub fn line_too_long(alloc: Global, point: u64) -> Result<Value, Memory>
+    ensures { IfOk result (λ v. view v ≡ (line_error linetoolong point).value) }
+{
+    let info = "The line is longer than 8388608 bytes.";
+    Ok(error_reply(alloc, "linetoolong", info, point)?)
+}
+
+/// No ticket of this number is out.
+pub fn no_ticket(alloc: Global, point: u64) -> Result<Value, Memory>
+    ensures { IfOk result (λ v. view v ≡ (line_error notticket point).value) }
+{
+    Ok(error_reply(alloc, "notticket", "No such ticket.", point)?)
+}
+
+/// The draft of the ticket has all that it asks for.
+pub fn no_read(alloc: Global, point: u64) -> Result<Value, Memory>
+    ensures { IfOk result (λ v. view v ≡ (line_error noread point).value) }
+{
+    Ok(error_reply(alloc, "noread", "Nothing is left to read.", point)?)
+}
+
+/// How a kind is told.
+pub fn kind_name(kind: Kind) -> &'static str
+    ensures { result.now ≡ kind_name kind }
+{
+    match kind {
+        Kind::View => "view",
+        Kind::Include => "include",
+        Kind::Exists => "exists",
+    }
+}
+
+/// The draft of the ticket still asks for this title.
+pub fn needs_read(alloc: Global, title: &Title, kind: Kind, point: u64) -> Result<Value, Memory>
+    ensures { IfOk result (λ v. view v ≡ (line_error (needsread title.now kind) point).value) }
+{
+    let title = shown_text(alloc, title)?;
+    let kind = kind_name(kind);
+    Ok(
+        json!(in alloc; {"error": {"code": "needsread", "info": "A read is missing.", "kind": kind, "title": &title}, "point": point})?,
+    )
+}
+
+/// The journal has no room for the event.
+pub fn journal_full(alloc: Global, point: u64) -> Result<Value, Memory>
+    ensures { IfOk result (λ v. view v ≡ (api_error journalfull point).value) }
+{
+    Ok(error_reply(alloc, "journalfull", "The journal is full.", point)?)
+}
+
+/// Memory ran out.
+pub fn no_memory(alloc: Global, point: u64) -> Result<Value, Memory>
+    ensures { IfOk result (λ v. view v ≡ (api_error nomemory point).value) }
+{
+    Ok(error_reply(alloc, "nomemory", "Out of memory.", point)?)
+}
+
+/// The store failed.
+pub fn store_fault(alloc: Global, point: u64) -> Result<Value, Memory>
+    ensures { IfOk result (λ v. view v ≡ (api_error storefault point).value) }
+{
+    Ok(error_reply(alloc, "storefault", "The store failed.", point)?)
+}
