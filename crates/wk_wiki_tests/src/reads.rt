@@ -1,0 +1,76 @@
+//! What a wiki is asked, and the line that tells the answer.
+use crate::lines::{answer_line, members_line};
+use std::alloc::Global;
+use std::test::Fail;
+use wk_core::{Keeper, Kind, Reach, Wiki};
+use wk_expand::{Root, Trees};
+use wk_present::draft_now;
+use wk_title::{Title, normalize};
+
+/// How many pages are listed at most.
+const MOST: usize = 9;
+
+/// What a wiki is asked about a title.
+#[derive(Clone, Copy)]
+pub enum Question {
+    /// What the present world answers.
+    World(Kind),
+    /// What its page expands to in the present world.
+    View,
+    /// Which pages include it.
+    Users,
+    /// Which pages link to it.
+    Linking,
+    /// Which pages it has as a category, by which sort keys and prefixes.
+    Members,
+}
+
+/// What the title is answered in the present world.
+fn world<K: Keeper>(
+    alloc: Global,
+    wiki: &Wiki<K>,
+    title: &Title,
+    kind: Kind,
+) -> Result<String, Fail> {
+    let answer = wiki.fetch(title, kind)?;
+    answer_line(alloc, &answer)
+}
+
+/// What the title's page expands to in the present world.
+fn view<K: Keeper>(alloc: Global, wiki: &Wiki<K>, title: &Title) -> Result<String, Fail> {
+    let mut trees = Trees::new(alloc, 1)?;
+    let draft = draft_now(alloc, wiki.live(), title, &Root::Page, &mut trees)?;
+    Ok(String::from_str(alloc, draft.out().text())?)
+}
+
+fn users<K: Keeper>(alloc: Global, wiki: &Wiki<K>, title: &Title) -> Result<String, Fail> {
+    let pages = wiki.users(title, Reach::Text, 0, MOST)?;
+    Ok(format!(in alloc; "{pages:?}")?)
+}
+
+fn linking<K: Keeper>(alloc: Global, wiki: &Wiki<K>, title: &Title) -> Result<String, Fail> {
+    let pages = wiki.linking_pages(title, 0, MOST)?;
+    Ok(format!(in alloc; "{pages:?}")?)
+}
+
+fn members<K: Keeper>(alloc: Global, wiki: &Wiki<K>, title: &Title) -> Result<String, Fail> {
+    let members = wiki.members(title, 0, MOST)?;
+    members_line(alloc, members.as_slice())
+}
+
+/// The line of what is answered about the title that the text names.
+pub fn ask<K: Keeper>(
+    alloc: Global,
+    wiki: &Wiki<K>,
+    question: Question,
+    title: &str,
+) -> Result<String, Fail> {
+    let title = normalize(alloc, title, 0)?;
+    match question {
+        Question::World(kind) => world(alloc, wiki, &title, kind),
+        Question::View => view(alloc, wiki, &title),
+        Question::Users => users(alloc, wiki, &title),
+        Question::Linking => linking(alloc, wiki, &title),
+        Question::Members => members(alloc, wiki, &title),
+    }
+}
