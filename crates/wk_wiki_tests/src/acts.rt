@@ -1,7 +1,8 @@
 //! What is done to a wiki, one after the other, and what each step tells.
 ghost use Rattle.std.specs.Prelude.{◌≡◌, None};
 
-use crate::reads::{Question, ask};
+use crate::lines::is_told;
+use crate::reads::{Question, ask, event, left, tables};
 use crate::refreshes::{Then, claim, fan, remove, save};
 use std::alloc::Global;
 use std::test::Fail;
@@ -23,6 +24,12 @@ pub enum Act {
     Renew,
     /// The wiki is asked about a title.
     Ask(Question, &'static str),
+    /// How many jobs stand.
+    Left,
+    /// The entry of the journal with this number.
+    Event(u64),
+    /// How many rows the tables have.
+    Count,
 }
 
 /// An act, what it tells, and the point at which the wiki stands behind it.
@@ -49,6 +56,9 @@ pub fn perform<K: Keeper>(alloc: Global, wiki: &mut Wiki<K>, act: &Act) -> Resul
         Act::Fan => fan(alloc, wiki),
         Act::Renew => renew(alloc, wiki),
         Act::Ask(question, title) => ask(alloc, wiki, *question, title),
+        Act::Left => left(alloc, wiki),
+        Act::Event(number) => event(alloc, wiki, *number),
+        Act::Count => tables(alloc, wiki),
     }
 }
 
@@ -60,9 +70,7 @@ pub fn run<K: Keeper>(alloc: Global, wiki: &mut Wiki<K>, acts: &[Told]) -> Resul
 {
     'acts: for (act, told, point) in acts {
         let line = perform(alloc, wiki, act)?;
-        if line.as_str() != *told {
-            return Err(Fail::new(line));
-        }
+        is_told(line, told)?;
         if wiki.point() != *point {
             return Err(Fail::new(wiki.point()));
         }

@@ -99,3 +99,11 @@ pub fn members_line(alloc: Global, members: &[MemberPage]) -> Result<String, Fai
     }
     Ok(line)
 }
+
+/// Whether the line is this one. A failure shows the line.
+pub fn is_told(line: String, told: &str) -> Result<(), Fail> {
+    if line.as_str() == told {
+        return Ok(());
+    }
+    Err(Fail::new(line))
+}

@@ -1,11 +1,12 @@
 //! Stores of version 1.
-use crate::acts::{Act, Told, run};
-use crate::opening::{failing, opened};
+use crate::acts::{Act, Told};
+use crate::lines::is_told;
+use crate::opening::{failing, kept, refused, run_over};
 use crate::refreshes::Then;
 use std::alloc::Global;
 use std::test::Fail;
 use wk_bytes::Text;
-use wk_core::{Keeper, Limits, LoadCause, Tables, Wiki};
+use wk_core::{Limits, Tables};
 use wk_keeper::MemKeeper;
 use wk_memory::Memory;
 use wk_tables::{LinkRow, PageRow, RevisionRow, TableRows};
@@ -46,44 +47,24 @@ fn old_tables(alloc: Global) -> Result<Tables, Memory> {
     Tables::from_rows(alloc, rows)
 }
 
-/// The version of the tables, and how many rows they have of pages, redirects and jobs.
-fn counted(tables: &Tables) -> Result<(u64, usize, usize, usize), Memory> {
-    let rows = tables.rows()?;
-    Ok((
-        rows.version,
-        rows.pages.len(),
-        rows.redirects.len(),
-        rows.jobs.len(),
-    ))
-}
-
 /// The page that had no job is refreshed.
-static REFRESHED: [Told; 1] = [(Act::Claim(Then::Finish), "1 A done", 2)];
+static MIGRATED: [Told; 3] = [
+    (Act::Count, "2: 1 1 1 0 1", 0),
+    (Act::Claim(Then::Finish), "1 A done", 2),
+    (Act::Count, "2: 1 1 1 1 0", 2),
+];
 
 #[test]
 fn a_store_of_version_one_is_migrated(rt: HostRuntime) -> Result<(), Fail> {
     let alloc = rt.alloc();
     let keeper = MemKeeper::new(old_tables(alloc)?);
-    let mut wiki = opened(alloc, keeper, Limits::FULL)?;
-    assert_eq!(rt; counted(&wiki.tables()?), Ok((2, 1, 0, 1)));
-    run(alloc, &mut wiki, &REFRESHED)?;
-    assert_eq!(rt; counted(&wiki.tables()?), Ok((2, 1, 1, 0)));
-    let mut keeper = wiki.release();
-    assert_eq!(rt; counted(&keeper.load()?), Ok((2, 1, 1, 0)));
-    Ok(())
+    let keeper = run_over(alloc, keeper, Limits::FULL, &MIGRATED)?;
+    is_told(kept(alloc, keeper)?, "2: 1 1 1 1 0")
 }
 
 #[test]
 fn a_migration_that_fails_changes_nothing(rt: HostRuntime) -> Result<(), Fail> {
     let alloc = rt.alloc();
-    let keeper = failing(alloc, old_tables(alloc)?, 2)?;
-    match Wiki::load(alloc, keeper, Limits::FULL) {
-        Ok(_) => Err(Fail::from("the store didn't fail")),
-        Err(refusal) => {
-            assert_eq!(rt; refusal.cause, LoadCause::StoreFault);
-            let mut keeper = refusal.keeper;
-            assert_eq!(rt; counted(&keeper.load()?), Ok((1, 1, 0, 0)));
-            Ok(())
-        }
-    }
+    let keeper = refused(alloc, failing(alloc, old_tables(alloc)?, 2)?)?;
+    is_told(kept(alloc, keeper)?, "1: 1 1 1 0 0")
 }

@@ -2,7 +2,7 @@
 use crate::lines::{answer_line, members_line};
 use std::alloc::Global;
 use std::test::Fail;
-use wk_core::{Keeper, Kind, Reach, Wiki};
+use wk_core::{Keeper, Kind, Reach, Tables, Wiki};
 use wk_expand::{Root, Trees};
 use wk_present::draft_now;
 use wk_title::{Title, normalize};
@@ -56,6 +56,35 @@ fn linking<K: Keeper>(alloc: Global, wiki: &Wiki<K>, title: &Title) -> Result<St
 fn members<K: Keeper>(alloc: Global, wiki: &Wiki<K>, title: &Title) -> Result<String, Fail> {
     let members = wiki.members(title, 0, MOST)?;
     members_line(alloc, members.as_slice())
+}
+
+/// How many jobs stand: those that wait, those that are claimed, and fan jobs.
+pub fn left<K: Keeper>(alloc: Global, wiki: &Wiki<K>) -> Result<String, Fail> {
+    let left = wiki.left();
+    let (queued, claimed, fans) = (left.queued, left.claimed, left.fans);
+    Ok(format!(in alloc; "{queued} {claimed} {fans}")?)
+}
+
+/// The entry of the journal with this number.
+pub fn event<K: Keeper>(alloc: Global, wiki: &Wiki<K>, number: u64) -> Result<String, Fail> {
+    match wiki.event(number) {
+        Some(entry) => Ok(format!(in alloc; "{entry:?}")?),
+        None => Ok(String::from_str(alloc, "none")?),
+    }
+}
+
+/// The version of the tables, and how many rows they have of pages, revisions, links, redirects and jobs.
+pub fn counted(alloc: Global, tables: &Tables) -> Result<String, Fail> {
+    let version = tables.version();
+    let rows = tables.rows()?;
+    let (pages, revisions) = (rows.pages.len(), rows.revisions.len());
+    let (links, redirects, jobs) = (rows.pagelinks.len(), rows.redirects.len(), rows.jobs.len());
+    Ok(format!(in alloc; "{version}: {pages} {revisions} {links} {redirects} {jobs}")?)
+}
+
+pub fn tables<K: Keeper>(alloc: Global, wiki: &Wiki<K>) -> Result<String, Fail> {
+    let tables = wiki.tables()?;
+    counted(alloc, &tables)
 }
 
 /// The line of what is answered about the title that the text names.

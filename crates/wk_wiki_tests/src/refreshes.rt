@@ -88,7 +88,10 @@ fn drafted<K: Keeper>(alloc: Global, wiki: &Wiki<K>, ticket: &Ticket) -> Result<
 {
     a_draft_stays_fit();
     let mut trees = Trees::new(alloc, 1)?;
-    draft_now(alloc, wiki.live(), ticket.title(), &Root::Page, &mut trees)
+    match draft_now(alloc, wiki.live(), ticket.title(), &Root::Page, &mut trees) {
+        Ok(draft) => Ok(draft),
+        Err(memory) => Err(memory),
+    }
 }
 
 /// Finishes the refresh of a ticket by this draft.
@@ -107,29 +110,25 @@ fn finish<K: Keeper>(
     finished_line(alloc, line?.as_str(), &answer)
 }
 
-/// Finishes the refresh of a ticket by a draft of the present, behind which an edit is saved.
+/// Finishes the refresh of a ticket, behind whose draft an edit is saved where there is one.
 fn finish_behind<K: Keeper>(
     alloc: Global,
     wiki: &mut Wiki<K>,
     ticket: Ticket,
     draft: Draft,
-    title: &str,
-    text: &str,
+    edit: Option<&Edit>,
 ) -> Result<String, Fail>
     requires unsealed { wiki.old.start.sealed ≡ None }
     requires out { IsOut wiki.old.state ticket }
     requires draft { IsDraftFor wiki.old.state ticket draft }
     ensures { wiki.new.start ≡ wiki.old.start }
 {
-    match edit(alloc, title, text, None) {
-        Ok(edit) => {
-            let _ = saved(wiki, &edit);
+    match edit {
+        Some(edit) => {
+            let _ = saved(wiki, edit);
             finish(alloc, wiki, ticket, draft)
         }
-        Err(memory) => {
-            wiki.give_back(ticket);
-            Err(Fail::from(memory))
-        }
+        None => finish(alloc, wiki, ticket, draft),
     }
 }
 
@@ -138,17 +137,35 @@ fn refresh<K: Keeper>(
     alloc: Global,
     wiki: &mut Wiki<K>,
     ticket: Ticket,
-    behind: Option<(&'static str, &'static str)>,
+    edit: Option<&Edit>,
 ) -> Result<String, Fail>
     requires unsealed { wiki.old.start.sealed ≡ None }
     requires out { IsOut wiki.old.state ticket }
     ensures { wiki.new.start ≡ wiki.old.start }
 {
     match drafted(alloc, wiki, &ticket) {
-        Ok(draft) => match behind {
-            Some((title, text)) => finish_behind(alloc, wiki, ticket, draft, title, text),
-            None => finish(alloc, wiki, ticket, draft),
-        },
+        Ok(draft) => finish_behind(alloc, wiki, ticket, draft, edit),
+        Err(memory) => {
+            wiki.give_back(ticket);
+            Err(Fail::from(memory))
+        }
+    }
+}
+
+/// Drafts the ticket's page, saves a page with this text, and then finishes the refresh.
+fn refresh_behind<K: Keeper>(
+    alloc: Global,
+    wiki: &mut Wiki<K>,
+    ticket: Ticket,
+    title: &str,
+    text: &str,
+) -> Result<String, Fail>
+    requires unsealed { wiki.old.start.sealed ≡ None }
+    requires out { IsOut wiki.old.state ticket }
+    ensures { wiki.new.start ≡ wiki.old.start }
+{
+    match edit(alloc, title, text, None) {
+        Ok(edit) => refresh(alloc, wiki, ticket, Some(&edit)),
         Err(memory) => {
             wiki.give_back(ticket);
             Err(Fail::from(memory))
@@ -178,7 +195,7 @@ fn spend<K: Keeper>(
 {
     match then {
         Then::Finish => refresh(alloc, wiki, ticket, None),
-        Then::FinishBehind(title, text) => refresh(alloc, wiki, ticket, Some((*title, *text))),
+        Then::FinishBehind(title, text) => refresh_behind(alloc, wiki, ticket, title, text),
         Then::GiveBack => give_back(alloc, wiki, ticket),
     }
 }

@@ -1,14 +1,23 @@
 //! Runs of a wiki: what is done, what each step tells, and the point behind it. The expected lines follow from the rules
 //! by hand.
-ghost use Rattle.std.specs.Prelude.{◌≡◌, None};
+ghost use Rattle.wk_revs.specs.Edit.{most_held};
+ghost use Rattle.wk_core.specs.Limits.{AreWithinFull};
 
-use crate::acts::{Act, Told, run};
-use crate::opening::{empty, failing, opened, reopened};
+use crate::acts::{Act, Told};
+use crate::opening::{failing, new_store, run_over, run_with_users};
 use crate::reads::Question;
-use crate::refreshes::{Then, claim, save};
+use crate::refreshes::Then;
 use std::alloc::Global;
 use std::test::Fail;
-use wk_core::{Entry, Keeper, Kind, Limits, Tables, Wiki};
+use wk_core::{Kind, Limits, Tables};
+
+/// Does these things over a new store.
+fn run_new(alloc: Global, limits: Limits, acts: &[Told]) -> Result<(), Fail>
+    requires { AreWithinFull (most_held limits) }
+{
+    let _ = run_over(alloc, new_store(alloc), limits, acts)?;
+    Ok(())
+}
 
 /// A template is saved between the draft of a page that includes it and the end of that refresh.
 static RACE: [Told; 14] = [
@@ -50,9 +59,7 @@ static RACE: [Told; 14] = [
 
 #[test]
 fn a_refresh_that_is_overtaken_is_stale(rt: HostRuntime) -> Result<(), Fail> {
-    let alloc = rt.alloc();
-    let mut wiki = empty(alloc, Limits::FULL)?;
-    run(alloc, &mut wiki, &RACE)
+    run_new(rt.alloc(), Limits::FULL, &RACE)
 }
 
 /// A page that appears and goes reaches the pages that test its existence.
@@ -72,9 +79,7 @@ static EXISTENCE: [Told; 11] = [
 
 #[test]
 fn a_page_that_appears_reaches_those_that_test_it(rt: HostRuntime) -> Result<(), Fail> {
-    let alloc = rt.alloc();
-    let mut wiki = empty(alloc, Limits::FULL)?;
-    run(alloc, &mut wiki, &EXISTENCE)
+    run_new(rt.alloc(), Limits::FULL, &EXISTENCE)
 }
 
 /// A wiki of one page, and saves that name the revision with which they began.
@@ -102,9 +107,7 @@ fn a_wiki_of_one_page_takes_no_other(rt: HostRuntime) -> Result<(), Fail> {
         pages: 1,
         ..Limits::FULL
     };
-    let alloc = rt.alloc();
-    let mut wiki = empty(alloc, limits)?;
-    run(alloc, &mut wiki, &ONE_PAGE)
+    run_new(rt.alloc(), limits, &ONE_PAGE)
 }
 
 /// A journal of three events is full: a claim wants room for two, and a save for one.
@@ -136,11 +139,16 @@ fn a_full_journal_is_told_until_a_restart(rt: HostRuntime) -> Result<(), Fail> {
         journal: 3,
         ..Limits::FULL
     };
-    let alloc = rt.alloc();
-    let mut wiki = empty(alloc, limits)?;
-    run(alloc, &mut wiki, &FULL_JOURNAL)?;
-    let mut wiki = empty(alloc, limits)?;
-    run(alloc, &mut wiki, &FULL_FOR_A_FAN)
+    run_new(rt.alloc(), limits, &FULL_JOURNAL)
+}
+
+#[test]
+fn a_full_journal_has_no_room_for_a_fan(rt: HostRuntime) -> Result<(), Fail> {
+    let limits = Limits {
+        journal: 3,
+        ..Limits::FULL
+    };
+    run_new(rt.alloc(), limits, &FULL_FOR_A_FAN)
 }
 
 /// A ticket that is given back stands behind the others.
@@ -152,10 +160,14 @@ static GIVEN_BACK: [Told; 5] = [
     (Act::Claim(Then::GiveBack), "7 A", 8),
 ];
 
-static RENEWED: [Told; 1] = [(Act::Renew, "renewed", 0)];
-
-/// Behind a restart jobs wait in the order in which they were made, and tickets count from 1.
-static RESTARTED: [Told; 2] = [
+/// Behind a restart jobs wait in the order in which they were made, and tickets count from 1: whether the store is read
+/// again or not.
+static RESTARTED: [Told; 7] = [
+    (Act::Left, "2 0 0", 0),
+    (Act::Count, "2: 2 2 0 0 2", 0),
+    (Act::Claim(Then::GiveBack), "1 A", 2),
+    (Act::Renew, "renewed", 0),
+    (Act::Left, "2 0 0", 0),
     (Act::Claim(Then::GiveBack), "1 A", 2),
     (Act::Claim(Then::Finish), "3 B done", 4),
 ];
@@ -163,15 +175,9 @@ static RESTARTED: [Told; 2] = [
 #[test]
 fn a_restart_begins_a_journal(rt: HostRuntime) -> Result<(), Fail> {
     let alloc = rt.alloc();
-    let mut wiki = empty(alloc, Limits::FULL)?;
-    run(alloc, &mut wiki, &GIVEN_BACK)?;
-    run(alloc, &mut wiki, &RENEWED)?;
-    run(alloc, &mut wiki, &RESTARTED)?;
-    let mut wiki = empty(alloc, Limits::FULL)?;
-    run(alloc, &mut wiki, &GIVEN_BACK)?;
-    let mut wiki = reopened(alloc, wiki)?;
-    assert_eq!(rt; (wiki.left().queued, wiki.page_count()), (2, 2));
-    run(alloc, &mut wiki, &RESTARTED)
+    let keeper = run_over(alloc, new_store(alloc), Limits::FULL, &GIVEN_BACK)?;
+    let _ = run_over(alloc, keeper, Limits::FULL, &RESTARTED)?;
+    Ok(())
 }
 
 /// The store fails at the second change.
@@ -206,8 +212,8 @@ static FAILED_FAN: [Told; 5] = [
 /// Does these things over a new store, of which the call with this number fails.
 fn run_failing(alloc: Global, call: u64, acts: &[Told]) -> Result<(), Fail> {
     let keeper = failing(alloc, Tables::new(alloc), call)?;
-    let mut wiki = opened(alloc, keeper, Limits::FULL)?;
-    run(alloc, &mut wiki, acts)
+    let _ = run_over(alloc, keeper, Limits::FULL, acts)?;
+    Ok(())
 }
 
 #[test]
@@ -219,21 +225,8 @@ fn a_store_that_fails_loses_nothing(rt: HostRuntime) -> Result<(), Fail> {
     run_failing(alloc, 5, &FAILED_FAN)
 }
 
-/// The pages from N1 on, so many, which include a template and are refreshed.
-fn save_users<K: Keeper>(alloc: Global, wiki: &mut Wiki<K>, users: u32) -> Result<(), Fail>
-    requires { wiki.old.start.sealed ≡ None }
-    ensures { wiki.new.start.sealed ≡ None }
-{
-    'users: for user in 1..=users {
-        let title = format!(in alloc; "N{user}")?;
-        let _ = save(alloc, wiki, &title, "{{T}}", None)?;
-        let _ = claim(alloc, wiki, &Then::Finish)?;
-    }
-    Ok(())
-}
-
 /// A template with 301 users changes, and once more before each of them is served.
-static MANY_USERS: [Told; 6] = [
+static MANY_USERS: [Told; 7] = [
     (
         Act::Save("Template:T", "1"),
         "new Template:T 302 0 302",
@@ -248,21 +241,18 @@ static MANY_USERS: [Told; 6] = [
     (Act::Fan, "fan Template:T 300 0", 907),
     (Act::Fan, "fan Template:T 1 1", 908),
     (Act::Fan, "none", 908),
+    (Act::Left, "302 0 0", 908),
 ];
 
 #[test]
 fn a_fan_serves_three_hundred_pages_at_most(rt: HostRuntime) -> Result<(), Fail> {
     let alloc = rt.alloc();
-    let mut wiki = empty(alloc, Limits::FULL)?;
-    save_users(alloc, &mut wiki, 301)?;
-    run(alloc, &mut wiki, &MANY_USERS)?;
-    let left = wiki.left();
-    assert_eq!(rt; (left.queued, left.claimed, left.fans), (302, 0, 0));
+    let _ = run_with_users(alloc, new_store(alloc), 301, &MANY_USERS)?;
     Ok(())
 }
 
 /// Links and categories are listed once the page is refreshed.
-static LISTED: [Told; 7] = [
+static LISTED: [Told; 10] = [
     (
         Act::Save(
             "P",
@@ -276,6 +266,9 @@ static LISTED: [Told; 7] = [
     (Act::Ask(Question::Users, "Template:T"), "[1]", 3),
     (Act::Ask(Question::Linking, "B"), "[1]", 3),
     (Act::Ask(Question::Linking, "Category:X"), "[1]", 3),
+    (Act::Event(3), "Done(2)", 3),
+    (Act::Event(4), "none", 3),
+    (Act::Count, "2: 1 1 3 0 0", 3),
     (
         Act::Ask(Question::Members, "Category:X"),
         "1 by \"P\" with \"\";",
@@ -285,9 +278,5 @@ static LISTED: [Told; 7] = [
 
 #[test]
 fn links_and_members_are_listed(rt: HostRuntime) -> Result<(), Fail> {
-    let alloc = rt.alloc();
-    let mut wiki = empty(alloc, Limits::FULL)?;
-    run(alloc, &mut wiki, &LISTED)?;
-    assert_eq!(rt; wiki.event(3), Some(Entry::Done(2)));
-    Ok(())
+    run_new(rt.alloc(), Limits::FULL, &LISTED)
 }
