@@ -1,16 +1,14 @@
 -- Tickets that are held over a save.
-use Rattle.std.proofs.Common.{◌≡◌, ◌≢◌, ℕ, List, length, Option, Some, None, sym, subst, ap}
+use Rattle.std.proofs.Common.{◌≡◌, ◌≢◌, ℕ, length, Option, sym, subst, ap}
 use Rattle.std.specs.Prelude.{Result, Ok, Err, OnOk, OnErr}
 use Rattle.wk_page_rules.specs.Verdict.{Verdict, accept, no_change, refuse}
 use Rattle.wk_table_rules.specs.Rows.{StoreTables}
 use Rattle.wk_job_rules.specs.Steps.{fan_pages}
 use Rattle.wk_state_rules.specs.States.{State}
-use Rattle.wk_state_rules.specs.Events.{Event, Save, Done, Back, step}
+use Rattle.wk_state_rules.specs.Events.{Event, Save, Done, Back}
 use Rattle.wk_state_rules.specs.Verdicts.{event_of}
 use Rattle.wk_state_laws.proofs.HonestReads.{IsHonest-stepped}
-use Rattle.wk_wiki_rules.specs.Claims.{ClaimOutcome}
 use Rattle.wk_life_laws.specs.Runs.{IsRun}
-use Rattle.wk_expand.specs.Drafts.{DraftShown}
 use Rattle.wk_core.specs.Seen.{WikiSeen}
 use Rattle.wk_core.specs.Steps.{HasMade, HasMadeAtMost, HasMadeNothing}
 use Rattle.wk_core.specs.Tickets.{IsDraftFor, IsOut}
