@@ -18,7 +18,7 @@ use Rattle.wk_life_laws.proofs.RunFacts.{run_honest, run_kept, run_present, run_
 use Rattle.wk_expand.specs.Drafts.{DraftShown}
 use Rattle.wk_core.specs.Seen.{WikiSeen}
 use Rattle.wk_core.specs.Steps.{HasMade, HasMadeAtMost, HasMadeNothing}
-use Rattle.wk_core.specs.Tickets.{IsOut}
+use Rattle.wk_core.specs.Tickets.{IsDraftFor, IsOut}
 use Rattle.wk_core.specs.declared.outcomes.ClaimRefusal.{ClaimRefusal}
 use Rattle.wk_turn.specs.Journal.{IsOpen, added}
 use Rattle.wk_turn.specs.Told.{Begun, IsOf, Story}
@@ -40,6 +40,18 @@ claimed-number state point ticket is = by (first_queued state.jobs) is
         let same : ticket ≡ record { ticket = point + 1; title = title_at state.history page } = cc in
         let number : ticket.ticket ≡ point + 1 = ap (λ (t : ClaimOutcome). t.ticket) same in
         omega (arith, number)
+
+module _ {K : Type 0} (is_whole : K → Bool) (shared : Begun Start) (old mid : Story Start Event) (wiki : WikiSeen K) (taken : IsTaken is_whole shared old mid wiki) where
+  run-taken : IsRun shared.start wiki.journal wiki.state
+  run-taken = subst (λ (s : Start). IsRun s wiki.journal wiki.state) taken.start taken.run
+
+  -- a ticket that the pass held is out in the wiki that it has taken
+  pub out-taken : (ticket : ClaimOutcome) → HoldsTicket shared.start old ticket → IsOut wiki.state ticket
+  out-taken ticket holds = out-later shared.start old wiki.journal wiki.state ticket run-taken taken.seen holds (taken.still_open (ticket.ticket - 1) holds.claim)
+
+  -- and a draft that was fit for it is fit there
+  pub fit-taken : (ticket : ClaimOutcome) (draft : DraftShown) → HoldsDraft shared.start old ticket draft → IsDraftFor wiki.state ticket draft
+  fit-taken ticket draft holds = fit-later shared.start old wiki.journal wiki.state ticket run-taken taken.seen draft holds
 
 module _ {K : Type 0} (told : K → Option StoreTables) (is_whole : K → Bool) (shared : Begun Start) (old mid : Story Start Event) (wiki after : WikiSeen K) (taken : IsTaken is_whole shared old mid wiki) where
   -- what is asked where the wiki is given back
@@ -77,7 +89,7 @@ module _ {K : Type 0} (told : K → Option StoreTables) (is_whole : K → Bool) 
       has-seen = record {
         turn = (ap (λ (p : Story Start Event). p.turn) given.pass ∙ (ap (λ (p : Story Start Event). p.turn) taken.pass ∙ of.0), ap (λ (p : Story Start Event). p.start) given.pass ∙ (ap (λ (p : Story Start Event). p.start) taken.pass ∙ of.1));
         free = ap (λ (p : Story Start Event). p.held) given.pass;
-        point = given.point ∙ ap length (sym seen-is);
+        tells = given.tells ∙ ap length (sym seen-is);
         seen = subst (IsPrefix old.seen) (sym journal-is) (prefix_trans old.seen wiki.journal (wiki.journal ++ option_to_list out.event) taken.seen (option_to_list out.event, refl));
         state = after.state;
         run = run-is;
@@ -100,9 +112,7 @@ module _ {K : Type 0} (told : K → Option StoreTables) (is_whole : K → Bool) 
         opened = taken.still_open (ticket.ticket - 1) holds.claim
 
         out-then : IsOut wiki.state ticket
-        out-then =
-            let run : IsRun shared.start wiki.journal wiki.state = subst (λ (s : Start). IsRun s wiki.journal wiki.state) taken.start taken.run in
-            out-later shared.start old wiki.journal wiki.state ticket run taken.seen holds opened
+        out-then = out-taken is_whole shared old mid wiki taken ticket holds
 
         out-now : (event : Option Event) → HasMadeAtMost told wiki after event → LeavesOut ticket event → IsOut after.state ticket
         out-now None made leaves = subst (λ (s : State). IsOut s ticket) (sym (ap (λ (w : WikiSeen K). w.state) made.wiki)) out-then
@@ -156,6 +166,13 @@ module _ {K : Type 0} (told : K → Option StoreTables) (is_whole : K → Bool) 
             seen = run_present shared.start new.seen after.state run-is;
             out = out_now;
           }
+
+      pub claimed-held : (answer : Result (Option ClaimOutcome) ClaimRefusal) → IfOk answer (λ ticket. ticket ≡ claim_outcome wiki.state (length wiki.journal))
+          → IfOk answer (λ ticket. IfSome ticket (λ _. HasMade wiki after Claim)) → IfOk answer (λ ticket. IfSome ticket (λ held. IsOut after.state held))
+          → IfOk answer (λ ticket. IfSome ticket (HoldsTicket shared.start new))
+      claimed-held (Ok None) claimed made out_now = tt
+      claimed-held (Ok (Some ticket)) claimed made out_now = holds-claimed ticket claimed made out_now
+      claimed-held (Err refusal) claimed made out_now = tt
 
 -- ---- over calls
 

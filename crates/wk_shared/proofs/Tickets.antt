@@ -60,11 +60,11 @@ out-over start state last before [] ticket one none were done formed apart out =
 out-over start state last before (event ∷ events) ticket one none were done formed apart out =
     option_and_then_some (λ next. replay_from fan_pages next (length before + 1) events) (step_by fan_pages state (length before) event) last done
     (λ next stepped later.
-      let longer = length-append before (event ∷ []) in
-      let there : length before + 1 ≡ length (before ++ event ∷ []) = omega (arith, longer) in
-      out-over start next last (before ++ event ∷ []) events ticket one none (replay-push fan_pages start state next before event were stepped)
-      (subst (λ n. replay_from fan_pages next n events ≡ Some last) there later) (IsWellFormed-step fan_pages state next (length before) event stepped formed)
-      (λ k e at. apart (suc k) e at) (out-step start state next before event ticket one none were stepped formed (apart zero event refl) out))
+    let longer = length-append before (event ∷ []) in
+    let there : length before + 1 ≡ length (before ++ event ∷ []) = omega (arith, longer) in
+    out-over start next last (before ++ event ∷ []) events ticket one none (replay-push fan_pages start state next before event were stepped)
+    (subst (λ n. replay_from fan_pages next n events ≡ Some last) there later) (IsWellFormed-step fan_pages state next (length before) event stepped formed)
+    (λ k e at. apart (suc k) e at) (out-step start state next before event ticket one none were stepped formed (apart zero event refl) out))
 
 -- ---- of a pass
 

@@ -46,7 +46,7 @@ pub record HoldsDraft (start : Start) (pass : Story Start Event) (ticket : Claim
 pub record HasSeen (shared : Begun Start) (old new : Story Start Event) (point : ℕ) : Type 0 where
   pub turn : IsOf shared new
   pub free : new.held ≡ None
-  pub point : point ≡ length new.seen
+  pub tells : point ≡ length new.seen
   pub seen : IsPrefix old.seen new.seen
   pub state : State
   pub run : IsRun shared.start new.seen state

@@ -35,5 +35,5 @@ pub record MakesAtMostOne {K : Type 0} (own : List ℕ) (old new : WikiSeen K) :
 -- The wiki that a pass has given back: the pass has seen its whole journal, and what was added is its own.
 pub record IsGiven {K : Type 0} (old new : Story Start Event) (before after : WikiSeen K) (point : ℕ) : Type 0 where
   pub pass : new ≡ record old { seen = after.journal; own = old.own ++ added before.journal after.journal; held = None }
-  pub point : point ≡ length after.journal
+  pub tells : point ≡ length after.journal
   pub run : IsRun after.start after.journal after.state

@@ -99,9 +99,10 @@ impl<K: Keeper> Shared<K> {
         requires journal { IsPrefix held.before.value.journal held.value.journal }
         requires closes { ClosesOwn closes held.before.value.journal held.value.journal pass.old.own }
         ensures pass { pass.new ≡ record pass.old {
-            seen = held.value.journal;
-            own = pass.old.own ++ added held.before.value.journal held.value.journal;
-            held = None } }
+          seen = held.value.journal;
+          own = pass.old.own ++ added held.before.value.journal held.value.journal;
+          held = None;
+        } }
         ensures seen { IsPrefix pass.old.seen pass.new.seen }
         ensures own { AreOwn closes pass.new.seen pass.new.own }
     {
