@@ -1,5 +1,5 @@
 -- The journal that a call leaves, and the states at its points.
-use Rattle.std.proofs.Common.{◌≡◌, ℕ, zero, suc, ◌+◌, ◌-◌, ◌<◌, ◌≤◌, Bool, List, [], ◌∷◌, ◌++◌, length, take, Option, Some, None, refl, sym, ap, ◌∙◌, subst, arith}
+use Rattle.std.proofs.Common.{◌≡◌, ℕ, suc, ◌+◌, List, [], ◌∷◌, ◌++◌, length, take, Option, Some, None, sym, ap, ◌∙◌, subst, arith}
 use Rattle.std.specs.Prelude.{option_to_list, slice_get}
 use Rattle.std.proofs.lemmas.List.{append-nil}
 use Rattle.std.proofs.Math.Seq.{take-append_seam, take-length}
@@ -11,7 +11,7 @@ use Rattle.wk_state_rules.specs.Lives.{replay, state_at}
 use Rattle.wk_wiki_rules.specs.Entries.{closes}
 use Rattle.wk_wiki_rules.specs.Starts.{Start}
 use Rattle.wk_core.specs.Seen.{WikiSeen}
-use Rattle.wk_core.specs.Steps.{HasMade, HasMadeAtMost, HasMadeNothing}
+use Rattle.wk_core.specs.Steps.{HasMadeAtMost}
 use Rattle.wk_turn.specs.Journal.{ClosesOwn}
 use Rattle.wk_turn.specs.Told.{Story}
 use Rattle.wk_turn.proofs.Closing.{adds_none, adds_one}

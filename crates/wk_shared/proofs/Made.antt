@@ -1,5 +1,5 @@
 -- What a call under the turn is, by what the wiki's call made of the wiki that was taken.
-use Rattle.std.proofs.Common.{◌≡◌, ◌≢◌, ℕ, ◌+◌, ◌-◌, ◌≤◌, Bool, List, [], ◌∷◌, ◌++◌, length, Option, Some, None, refl, sym, ap, ◌∙◌, subst, arith, length-append}
+use Rattle.std.proofs.Common.{◌≡◌, ℕ, ◌+◌, ◌-◌, Bool, List, [], ◌∷◌, ◌++◌, length, Option, Some, None, refl, sym, ap, ◌∙◌, subst, arith, length-append}
 use Rattle.std.specs.Prelude.{option_map, option_to_list, slice_get, Result, Ok, Err, IfOk, IfSome}
 use Rattle.std.proofs.lemmas.List.{append-nil}
 use mathlib.Core.List.{IsPrefix}
@@ -17,7 +17,7 @@ use Rattle.wk_life_laws.specs.Runs.{IsRun}
 use Rattle.wk_life_laws.proofs.RunFacts.{run_honest, run_kept, run_present, run_replayed}
 use Rattle.wk_expand.specs.Drafts.{DraftShown}
 use Rattle.wk_core.specs.Seen.{WikiSeen}
-use Rattle.wk_core.specs.Steps.{HasMade, HasMadeAtMost, HasMadeNothing}
+use Rattle.wk_core.specs.Steps.{HasMade, HasMadeAtMost}
 use Rattle.wk_core.specs.Tickets.{IsDraftFor, IsOut}
 use Rattle.wk_core.specs.declared.outcomes.ClaimRefusal.{ClaimRefusal}
 use Rattle.wk_turn.specs.Journal.{IsOpen, added}

@@ -1,5 +1,5 @@
 -- What each call of the wiki comes to: one event or none, which closes at most what is open, and what is told of it.
-use Rattle.std.proofs.Common.{◌≡◌, ◌≢◌, ℕ, ◌+◌, ◌-◌, ◌≤◌, ◌^◌, Bool, true, false, min, List, [], ◌∷◌, ◌++◌, length, Option, Some, None, refl, sym, ap, ◌∙◌, subst, arith}
+use Rattle.std.proofs.Common.{◌≡◌, ◌≢◌, ℕ, ◌+◌, ◌-◌, ◌≤◌, ◌^◌, Bool, true, false, min, List, length, Option, Some, None, refl, ap, ◌∙◌, subst, arith}
 use Rattle.std.specs.Prelude.{IsSome, IfSome, IfNone, Result, Ok, Err, IfOk, IfErr, OnOk, OnErr, option_map}
 use Rattle.wk_base.specs.Faults.{Rose}
 use Rattle.wk_table_rules.specs.Rows.{StoreTables}
@@ -10,7 +10,7 @@ use Rattle.wk_text_rules.specs.Titles.{PageTitle}
 use Rattle.wk_job_rules.specs.Jobs.{first_fan, first_queued}
 use Rattle.wk_job_rules.specs.Steps.{fan_pages}
 use Rattle.wk_state_rules.specs.States.{State, world_of}
-use Rattle.wk_state_rules.specs.Events.{Event, Save, Claim, Done, Back, Fan}
+use Rattle.wk_state_rules.specs.Events.{Event, Claim, Back, Fan}
 use Rattle.wk_state_rules.specs.Verdicts.{event_of}
 use Rattle.wk_wiki_rules.specs.Claims.{ClaimOutcome, claim_outcome}
 use Rattle.wk_wiki_rules.specs.Entries.{closes}

@@ -1,15 +1,13 @@
 -- Tickets that a pass holds, and drafts that are fit for them, over a longer journal.
-use Rattle.std.proofs.Common.{◌≡◌, ◌≢◌, ℕ, zero, suc, ◌+◌, ◌-◌, ◌<◌, ◌≤◌, List, [], ◌∷◌, ◌++◌, length, Option, Some, None, refl, sym, ap, ◌∙◌, subst, arith, length-append}
+use Rattle.std.proofs.Common.{◌≡◌, ◌≢◌, ℕ, zero, suc, ◌+◌, ◌-◌, List, [], ◌∷◌, ◌++◌, length, Some, refl, sym, ap, ◌∙◌, subst, arith, length-append}
 use Rattle.std.specs.Prelude.{option_and_then, slice_get}
 use Rattle.std.proofs.lemmas.Option.{option_and_then_some}
 use Rattle.std.proofs.Math.Seq.{take-length}
 use mathlib.Core.List.{IsPrefix}
-use Rattle.wk_page_rules.specs.History.{text_of_revision}
-use Rattle.wk_view_rules.specs.Worlds.{IsHonest}
 use Rattle.wk_job_rules.specs.Jobs.{IsOneAPage}
 use Rattle.wk_job_rules.specs.Steps.{fan_pages}
 use Rattle.wk_state_rules.specs.States.{State}
-use Rattle.wk_state_rules.specs.Events.{Event, Done, Back, step_by}
+use Rattle.wk_state_rules.specs.Events.{Event, step_by}
 use Rattle.wk_state_rules.specs.Lives.{replay, replay_from}
 use Rattle.wk_state_laws.specs.WellFormed.{IsWellFormed}
 use Rattle.wk_state_laws.proofs.Formed.{IsWellFormed-step}

@@ -1,5 +1,5 @@
 -- Calls of a shared wiki, as the pass of the caller tells them (own). A point is the length of a journal.
-use Rattle.std.specs.Prelude.{◌≡◌, ◌≢◌, ℕ, ◌+◌, ◌-◌, ◌≤◌, ◌^◌, Bool, true, List, [], ◌∷◌, ◌++◌, length, slice_get, Option, Some, None, IfSome}
+use Rattle.std.specs.Prelude.{◌≡◌, ◌≢◌, ℕ, ◌+◌, ◌-◌, ◌≤◌, ◌^◌, Bool, true, [], ◌∷◌, ◌++◌, length, slice_get, Option, Some, None, IfSome}
 use mathlib.Core.List.{IsPrefix}
 use Rattle.wk_state_rules.specs.States.{State}
 use Rattle.wk_state_rules.specs.Events.{Event}
