@@ -1,0 +1,4 @@
+pub mod Journals
+pub mod Tickets
+pub mod Outcomes
+pub mod Made
