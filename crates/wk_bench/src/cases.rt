@@ -3,7 +3,6 @@ ghost use Rattle.std.specs.Prelude.{◌<◌, ◌≤◌, IfSome};
 
 use crate::drafts::{Page, page_named};
 use crate::texts::{Sort, sort_named};
-use crate::wikis::{Wiki, wiki_asked};
 use crate::wire::{Stream, stream_named};
 
 /// What is done.
@@ -81,8 +80,6 @@ pub enum Case {
     Users(Listing),
     /// The members of a category are listed so many times.
     Members(Listing),
-    /// Something is done with a whole wiki.
-    Wiki(Wiki),
 }
 
 /// N turns in all, on T threads.
@@ -113,7 +110,7 @@ wk_bench select|atoms|tree|links SORT SIZE ROUNDS, wk_bench same SIZE ROUNDS, wk
 wk_bench expand|cold infobox|calls|nesting|deepest ROUNDS, wk_bench resume|anew TEMPLATES, wk_bench stack ROUNDS, or \
 wk_bench http messages|head|body SIZE PIECE, with SIZE and PIECE up to 16777216, or \
 wk_bench set_page|add_revision TIMES, wk_bench set_rows PAGES TIMES, wk_bench broken PAGES, \
-wk_bench saves|claims|users|members|edits|refreshes|first_users PAGES TIMES, wk_bench store|load PAGES, \
+wk_bench saves|claims|users|members PAGES TIMES, \
 and ROUNDS, TIMES, TEMPLATES and PAGES from 1 to 1000000";
 
 /// The number, where the word is one between these.
@@ -162,7 +159,7 @@ fn same_asked(words: &[String]) -> Option<Case> {
 }
 
 /// The only word behind a case's name, as a number of times or pages.
-pub fn only_asked(words: &[String]) -> Option<u64> {
+fn only_asked(words: &[String]) -> Option<u64> {
     if words.len() != 1 {
         return None;
     }
@@ -180,7 +177,7 @@ fn set_rows_asked(words: &[String]) -> Option<Case> {
 }
 
 /// The pages, and how often something is done with them, that the words behind a case's name ask for.
-pub fn listing_asked(words: &[String]) -> Option<Listing> {
+fn listing_asked(words: &[String]) -> Option<Listing> {
     if words.len() != 2 {
         return None;
     }
@@ -196,7 +193,7 @@ fn lists_asked(name: &str, words: &[String]) -> Option<Case> {
         "claims" => Some(Case::Claims(listing_asked(words)?)),
         "users" => Some(Case::Users(listing_asked(words)?)),
         "members" => Some(Case::Members(listing_asked(words)?)),
-        name => Some(Case::Wiki(wiki_asked(name, words)?)),
+        _ => None,
     }
 }
 

@@ -11,7 +11,6 @@ mod stores;
 mod texts;
 mod turns;
 mod values;
-mod wikis;
 mod wire;
 
 use cases::{Case, Listing, Reading, Turns, USAGE, chosen};
@@ -23,12 +22,11 @@ use std::sync::Wait;
 use std::thread::Threads;
 use std::{env, io};
 use texts::Sort;
-use wikis::Wiki;
 use wire::Stream;
 use wk_memory::Memory;
 
 /// What is run without words.
-const SMALL: [Case; 28] = [
+const SMALL: [Case; 24] = [
     Case::Turns(Turns {
         turns: 400,
         threads: 4,
@@ -109,19 +107,6 @@ const SMALL: [Case; 28] = [
         pages: 20,
         times: 3,
     }),
-    Case::Wiki(Wiki::Load(20)),
-    Case::Wiki(Wiki::Edits(Listing {
-        pages: 20,
-        times: 10,
-    })),
-    Case::Wiki(Wiki::Refreshes(Listing {
-        pages: 20,
-        times: 10,
-    })),
-    Case::Wiki(Wiki::FirstUsers(Listing {
-        pages: 20,
-        times: 3,
-    })),
 ];
 
 /// The words after the program's name.
@@ -198,7 +183,6 @@ fn worked<R: Threads + Wait + Sync>(
         Case::Claims(listing) => Ok(("claims: jobs", lists::claimed(alloc, listing)?)),
         Case::Users(listing) => Ok(("users: pages", lists::users(alloc, listing)?)),
         Case::Members(listing) => Ok(("members: pages", lists::members(alloc, listing)?)),
-        Case::Wiki(wiki) => wikis::worked(alloc, wiki),
     }
 }
 
