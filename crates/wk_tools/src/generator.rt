@@ -133,8 +133,9 @@ fn save_note<K: Keeper, C: Clock>(wiki: &mut Wiki<K>, clock: &mut C) -> Result<(
 /// that are drawn, where the draws begin with this number. The wiki isn't sealed. Each save takes the clock's next moment.
 ///
 /// At Ok all of them were saved, or had changed nothing. A refusal is that of the first edit that was refused, and those
-/// before it were saved: `WikiFull`, `JournalFull`, `StoreFault`, which comes only where the keeper's count of faults rose, or
-/// `Memory`.
+/// before it were saved: one of the rules' where their verdict on that edit is to refuse it so (the edits are made so that
+/// this is `WikiFull` or `JournalFull`, which no clause says), `StoreFault` only where the keeper's count of faults rose, or
+/// `Memory`, which may come.
 pub fn generate<K: Keeper, C: Clock>(
     wiki: &mut Wiki<K>,
     pages: u32,
