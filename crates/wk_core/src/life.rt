@@ -6,6 +6,7 @@ ghost use Rattle.wk_state_rules.specs.Verdicts.{journal_use};
 ghost use Rattle.wk_wiki_rules.specs.Entries.{event_of_entry};
 ghost use Rattle.wk_wiki_rules.specs.Room.{is_claim_refused, tickets_out};
 ghost use Rattle.wk_life_laws.specs.Lives.{IsLife, journal_of};
+ghost use Rattle.wk_revs.specs.Edit.{most_held};
 
 use std::alloc::Global;
 use std::marker::Model;
@@ -58,6 +59,13 @@ impl Life {
     /// The allocator. Takes no memory.
     pub fn allocator(&self) -> Global {
         *self.entries.allocator()
+    }
+
+    /// How much the wiki may hold at most. Takes no memory.
+    pub fn limits(&self) -> Limits
+        ensures { most_held result ≡ self.now.life.limits }
+    {
+        self.limits
     }
 
     /// The journal's length. Takes no memory.

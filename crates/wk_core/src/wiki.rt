@@ -3,6 +3,7 @@ ghost use Rattle.std.specs.Prelude.{◌≡◌, length};
 ghost use Rattle.wk_state_laws.specs.Saves.{Continues, saves};
 ghost use Rattle.wk_call_laws.specs.Sound.{IsSoundSince};
 ghost use Rattle.wk_life_laws.specs.Runs.{IsRun};
+ghost use Rattle.wk_revs.specs.Edit.{most_held};
 ghost use Rattle.wk_core.specs.Seen.{IsTold};
 
 use crate::life::Life;
@@ -10,6 +11,7 @@ use std::alloc::Global;
 use std::marker::Model;
 use wk_keeper::Keeper;
 use wk_live::Live;
+use wk_revs::Limits;
 
 /// A wiki over a store. Contracts see how it began, the journal of what has happened since, its state, and its keeper.
 ///
@@ -55,6 +57,13 @@ impl<K: Keeper> Wiki<K> {
         ensures { result.now.state ≡ self.now.state }
     {
         self.life.live()
+    }
+
+    /// How much the wiki may hold at most. Takes no memory.
+    pub fn limits(&self) -> Limits
+        ensures { most_held result ≡ self.now.start.limits }
+    {
+        self.life.limits()
     }
 
     /// The allocator of what the wiki holds. Takes no memory.
