@@ -31,7 +31,6 @@ use Rattle.wk_expand.specs.declared.drafts.Root.{Root}
 use Rattle.wk_expand.specs.declared.drafts.Root.TheVariants.{Page, Given}
 use Rattle.wk_expand.specs.declared.stack.Turn.{Turn}
 use Rattle.wk_expand.specs.declared.stack.Turn.TheVariants.{On, Done, Needs as NeedsTurn}
-use Rattle.wk_expand.specs.declared.stack.Listing.{Listing}
 use Rattle.wk_expand.specs.declared.stack.Now.{Now}
 use Rattle.wk_expand.specs.declared.stack.Now.TheVariants.{List as ListNow}
 use Rattle.wk_expand.specs.declared.stack.Opened.{Opened}
@@ -84,11 +83,12 @@ whole-list left viewed frame items =
     (λ i progress. plans-ended (rest_list left viewed frame [] items progress) i)
     ∙ sym (list-start left viewed frame items)
 
-pub left-begun : (page : PageTitle) (given : Option (List ℕ)) (text : List ℕ) (before : Seen) (w : Work) (listing : Listing) → IsBegun page (record { mode = mode.View; text = text }) before w.expander → w.opened.items ≡ [] → list_with (record { mode = mode.View; text = text }) listing.list ≡ Some (tree mode.View text) → listing.at ≡ 0 → listing.out ≡ [] → ((later : Seen) → Agrees (of_seen later) before → drafted (of_seen later) page given ≡ run (of_seen later) (text_plan page text) before) → IsLeft page given w (ListNow listing)
+pub left-begun : (page : PageTitle) (given : Option (List ℕ)) (text : List ℕ) (before : Seen) (w : Work) → IsBegun page (record { mode = mode.View; text = text }) before w.expander → w.opened.items ≡ [] → list_with (record { mode = mode.View; text = text }) w.listing.list ≡ Some (tree mode.View text) → w.listing.at ≡ 0 → w.listing.out ≡ [] → ((later : Seen) → Agrees (of_seen later) before → drafted (of_seen later) page given ≡ run (of_seen later) (text_plan page text) before) → IsLeft page given w ListNow
 unfolding text_plan
-left-begun page given text before w listing begun none root start fresh alike =
+left-begun page given text before w begun none root start fresh alike =
     let items = tree mode.View text in
     let s = w.expander in
+    let listing = w.listing in
     let rest : Expansion Output = rest_list most_open s.page [] listing.out (drop listing.at items) >>= give in
     let rest_is : rest ≡ expand most_open page [] items =
     ap₂ (λ (o : Output) (n : ℕ). rest_list most_open s.page [] o (drop n items) >>= give) fresh start
@@ -159,14 +159,14 @@ missing-done seen page reads = refl
 -- what a turn leaves of a draft
 abbrev pub LeftBy : Seen → PageTitle → Option (List ℕ) → Turn → Work → Type 0
 LeftBy seen page given (On next) u = IsLeft page given u next × Agrees (of_seen seen) u.expander.reads
-LeftBy seen page given (Done out) u = drafted (of_seen seen) page given ≡ done (expanded_with out u.expander.counts) u.expander.reads
+LeftBy seen page given Done u = drafted (of_seen seen) page given ≡ done (expanded_with u.listing.out u.expander.counts) u.expander.reads
 LeftBy seen page given (NeedsTurn title kind next) u =
     (needed (drafted (of_seen seen) page given) ≡ Some (title, kind)) × IsLeft page given u next × Agrees (of_seen seen) u.expander.reads
 
 pub turn-left : (seen : Seen) (page : PageTitle) (given : Option (List ℕ)) (w u : Work) (now : Now) (turn : Turn) → (h : IsLeft page given w now) → Agrees (of_seen seen) w.expander.reads → IsTurn seen h.rest w.expander turn u → LeftBy seen page given turn u
 unfolding left-on
 turn-left seen page given w u now (On next) h agrees k = (left-on seen page given w u now next h k.0 agrees k.1 k.2, (k.2 agrees).answered)
-turn-left seen page given w u now (Done out) h agrees k = left-done seen page given w u now h out agrees k
+turn-left seen page given w u now Done h agrees k = left-done seen page given w u now h u.listing.out agrees k
 turn-left seen page given w u now (NeedsTurn title kind next) h agrees k =
     let later = left-on seen page given w u now next h k.0 agrees k.1 k.2 in
     let answered = (k.2 agrees).answered in

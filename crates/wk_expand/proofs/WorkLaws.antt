@@ -20,12 +20,12 @@ use Rattle.wk_expand.specs.Running.{ComesTo, Passes, StopsAt}
 use Rattle.wk_view_rules.specs.declared.Kind.{Kind}
 use Rattle.wk_expand.specs.Stack.{AreWithin, IsExpanded, IsHere, IsNext, IsPlace, LeadsTo, LeadsOn, Place, Waits, text_at, parts_at}
 use Rattle.wk_expand.specs.State.{ShowsFrame, current}
-use Rattle.wk_expand.specs.Work.{Continues, IsAtNode, IsEnded, IsFilled, IsGoing, IsListBehind, IsListing, IsNow, IsOpened, IsTurn, Spot, place_of}
+use Rattle.wk_expand.specs.Work.{Continues, IsAtNode, IsEnded, IsFilled, IsGoing, IsListBehind, IsListing, IsNow, IsOpened, IsPassed, IsTurn, HasOpened, Spot, place_of}
 use Rattle.wk_expand.specs.declared.stack.Listing.{Listing}
 use Rattle.wk_expand.specs.declared.stack.Next.{Next}
 use Rattle.wk_expand.specs.declared.stack.Next.TheVariants.{Gives, Expands, Goes}
 use Rattle.wk_expand.specs.declared.stack.Now.{Now}
-use Rattle.wk_expand.specs.declared.stack.Now.TheVariants.{List as ListNow, Node as NodeNow}
+use Rattle.wk_expand.specs.declared.stack.Now.TheVariants.{List as ListNow, Open as OpenNow, Node as NodeNow}
 use Rattle.wk_expand.specs.declared.stack.Opened.{Opened}
 use Rattle.wk_expand.specs.declared.stack.Pending.{Pending}
 use Rattle.wk_expand.specs.declared.stack.Turn.{Turn}
@@ -44,14 +44,14 @@ use Rattle.wk_expand.proofs.WrittenLaws.{regrouped}
 
 pub turn-behind : (seen : Seen) (e f : Expansion Output) (s t : Expander) (turn : Turn) (w : Work) → Passes seen e s f t → IsTurn seen f t turn w → IsTurn seen e s turn w
 turn-behind seen e f s t (On next) w h k = (k.0, k.1, passes-on seen e f k.0 s t w.expander h k.2)
-turn-behind seen e f s t (Done out) w h k = passes-on seen e f (give out) s t w.expander h k
+turn-behind seen e f s t Done w h k = passes-on seen e f (give w.listing.out) s t w.expander h k
 turn-behind seen e f s t (NeedsTurn title kind next) w h k = (k.0, k.1, passes-on seen e f k.0 s t w.expander h k.2, k.3)
 
 pub turn-as : (seen : Seen) (e f : Expansion Output) (s : Expander) (turn : Turn) (w : Work) → e ≡ f → IsTurn seen f s turn w → IsTurn seen e s turn w
 turn-as seen e f s turn w same k = turn-behind seen e f s s turn w (passes-as seen e f s same) k
 
-pub turn-on : (seen : Seen) (e : Expansion Output) (w : Work) (next : Now) → IsNow w next e → IsTurn seen e w.expander (On next) w
-turn-on seen e w next h = (e, h, passes-as seen e e w.expander refl)
+pub turn-to : (seen : Seen) (e : Expansion Output) (w u : Work) (next : Now) → u.expander ≡ w.expander → IsNow u next e → IsTurn seen e w.expander (On next) u
+turn-to seen e w u next same h = (e, h, subst (λ (s : Expander). Passes seen e w.expander e s) (sym same) (passes-as seen e e w.expander refl))
 
 -- ---- the nodes that are open
 
@@ -209,12 +209,13 @@ module _ (seen : Seen) (w u : Work) (id : NodeId) (behind : Listing) (e : Expans
   node_behind one = rest_list h.left w.expander.page h.frame (behind.out ++ one) (drop behind.at h.items)
 
   -- a node that gives an output at once
-  pub node-gives : (one : Output) → ComesTo seen node_first w.expander (give one) u.expander → IsTurn seen e w.expander (On (ListNow (record { list = behind.list; at = behind.at; out = behind.out ++ one }))) u
-  node-gives one come =
+  pub node-gives : (one : Output) → ComesTo seen node_first w.expander (give one) u.expander → u.listing ≡ record { list = behind.list; at = behind.at; out = behind.out ++ one } → IsTurn seen e w.expander (On ListNow) u
+  node-gives one come listed =
       let rest : Expansion Output = node_behind one >>= h.after in (
         rest,
-        listing-same w u (record { list = behind.list; at = behind.at; out = behind.out ++ one }) rest come.same.page come.same.levels nodes
-            (record { left = h.left; frame = h.frame; shows = h.shows; items = h.items; there = h.there; after = h.after; continues = h.continues; is = refl }),
+        subst (λ (l : Listing). IsListing u l rest) (sym listed)
+            (listing-same w u (record { list = behind.list; at = behind.at; out = behind.out ++ one }) rest come.same.page come.same.levels nodes
+            (record { left = h.left; frame = h.frame; shows = h.shows; items = h.items; there = h.there; after = h.after; continues = h.continues; is = refl })),
         passes-in seen e (node_first >>= (λ out. node_behind out >>= h.after)) rest w.expander u.expander h.is
             (passes-then seen node_first (give one) (λ out. node_behind out >>= h.after) w.expander u.expander come.passes),
       )
@@ -274,16 +275,6 @@ module _ (seen : Seen) (w u : Work) (id : NodeId) (behind : Listing) (e : Expans
 
 -- ---- the innermost node that is open
 
--- it waits
-pub opened-waits : (left : ℕ) (s : Expander) (o : Opened) (step : Output → Expansion Output) → IsOpened left s.page s.levels o step → Waits s o.node o.waiting
-opened-waits left s o step h = record {
-  place = place_of h.spot;
-  is = h.is_place;
-  within = h.within;
-  step = h.step;
-  step_is = h.step_is;
-}
-
 -- what was found for a node that was waiting, or that goes on, comes to a turn
 pub leads-turn : (seen : Seen) (e : Expansion Output) (s : Expander) (u v : Work) (id : NodeId) (behind : Listing) (next : Next) (spot : Spot) (rest : Expansion Output) (one : Output → Expansion Output) (list : IsListBehind spot behind one) (turn : Turn) → e ≡ (rest >>= one) → IsPlace s.page s.levels.root id (place_of spot) → Continues (suc spot.left) s.page spot.home (reverse u.opened.items) list.after → LeadsTo seen (place_of spot) rest s next u.expander → ((f : Expansion Output) → IsGoing u id behind (λ p r. IsNext p u.expander next r) f → IsTurn seen f u.expander turn v) → IsTurn seen e s turn v
 leads-turn seen e s u v id behind next spot rest one list turn same is_place continues h follows =
@@ -304,16 +295,63 @@ pub pushed : {X : Type 0} (xs ys : List X) (x : X) → ys ≡ xs ++ x ∷ [] →
 pushed xs ys x e = ap reverse e ∙ reverse-append xs (x ∷ [])
 
 -- no node is open
-pub ended-done : (seen : Seen) (w u : Work) (out : Output) (e : Expansion Output) → w.opened.items ≡ [] → u.expander ≡ w.expander → IsEnded w out e → IsTurn seen e w.expander (Done out) u
-ended-done seen w u out e none same h =
+pub ended-done : (seen : Seen) (w u : Work) (e : Expansion Output) → w.opened.items ≡ [] → u.expander ≡ w.expander → u.listing ≡ w.listing → IsEnded w w.listing.out e → IsTurn seen e w.expander Done u
+ended-done seen w u e none same listed h =
     let end = subst (λ (nodes : List Opened). Continues h.left w.expander.page w.expander.levels (reverse nodes) h.after) none h.continues in
-    subst (λ (s : Expander). Passes seen e w.expander (give out) s) (sym same)
-    (passes-as seen e (give out) w.expander (h.is ∙ end.1 out))
+    subst (λ (l : Listing). Passes seen e w.expander (give l.out) u.expander) (sym listed)
+    (subst (λ (s : Expander). Passes seen e w.expander (give w.listing.out) s) (sym same)
+    (passes-as seen e (give w.listing.out) w.expander (h.is ∙ end.1 w.listing.out)))
 
 -- the innermost open node
 pub ended-opened : (w : Work) (out : Output) (e : Expansion Output) (o : Opened) (rest : List Opened) → w.opened.items ≡ rest ++ o ∷ [] → (h : IsEnded w out e) → (f : IsOpened h.left w.expander.page w.expander.levels o h.after) × Continues (suc h.left) w.expander.page f.spot.home (reverse rest) f.list.after
 ended-opened w out e o rest items h =
     subst (λ (nodes : List Opened). Continues h.left w.expander.page w.expander.levels nodes h.after) (pushed rest w.opened.items o items) h.continues
+
+module _ (w u : Work) (out : Output) (e : Expansion Output) (o : Opened) (rest : List Opened) (items : w.opened.items ≡ rest ++ o ∷ []) (left : u.opened.items ≡ rest) (behind : u.listing ≡ o.behind) (h : IsEnded w out e) where
+  abbrev top : (f : IsOpened h.left w.expander.page w.expander.levels o h.after) × Continues (suc h.left) w.expander.page f.spot.home (reverse rest) f.list.after
+  top = ended-opened w out e o rest items h
+
+  -- it waits
+  abbrev pub ended-waits : Waits w.expander o.node o.waiting
+  ended-waits = record { place = place_of top.0.spot; is = top.0.is_place; within = top.0.within; step = top.0.step; step_is = top.0.step_is }
+
+  top-continues : Continues (suc top.0.spot.left) w.expander.page top.0.spot.home (reverse u.opened.items) top.0.list.after
+  top-continues =
+      subst (λ (nodes : List Opened). Continues (suc top.0.spot.left) w.expander.page top.0.spot.home (reverse nodes) top.0.list.after) (sym left)
+      (subst (λ (n : ℕ). Continues (suc n) w.expander.page top.0.spot.home (reverse rest) top.0.list.after) (sym top.0.left_is) top.1)
+
+  module _ (seen : Seen) (next : Next) (leads : (k : Waits w.expander o.node o.waiting) → LeadsTo seen k.place (k.step out) w.expander next u.expander) where
+    -- it goes on
+    pub ended-going : (f : Expansion Output) × IsGoing u o.node u.listing (λ p r. IsNext p u.expander next r) f
+    ended-going =
+        let k = leads ended-waits in (
+          k.rest >>= top.0.one,
+          subst (λ (l : Listing). IsGoing u o.node l (λ p r. IsNext p u.expander next r) (k.rest >>= top.0.one)) (sym behind)
+              (going-leads seen (record u { expander = w.expander }) u o.node o.behind next top.0.spot (top.0.step out) top.0.one top.0.list top.0.is_place top-continues refl k),
+        )
+
+    pub ended-turn : (turn : Turn) (v : Work) → ((f : Expansion Output) → IsGoing u o.node u.listing (λ p r. IsNext p u.expander next r) f → IsTurn seen f u.expander turn v) → IsTurn seen e w.expander turn v
+    ended-turn turn v follows =
+        leads-turn seen e w.expander u v o.node o.behind next top.0.spot (top.0.step out) top.0.one top.0.list turn (h.is ∙ top.0.is out) top.0.is_place top-continues
+        (leads ended-waits) (λ f k. follows f (subst (λ (l : Listing). IsGoing u o.node l (λ p r. IsNext p u.expander next r) f) (sym behind) k))
+
+-- another list is kept in the place of the one that is expanded
+pub node-listed : (w : Work) (listing : Listing) (id : NodeId) (behind : Listing) (e : Expansion Output) → IsAtNode w id behind e → IsAtNode (record w { listing = listing }) id behind e
+node-listed w listing id behind e h = record {
+  left = h.left;
+  frame = h.frame;
+  shows = h.shows;
+  node = h.node;
+  node_is = h.node_is;
+  items = h.items;
+  there = h.there;
+  after = h.after;
+  continues = h.continues;
+  is = h.is;
+}
+
+pub ended-listed : (w : Work) (listing : Listing) (out : Output) (e : Expansion Output) → IsEnded w out e → IsEnded (record w { listing = listing }) out e
+ended-listed w listing out e h = record { left = h.left; after = h.after; continues = h.continues; is = h.is }
 
 -- ---- a node that goes on
 
@@ -326,12 +364,69 @@ going-turn seen w u v id behind pending next e rest turn g same nodes h follows 
     leads-turn seen e w.expander u v id behind next g.spot rest g.one g.list turn (g.is ∙ ap (λ (x : Expansion Output). x >>= g.one) same) g.is_place
     (subst (λ (x : List Opened). Continues (suc g.spot.left) w.expander.page g.spot.home x g.list.after) (sym nodes) g.continues) h follows
 
+-- it does next what was found
+pub going-next : (seen : Seen) (w u : Work) (id : NodeId) (behind : Listing) (pending : Pending) (next : Next) (e rest : Expansion Output) (g : IsGoing w id behind (λ p r. IsNext p w.expander (Goes pending) r) e) → reverse u.opened.items ≡ reverse w.opened.items → LeadsTo seen (place_of g.spot) rest w.expander next u.expander → (f : Expansion Output) × IsGoing u id behind (λ p r. IsNext p u.expander next r) f
+going-next seen w u id behind pending next e rest g nodes h =
+    (h.rest >>= g.one, going-leads seen w u id behind next g.spot rest g.one g.list g.is_place g.continues nodes h)
+
 -- an answer is needed, and nothing has changed
-pub going-needs : (seen : Seen) (w u : Work) (id : NodeId) (behind : Listing) (pending : Pending) (title : PageTitle) (kind : Kind) (e rest : Expansion Output) (g : IsGoing w id behind (λ p r. IsNext p w.expander (Goes pending) r) e) → g.rest ≡ rest → u ≡ w → StopsAt seen rest w.expander (Needs title kind) → IsTurn seen e w.expander (NeedsTurn title kind (NodeNow id behind pending)) u
-going-needs seen w u id behind pending title kind e rest g same is stops =
-    subst (λ (x : Work). IsTurn seen e w.expander (NeedsTurn title kind (NodeNow id behind pending)) x) (sym is) (
+pub going-needs : (seen : Seen) (w u : Work) (id : NodeId) (pending : Pending) (title : PageTitle) (kind : Kind) (e rest : Expansion Output) (g : IsGoing w id w.listing (λ p r. IsNext p w.expander (Goes pending) r) e) → g.rest ≡ rest → u ≡ w → StopsAt seen rest w.expander (Needs title kind) → IsTurn seen e w.expander (NeedsTurn title kind (NodeNow id pending)) u
+going-needs seen w u id pending title kind e rest g same is stops =
+    subst (λ (x : Work). IsTurn seen e w.expander (NeedsTurn title kind (NodeNow id pending)) x) (sym is) (
       e,
       g,
       passes-as seen e e w.expander refl,
       stops-as seen e (rest >>= g.one) w.expander (Needs title kind) (g.is ∙ ap (λ (x : Expansion Output). x >>= g.one) same) (stops-bind seen rest g.one w.expander (Needs title kind) stops),
     )
+
+-- ---- what is carried out next
+
+-- the list goes on behind an output
+pub follow-gives : (seen : Seen) (e : Expansion Output) (w u : Work) (id : NodeId) (one : Output) → IsPassed w one u → IsGoing w id w.listing (λ p rest. IsNext p w.expander (Gives one) rest) e → IsTurn seen e w.expander (On ListNow) u
+follow-gives seen e w u id one h g =
+    let next : Listing = record { list = w.listing.list; at = w.listing.at; out = w.listing.out ++ one } in
+    turn-to seen e w u ListNow h.expander
+    (subst (λ (l : Listing). IsListing u l e) (sym h.listing)
+    (listing-same w u next e (ap (λ (s : Expander). s.page) h.expander) (ap (λ (s : Expander). s.levels) h.expander) (ap reverse h.opened) (going-gives w id w.listing one e g)))
+
+-- another list is expanded from its start
+pub follow-expands : (seen : Seen) (e : Expansion Output) (w u : Work) (id : NodeId) (waiting : Waiting) (list : ListId) (before : Output) → HasOpened w id waiting (record { list = list; at = 0; out = before }) u → IsGoing w id w.listing (λ p rest. IsNext p w.expander (Expands waiting list before) rest) e → IsTurn seen e w.expander (On ListNow) u
+follow-expands seen e w u id waiting list before h g =
+    turn-to seen e w u ListNow h.expander
+    (subst (λ (l : Listing). IsListing u l e) (sym h.listing)
+    (going-expands w u id w.listing waiting list before e h.expander (pushed w.opened.items u.opened.items (record { node = id; behind = w.listing; waiting = waiting }) h.opened) g))
+
+-- the items of a list up to the next node, or to its end
+abbrev pub AreFilled : Expander → ListId → Output → ℕ × Option NodeId → Output → Type 0
+AreFilled s list before found new = (items : List Item) → list_with (current s) list ≡ Some items → IsFilled (current s) items 0 before found new
+
+-- another list stands at its first node
+pub expands-node : (seen : Seen) (e : Expansion Output) (w u : Work) (id inner : NodeId) (waiting : Waiting) (list : ListId) (before new : Output) (next : ℕ) → AreFilled w.expander list before (next, Some inner) new → HasOpened w id waiting (record { list = list; at = next; out = new }) u → IsGoing w id w.listing (λ p rest. IsNext p w.expander (Expands waiting list before) rest) e → IsTurn seen e w.expander (On (OpenNow inner)) u
+expands-node seen e w u id inner waiting list before new next filled h g =
+    let start : Listing = record { list = list; at = 0; out = before } in
+    turn-to seen e w u (OpenNow inner) h.expander
+    (subst (λ (l : Listing). IsAtNode u inner l e) (sym h.listing)
+    (listing-node u start inner next new e (subst (λ (s : Expander). AreFilled s list before (next, Some inner) new) (sym h.expander) filled)
+    (going-expands w u id w.listing waiting list before e h.expander (pushed w.opened.items u.opened.items (record { node = id; behind = w.listing; waiting = waiting }) h.opened) g)))
+
+-- a list has no node: the node that waits for it has its output
+abbrev pub expands-waits : (w : Work) (id : NodeId) (waiting : Waiting) (list : ListId) (before : Output) (e : Expansion Output) → IsGoing w id w.listing (λ p rest. IsNext p w.expander (Expands waiting list before) rest) e → Waits w.expander id waiting
+expands-waits w id waiting list before e g = record {
+  place = place_of g.spot;
+  is = g.is_place;
+  within = g.rest_is.within;
+  step = g.rest_is.step;
+  step_is = g.rest_is.step_is;
+}
+
+pub expands-end : (seen : Seen) (e : Expansion Output) (w v : Work) (t : Expander) (id : NodeId) (waiting : Waiting) (list : ListId) (before new : Output) (at : ℕ) (next : Next) (turn : Turn) → AreFilled w.expander list before (at, None) new → ((k : Waits w.expander id waiting) → LeadsTo seen k.place (k.step new) w.expander next t) → ((f : Expansion Output) → IsGoing (record w { expander = t }) id w.listing (λ p r. IsNext p t next r) f → IsTurn seen f t turn v) → IsGoing w id w.listing (λ p rest. IsNext p w.expander (Expands waiting list before) rest) e → IsTurn seen e w.expander turn v
+expands-end seen e w v t id waiting list before new at next turn filled leads follows g =
+    let x = g.rest_is in
+    let u : Work = record w { expander = t } in
+    let same : g.rest ≡ x.step new =
+    x.is
+    ∙ list-begun g.spot.left g.spot.viewed x.frame x.items before x.step
+    ∙ ap (λ (y : Expansion Output). y >>= x.step) (filled x.items x.there g.spot.left g.spot.viewed x.frame)
+    in
+    leads-turn seen e w.expander u v id w.listing next g.spot (x.step new) g.one g.list turn (g.is ∙ ap (λ (y : Expansion Output). y >>= g.one) same) g.is_place g.continues
+    (leads (expands-waits w id waiting list before e g)) follows

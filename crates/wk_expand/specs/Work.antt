@@ -17,9 +17,10 @@ use Rattle.wk_expand.specs.State.{ShowsFrame, current}
 use Rattle.wk_expand.specs.declared.stack.Listing.{Listing}
 use Rattle.wk_expand.specs.declared.stack.Next.TheVariants.{Goes}
 use Rattle.wk_expand.specs.declared.stack.Now.{Now}
-use Rattle.wk_expand.specs.declared.stack.Now.TheVariants.{List as ListNow, Node as NodeNow}
+use Rattle.wk_expand.specs.declared.stack.Now.TheVariants.{List as ListNow, Open as OpenNow, Node as NodeNow}
 use Rattle.wk_expand.specs.declared.stack.Opened.{Opened}
 use Rattle.wk_expand.specs.declared.stack.Turn.{Turn}
+use Rattle.wk_expand.specs.declared.stack.Waiting.{Waiting}
 use Rattle.wk_expand.specs.declared.stack.Turn.TheVariants.{On, Done, Needs as NeedsTurn}
 use Rattle.wk_expand.specs.declared.state.Expander.{Expander}
 use Rattle.wk_expand.specs.declared.state.Stop.TheVariants.{Needs}
@@ -120,14 +121,27 @@ pub record IsAtNode (w : Work) (id : NodeId) (behind : Listing) (e : Expansion O
       ≡ (charged_node left w.expander.page frame node.kind node.content
       >>= (λ one. rest_list left w.expander.page frame (behind.out ++ one) (drop behind.at items) >>= after))
 
+-- the list goes on behind a node that gives this output
+pub record IsPassed (w : Work) (one : Output) (u : Work) : Type 0 where
+  pub expander : u.expander ≡ w.expander
+  pub opened : u.opened.items ≡ w.opened.items
+  pub listing : u.listing ≡ record { list = w.listing.list; at = w.listing.at; out = w.listing.out ++ one }
+
+-- a node is open from now on, behind which the list goes on, and another list is expanded for it
+pub record HasOpened (w : Work) (id : NodeId) (waiting : Waiting) (another : Listing) (u : Work) : Type 0 where
+  pub expander : u.expander ≡ w.expander
+  pub opened : u.opened.items ≡ w.opened.items ++ record { node = id; behind = w.listing; waiting = waiting } ∷ []
+  pub listing : u.listing ≡ another
+
 -- What is left to do is this.
 abbrev pub IsNow : Work → Now → Expansion Output → Type 0
-IsNow w (ListNow listing) e = IsListing w listing e
-IsNow w (NodeNow id behind pending) e = IsGoing w id behind (λ p rest. IsNext p w.expander (Goes pending) rest) e
+IsNow w ListNow e = IsListing w w.listing e
+IsNow w (OpenNow id) e = IsAtNode w id w.listing e
+IsNow w (NodeNow id pending) e = IsGoing w id w.listing (λ p rest. IsNext p w.expander (Goes pending) rest) e
 
 -- A step has come from s so far that what its turn says is left to do.
 abbrev pub IsTurn : Seen → Expansion Output → Expander → Turn → Work → Type 0
 IsTurn seen e s (On next) w = (rest : Expansion Output) × IsNow w next rest × Passes seen e s rest w.expander
-IsTurn seen e s (Done out) w = Passes seen e s (give out) w.expander
+IsTurn seen e s Done w = Passes seen e s (give w.listing.out) w.expander
 IsTurn seen e s (NeedsTurn title kind next) w =
     (rest : Expansion Output) × IsNow w next rest × Passes seen e s rest w.expander × StopsAt seen rest w.expander (Needs title kind)

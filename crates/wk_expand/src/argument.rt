@@ -12,7 +12,7 @@ ghost use Rattle.wk_expand.specs.State.{IsBinding, caller_tree, current};
 use crate::levels::Bound;
 use crate::stack::{Next, Use, Waiting};
 use crate::state::Expander;
-use crate::texts::{node_error, plain};
+use crate::texts::{made_or, node_error, plain, trimmed, trimmed_copy};
 use std::alloc::Global;
 use wk_memory::Memory;
 use wk_out::Out;
@@ -26,8 +26,8 @@ impl Expander {
             → LeadsTo seen p (argument_output p.inner p.viewed p.frame name.now (parts_at p))
             self.old next self.new) }
     {
-        let called = name.trimmed(self.alloc)?;
-        if let Some(bound) = self.look(&called) {
+        let made = trimmed_copy(self.alloc, name)?;
+        if let Some(bound) = self.look(made_or(&made, name)) {
             return Ok(self.value(bound)?);
         }
         if self.tree().parts(node) == 0 {
@@ -59,7 +59,7 @@ pub fn trimmed_if(alloc: Global, named: bool, out: Out) -> Result<Out, Memory>
     ensures { IfOk result (λ given. given ≡ (if named then trimmed_output out else out)) }
 {
     if named {
-        return out.trimmed(alloc);
+        return trimmed(alloc, out);
     }
     Ok(out)
 }

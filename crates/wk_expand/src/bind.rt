@@ -5,6 +5,7 @@ ghost use Rattle.wk_text_rules.specs.Marked.{plain_text_of, trimmed_output};
 ghost use Rattle.wk_expand.specs.Bindings.{named_in};
 
 use crate::levels::Bound;
+use crate::texts::trimmed;
 use std::alloc::Global;
 use wk_args::Args;
 use wk_memory::Memory;
@@ -37,12 +38,12 @@ pub fn bind_number(
 pub fn bind_name(
     alloc: Global,
     args: &mut Args<Bound>,
-    name: &Out,
+    name: Out,
     value: Bound,
 ) -> Result<(), Memory>
-    ensures { OnOk result (args.new ≡ named_in args.old (plain_text_of (trimmed_output name.now)) value) }
+    ensures { OnOk result (args.new ≡ named_in args.old (plain_text_of (trimmed_output name)) value) }
 {
-    let name = name.trimmed(alloc)?;
+    let name = trimmed(alloc, name)?;
     match name.plain_text() {
         Some(text) => bind(args, text, value),
         None => Ok(()),

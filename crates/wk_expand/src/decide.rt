@@ -15,6 +15,7 @@ ghost use Rattle.wk_expand.specs.State.{IsFrame};
 use crate::inclusion::Found;
 use crate::seen::Seen;
 use crate::state::{Expander, Stop};
+use crate::texts::{made_or, trimmed_copy};
 use crate::words::{called_title, first_operand, variable_text};
 use wk_bytes::Text;
 use wk_func::{Func, Word, find};
@@ -124,17 +125,18 @@ impl Expander {
             → Leads seen.now (template_output inner viewed frame name.now parts) self.old
             (decision_rest inner viewed frame name.now parts) result self.new }
     {
-        let title = name.trimmed(self.alloc)?;
-        match find(&title, count == 0) {
+        let made = trimmed_copy(self.alloc, name)?;
+        let title = made_or(&made, name);
+        match find(title, count == 0) {
             Word::Variable(variable) => {
                 let text = variable_text(self.alloc, &self.page, variable)?;
                 Ok(Decision::Gives(text))
             }
             Word::Function(func, place) => {
-                let first = first_operand(self.alloc, &title, place)?;
+                let first = first_operand(self.alloc, title, place)?;
                 self.function(seen, func, first, count)
             }
-            Word::Page => self.called(seen, &title),
+            Word::Page => self.called(seen, title),
         }
     }
 }

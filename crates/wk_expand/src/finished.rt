@@ -34,7 +34,7 @@ impl Expander {
             Waiting::Binding(page, binder, bound) => {
                 let Binder { args, numbered, at } = binder;
                 let mut args = args;
-                bind_name(self.alloc, &mut args, &out, bound)?;
+                bind_name(self.alloc, &mut args, out, bound)?;
                 let binder = Binder { args, numbered, at };
                 Ok(Next::Goes(Pending::Binds(page, binder)))
             }
@@ -42,9 +42,9 @@ impl Expander {
                 let _level = self.levels.leave();
                 Ok(Next::Gives(self.within_inclusion_limit(&title, out)?))
             }
-            Waiting::Bare(search, next) => Ok(self.bare_item(node, search, next, &out)?),
+            Waiting::Bare(search, next) => Ok(self.bare_item(node, search, next, out)?),
             Waiting::Named(search, next, value) => {
-                Ok(self.named_item(node, search, next, value, &out)?)
+                Ok(self.named_item(node, search, next, value, out)?)
             }
         }
     }

@@ -14,6 +14,7 @@ ghost use Rattle.wk_expand.specs.State.{current};
 use crate::search::Search;
 use crate::stack::{Next, Use, Waiting};
 use crate::state::Expander;
+use crate::texts::trimmed;
 use wk_memory::Memory;
 use wk_out::Out;
 use wk_tree::{ListId, NodeId};
@@ -72,17 +73,17 @@ impl Expander {
         node: NodeId,
         search: Search,
         next: usize,
-        out: &Out,
+        out: Out,
     ) -> Result<Next, Memory>
         requires there { IsSome (node_with (current self.now) node) }
         requires default { HasDefault (current self.now) search }
         ensures { IfOk result (λ does. (seen : Answers) (p : Place) → IsHere self.now node p
             → LeadsTo seen p (switch_output p.inner p.viewed p.frame
-            (behind_bare_item (search_of (text_at p) search) (trimmed_output out.now)) (drop next (parts_at p)))
+            (behind_bare_item (search_of (text_at p) search) (trimmed_output out)) (drop next (parts_at p)))
             self.now does self.now) }
     {
         let mut search = search;
-        search.bare(out.trimmed(self.alloc)?);
+        search.bare(trimmed(self.alloc, out)?);
         Ok(self.switch(node, search, next))
     }
 
@@ -93,7 +94,7 @@ impl Expander {
         search: Search,
         next: usize,
         value: ListId,
-        name: &Out,
+        name: Out,
     ) -> Result<Next, Memory>
         requires there { IsSome (node_with (current self.now) node) }
         requires default { HasDefault (current self.now) search }
@@ -101,11 +102,11 @@ impl Expander {
         ensures { IfOk result (λ does. (seen : Answers) (p : Place) (items : List Item) → IsHere self.now node p
             → list_with (text_at p) value ≡ Some items
             → LeadsTo seen p (searched p items (drop next (parts_at p))
-            (behind_turned (named_item search.decides (trimmed_output name.now)) (search_of (text_at p) search) items))
+            (behind_turned (named_item search.decides (trimmed_output name)) (search_of (text_at p) search) items))
             self.now does self.now) }
     {
         let mut search = search;
-        let name = name.trimmed(self.alloc)?;
+        let name = trimmed(self.alloc, name)?;
         if search.named(&name, value) {
             let before = Out::new(self.alloc);
             return Ok(Next::Expands(Waiting::Part(Use::Operand), value, before));

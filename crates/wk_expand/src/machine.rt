@@ -193,12 +193,14 @@ fn go_on(
             Turn::On(next) => {
                 now = next;
             }
-            Turn::Done(out) => {
+            Turn::Done => {
                 let Work {
                     expander,
                     opened: _opened,
+                    listing,
                 } = work;
                 let Expander { counts, reads, .. } = expander;
+                let out = listing.out;
                 return Ok(Driven::Drafted(made(alloc, page, given, out, counts, reads)?));
             }
             Turn::Needs(title, kind, now) => {
@@ -229,12 +231,13 @@ fn expand_text(
     let work = Work {
         expander: at_start(alloc, page, tree, reads)?,
         opened: Vec::new(alloc),
+        listing: Listing {
+            list,
+            at: 0,
+            out: Out::new(alloc),
+        },
     };
-    let now = Now::List(Listing {
-        list,
-        at: 0,
-        out: Out::new(alloc),
-    });
+    let now = Now::List;
     Ok(go_on(alloc, page, given, Begun { work, now }, seen, trees)?)
 }
 

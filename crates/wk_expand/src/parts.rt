@@ -13,7 +13,7 @@ ghost use Rattle.wk_expand.specs.State.{current};
 
 use crate::stack::{Next, Use, Waiting};
 use crate::state::Expander;
-use crate::texts::plain;
+use crate::texts::{plain, trimmed};
 use wk_func::equal;
 use wk_memory::Memory;
 use wk_out::Out;
@@ -114,9 +114,9 @@ impl Expander {
     {
         match used {
             Use::Whole => Ok(Next::Gives(out)),
-            Use::Operand => Ok(Next::Gives(out.trimmed(self.alloc)?)),
+            Use::Operand => Ok(Next::Gives(trimmed(self.alloc, out)?)),
             Use::Second(first) => {
-                let second = out.trimmed(self.alloc)?;
+                let second = trimmed(self.alloc, out)?;
                 Ok(self.compared(node, &first, &second))
             }
             Use::Written(next) => Ok(self.written_from(node, next, out)?),

@@ -111,10 +111,12 @@ pub struct Opened {
 /// What is carried out now.
 #[derive(Drop)]
 pub enum Now {
-    /// A list is expanded.
-    List(Listing),
-    /// A node of a list, whose next item stands behind it, goes on.
-    Node(NodeId, Listing, Pending),
+    /// The list is expanded.
+    List,
+    /// A node is opened, behind which the list's next item stands.
+    Open(NodeId),
+    /// A node goes on, behind which the list's next item stands.
+    Node(NodeId, Pending),
 }
 
 /// What a step comes to.
@@ -122,8 +124,8 @@ pub enum Now {
 pub enum Turn {
     /// This is carried out next.
     On(Now),
-    /// The expansion is done, with this output.
-    Done(Out),
+    /// The expansion is done, with the output of the list.
+    Done,
     /// This title wasn't seen with this kind; this is carried out once it is.
     Needs(Title, Kind, Now),
 }

@@ -7,7 +7,7 @@ ghost use Rattle.wk_view_rules.specs.Expand.{tested_title};
 ghost use Rattle.wk_view_rules.specs.Texts.{variable_text};
 ghost use Rattle.wk_view_rules.specs.Words.{function_called};
 
-use crate::texts::plain;
+use crate::texts::{plain, trimmed};
 use std::alloc::Global;
 use wk_memory::Memory;
 use wk_out::Out;
@@ -93,7 +93,7 @@ pub fn first_operand(alloc: Global, title: &Out, place: usize) -> Result<Out, Me
     ensures { IfOk result (λ out. out ≡ trimmed_output (drop place title.now)) }
 {
     let operand = behind_colon(alloc, title, place)?;
-    operand.trimmed(alloc)
+    trimmed(alloc, operand)
 }
 
 /// The title that an output names, in the default namespace where it names none; none where the output holds a sealed

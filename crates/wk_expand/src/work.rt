@@ -1,21 +1,20 @@
 //! The expansion of a text, one step after another.
-ghost use Rattle.std.specs.Prelude.{◌≡◌, ◌++◌, List, IfOk, IsSome, Some};
+ghost use Rattle.std.specs.Prelude.{◌≡◌, List, IfOk, IsSome, OnOk, Some};
 ghost use Rattle.wk_tree_rules.specs.Trees.{Item as TreeItem};
 ghost use Rattle.wk_tree.specs.Parsed.{list_with, node_with};
 ghost use Rattle.wk_view_rules.specs.Expansions.{Expansion, Output};
 ghost use Rattle.wk_view_rules.specs.Worlds.{Seen as Answers};
 ghost use Rattle.wk_expand.specs.Stack.{IsNext};
 ghost use Rattle.wk_expand.specs.State.{current};
-ghost use Rattle.wk_expand.specs.Work.{IsAtNode, IsEnded, IsFilled, IsGoing, IsListing, IsNow, IsTurn};
-ghost use Rattle.wk_expand.specs.declared.stack.Next.TheVariants.{Goes as GoesNext};
-ghost use Rattle.wk_expand.specs.declared.stack.Now.TheVariants.{List as ListNow};
-ghost use Rattle.wk_expand.specs.declared.stack.Turn.TheVariants.{On as OnTurn};
+ghost use Rattle.wk_expand.specs.Work.{IsAtNode, IsEnded, IsFilled, IsGoing, IsListing, IsNow, IsTurn, HasOpened, IsPassed};
+ghost use Rattle.wk_expand.specs.declared.stack.Next.TheVariants.{Expands as ExpandsNext, Goes as GoesNext};
 
 use crate::seen::Seen;
 use crate::stack::{Listing, Next, Now, Opened, Pending, Turn, Waiting};
 use crate::state::{Expander, Stop};
 use crate::texts::{nesting_error, node_error};
 use crate::trees::Trees;
+use std::mem;
 use wk_memory::Memory;
 use wk_out::Out;
 use wk_tree::{Item, ListId, NodeId};
@@ -30,6 +29,8 @@ pub struct Work {
     pub expander: Expander,
     /// The nodes that are open within each other, the innermost last.
     pub opened: Vec<Opened>,
+    /// The list that is expanded.
+    pub listing: Listing,
 }
 
 impl Expander {
@@ -58,91 +59,147 @@ impl Expander {
     }
 }
 
-/// A list goes on behind a node that gives this output.
-fn passed(behind: Listing, one: &Out) -> Result<Turn, Memory>
-    ensures { IfOk result (λ turn. turn ≡ OnTurn (ListNow (record { list = behind.list; at = behind.at; out = behind.out ++ one.now }))) }
-{
-    let Listing { list, at, out } = behind;
-    let mut out = out;
-    out.append(one)?;
-    Ok(Turn::On(Now::List(Listing { list, at, out })))
-}
-
 impl Work {
+    /// The list goes on behind a node that gives this output.
+    fn passed(&mut self, one: &Out) -> Result<(), Memory>
+        ensures { OnOk result (IsPassed self.old one.now self.new) }
+    {
+        self.listing.out.append(one)?;
+        Ok(())
+    }
+
+    /// A node is open from now on, and waits for the output of this list.
+    fn wait(&mut self, node: NodeId, waiting: Waiting, listing: Listing) -> Result<(), Memory>
+        ensures { OnOk result (HasOpened self.old node waiting listing self.new) }
+    {
+        let behind = mem::replace(&mut self.listing, listing);
+        self.opened.push(Opened {
+            node,
+            behind,
+            waiting,
+        })?;
+        Ok(())
+    }
+
     /// A node does next what is said.
-    fn follow(&mut self, node: NodeId, behind: Listing, next: Next) -> Result<Turn, Memory>
+    fn follow(&mut self, node: NodeId, next: Next) -> Result<Turn, Memory>
         ensures { IfOk result (λ turn. (seen : Answers) (e : Expansion Output)
-            → IsGoing self.old node behind (λ p rest. IsNext p self.old.expander next rest) e
+            → IsGoing self.old node self.old.listing (λ p rest. IsNext p self.old.expander next rest) e
             → IsTurn seen e self.old.expander turn self.new) }
     {
         match next {
-            Next::Gives(one) => Ok(passed(behind, &one)?),
-            Next::Expands(waiting, list, before) => {
-                self.opened.push(Opened {
-                    node,
-                    behind,
-                    waiting,
-                })?;
-                let listing = Listing {
-                    list,
-                    at: 0,
-                    out: before,
-                };
-                Ok(Turn::On(Now::List(listing)))
+            Next::Gives(one) => {
+                self.passed(&one)?;
+                Ok(Turn::On(Now::List))
             }
-            Next::Goes(pending) => Ok(Turn::On(Now::Node(node, behind, pending))),
+            Next::Expands(waiting, list, before) => {
+                let out = before;
+                self.wait(node, waiting, Listing { list, at: 0, out })?;
+                Ok(Turn::On(Now::List))
+            }
+            Next::Goes(pending) => Ok(Turn::On(Now::Node(node, pending))),
         }
     }
 
-    /// A node of a list is opened, or gives an error where it can't be.
-    fn open(&mut self, node: NodeId, behind: Listing) -> Result<Turn, Memory>
-        requires { IsSome (node_with (current self.old.expander) node) }
+    /// A list is expanded for a node, up to the next node in it, which is opened then; a list with none is done with at
+    /// once.
+    fn expand_for(
+        &mut self,
+        node: NodeId,
+        waiting: Waiting,
+        list: ListId,
+        before: Out,
+    ) -> Result<Turn, Memory>
+        requires { (e : Expansion Output) × IsGoing self.old node self.old.listing
+            (λ p rest. IsNext p self.old.expander (ExpandsNext waiting list before) rest) e }
         ensures { IfOk result (λ turn. (seen : Answers) (e : Expansion Output)
-            → IsAtNode self.old node behind e → IsTurn seen e self.old.expander turn self.new) }
+            → IsGoing self.old node self.old.listing
+            (λ p rest. IsNext p self.old.expander (ExpandsNext waiting list before) rest) e
+            → IsTurn seen e self.old.expander turn self.new) }
+    {
+        let mut out = before;
+        let (at, inner) = self.expander.fill(list, 0, &mut out)?;
+        match inner {
+            Some(inner) => {
+                self.wait(node, waiting, Listing { list, at, out })?;
+                Ok(Turn::On(Now::Open(inner)))
+            }
+            None => {
+                let next = self.expander.finished(node, waiting, out)?;
+                self.follow(node, next)
+            }
+        }
+    }
+
+    /// A node does next what is said, as far as it can be done at once.
+    fn lead(&mut self, node: NodeId, next: Next) -> Result<Turn, Memory>
+        requires { (e : Expansion Output) × IsGoing self.old node self.old.listing
+            (λ p rest. IsNext p self.old.expander next rest) e }
+        ensures { IfOk result (λ turn. (seen : Answers) (e : Expansion Output)
+            → IsGoing self.old node self.old.listing (λ p rest. IsNext p self.old.expander next rest) e
+            → IsTurn seen e self.old.expander turn self.new) }
+    {
+        match next {
+            Next::Expands(waiting, list, before) => self.expand_for(node, waiting, list, before),
+            next => self.follow(node, next),
+        }
+    }
+
+    /// A node of the list is opened, or gives an error where it can't be.
+    fn open(&mut self, node: NodeId) -> Result<Turn, Memory>
+        requires { (e : Expansion Output) × IsAtNode self.old node self.old.listing e }
+        ensures { IfOk result (λ turn. (seen : Answers) (e : Expansion Output)
+            → IsAtNode self.old node self.old.listing e → IsTurn seen e self.old.expander turn self.new) }
     {
         let alloc = self.expander.alloc;
         if !self.expander.charge(1) {
-            return Ok(passed(behind, &node_error(alloc)?)?);
+            let spent = node_error(alloc)?;
+            self.passed(&spent)?;
+            return Ok(Turn::On(Now::List));
         }
         if MOST_OPEN <= self.opened.as_slice().len() {
-            return Ok(passed(behind, &nesting_error(alloc)?)?);
+            let nested = nesting_error(alloc)?;
+            self.passed(&nested)?;
+            return Ok(Turn::On(Now::List));
         }
         let title = self.expander.tree().title(node);
         let before = Out::new(alloc);
-        let next = Next::Expands(Waiting::Title, title, before);
-        Ok(self.follow(node, behind, next)?)
+        self.expand_for(node, Waiting::Title, title, before)
     }
 
-    /// A list has ended with this output: the innermost node that is open goes on, if there is one.
-    fn ended(&mut self, out: Out) -> Result<Turn, Memory>
-        requires { (e : Expansion Output) × IsEnded self.old out e }
+    /// The list has ended: the innermost node that is open goes on, if there is one.
+    fn ended(&mut self) -> Result<Turn, Memory>
+        requires { (e : Expansion Output) × IsEnded self.old self.old.listing.out e }
         ensures { IfOk result (λ turn. (seen : Answers) (e : Expansion Output)
-            → IsEnded self.old out e → IsTurn seen e self.old.expander turn self.new) }
+            → IsEnded self.old self.old.listing.out e → IsTurn seen e self.old.expander turn self.new) }
     {
         let Some(top) = self.opened.pop() else {
-            return Ok(Turn::Done(out));
+            return Ok(Turn::Done);
         };
         let Opened {
             node,
             behind,
             waiting,
         } = top;
-        let next = self.expander.finished(node, waiting, out)?;
-        Ok(self.follow(node, behind, next)?)
+        let listing = mem::replace(&mut self.listing, behind);
+        let next = self.expander.finished(node, waiting, listing.out)?;
+        self.lead(node, next)
     }
 
-    /// A list is expanded up to its next node, or to its end.
-    fn expand_list(&mut self, listing: Listing) -> Result<Turn, Memory>
-        requires { (e : Expansion Output) × IsListing self.old listing e }
+    /// The list is expanded up to its next node, or to its end.
+    fn expand_list(&mut self) -> Result<Turn, Memory>
+        requires { (e : Expansion Output) × IsListing self.old self.old.listing e }
         ensures { IfOk result (λ turn. (seen : Answers) (e : Expansion Output)
-            → IsListing self.old listing e → IsTurn seen e self.old.expander turn self.new) }
+            → IsListing self.old self.old.listing e → IsTurn seen e self.old.expander turn self.new) }
     {
-        let Listing { list, at, out } = listing;
-        let mut out = out;
-        let (at, node) = self.expander.fill(list, at, &mut out)?;
+        let list = self.listing.list;
+        let (at, node) = self
+            .expander
+            .fill(list, self.listing.at, &mut self.listing.out)?;
+        self.listing.at = at;
         match node {
-            Some(node) => Ok(self.open(node, Listing { list, at, out })?),
-            None => Ok(self.ended(out)?),
+            Some(node) => self.open(node),
+            None => self.ended(),
         }
     }
 
@@ -152,29 +209,29 @@ impl Work {
         seen: &Seen,
         trees: &mut Trees,
         node: NodeId,
-        behind: Listing,
         pending: Pending,
     ) -> Result<Turn, Memory>
-        requires { (e : Expansion Output)
-            × IsGoing self.old node behind (λ p rest. IsNext p self.old.expander (GoesNext pending) rest) e }
+        requires { (e : Expansion Output) × IsGoing self.old node self.old.listing
+            (λ p rest. IsNext p self.old.expander (GoesNext pending) rest) e }
         ensures { IfOk result (λ turn. (e : Expansion Output)
-            → IsGoing self.old node behind (λ p rest. IsNext p self.old.expander (GoesNext pending) rest) e
+            → IsGoing self.old node self.old.listing
+            (λ p rest. IsNext p self.old.expander (GoesNext pending) rest) e
             → IsTurn seen.now e self.old.expander turn self.new) }
     {
         match pending {
             Pending::Named(name) => match self.expander.titled(seen, node, &name) {
-                Ok(next) => Ok(self.follow(node, behind, next)?),
+                Ok(next) => self.lead(node, next),
                 Err(Stop::Needs(title, kind)) => {
-                    let now = Now::Node(node, behind, Pending::Named(name));
+                    let now = Now::Node(node, Pending::Named(name));
                     Ok(Turn::Needs(title, kind, now))
                 }
                 Err(Stop::Memory) => Err(Memory),
             },
             Pending::Target(title, target) => {
                 match self.expander.redirected_page(seen, node, &title, &target) {
-                    Ok(next) => Ok(self.follow(node, behind, next)?),
+                    Ok(next) => self.lead(node, next),
                     Err(Stop::Needs(needed, kind)) => {
-                        let now = Now::Node(node, behind, Pending::Target(title, target));
+                        let now = Now::Node(node, Pending::Target(title, target));
                         Ok(Turn::Needs(needed, kind, now))
                     }
                     Err(Stop::Memory) => Err(Memory),
@@ -182,7 +239,7 @@ impl Work {
             }
             Pending::Binds(page, binder) => {
                 let next = self.expander.bind(trees, node, page, binder)?;
-                Ok(self.follow(node, behind, next)?)
+                self.lead(node, next)
             }
         }
     }
@@ -194,8 +251,9 @@ impl Work {
             → IsNow self.old now e → IsTurn seen.now e self.old.expander turn self.new) }
     {
         match now {
-            Now::List(listing) => Ok(self.expand_list(listing)?),
-            Now::Node(node, behind, pending) => Ok(self.go_on(seen, trees, node, behind, pending)?),
+            Now::List => self.expand_list(),
+            Now::Open(node) => self.open(node),
+            Now::Node(node, pending) => self.go_on(seen, trees, node, pending),
         }
     }
 }

@@ -17,7 +17,7 @@ made-requires c =
     let left = subst (λ (t : Turn). LeftBy seen page given t u) c.in-Done.is
     (turn-left seen page given c.steps.work u c.steps.now c.in_ok-next.field-0 old.0 old.1 (c.in_ok-next.ensures old.0.rest old.0.now_is))
     in
-    record { everywhere = λ source agrees. c.done_by_the_reads_alone.ensures.plan (of_seen seen) source (plan_of page given) (expanded_with c.in-Done.out u.expander.counts) u.expander.reads left agrees }
+    record { everywhere = λ source agrees. c.done_by_the_reads_alone.ensures.plan (of_seen seen) source (plan_of page given) (expanded_with u.listing.out u.expander.counts) u.expander.reads left agrees }
 
 pub returns-in-Done : goal.returns-in-Done
 returns-in-Done c =

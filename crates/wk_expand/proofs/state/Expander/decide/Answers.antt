@@ -15,21 +15,21 @@ pub returns-in-Variable-clause-leads : goal.returns-in-Variable-clause-leads
 returns-in-Variable-clause-leads c =
     λ viewed frame is inner parts count.
     gives-here c.args.seen.now (template_output inner viewed frame c.args.name.now parts) c.args.self.now (all_plain (variable_text viewed c.in-Variable.variable)) c.in_ok-text-in-Variable.text
-    (template-by inner viewed frame c.args.name.now c.in_ok-title.title parts c.args.count (Variable c.in-Variable.variable) c.in_ok-title.ensures count (sym c.find.ensures ∙ c.in-Variable.is))
+    (template-by inner viewed frame c.args.name.now c.made_or-title.result.now parts c.args.count (Variable c.in-Variable.variable) (c.made_or-title.ensures ∙ c.in_ok-made.ensures) count (sym c.find.ensures ∙ c.in-Variable.is))
     (c.in_ok-text-in-Variable.ensures ∙ ap (λ (page : PageTitle). all_plain (variable_text page c.in-Variable.variable)) is.page)
 
 pub first_operand-requires : goal.first_operand-requires
 first_operand-requires c =
-    word-place (if c.args.count == 0 then variable_called c.in_ok-title.title else None) (function_called c.in_ok-title.title) c.in-Function.func c.in-Function.place (sym c.find.ensures ∙ c.in-Function.is)
+    word-place (if c.args.count == 0 then variable_called c.made_or-title.result.now else None) (function_called c.made_or-title.result.now) c.in-Function.func c.in-Function.place (sym c.find.ensures ∙ c.in-Function.is)
 
 pub returns-in-Function-clause-leads : goal.returns-in-Function-clause-leads
 returns-in-Function-clause-leads c =
     λ viewed frame is inner parts count.
     let first : c.in_ok-first-in-Function.first ≡ trimmed_output (drop c.in-Function.place (trimmed_output c.args.name.now)) =
-    c.in_ok-first-in-Function.ensures ∙ ap (λ (title : Output). trimmed_output (drop c.in-Function.place title)) c.in_ok-title.ensures
+    c.in_ok-first-in-Function.ensures ∙ ap (λ (title : Output). trimmed_output (drop c.in-Function.place title)) (c.made_or-title.ensures ∙ c.in_ok-made.ensures)
     in
     leads-as c.args.seen.now (template_output inner viewed frame c.args.name.now parts) (function_output inner viewed frame c.in-Function.func c.in_ok-first-in-Function.first parts) c.args.self.now (decision_rest inner viewed frame c.args.name.now parts) c.function.result c.function.new.self
-    (template-by inner viewed frame c.args.name.now c.in_ok-title.title parts c.args.count (Function c.in-Function.func c.in-Function.place) c.in_ok-title.ensures count (sym c.find.ensures ∙ c.in-Function.is)
+    (template-by inner viewed frame c.args.name.now c.made_or-title.result.now parts c.args.count (Function c.in-Function.func c.in-Function.place) (c.made_or-title.ensures ∙ c.in_ok-made.ensures) count (sym c.find.ensures ∙ c.in-Function.is)
     ∙ ap (λ (out : Output). function_output inner viewed frame c.in-Function.func out parts) (sym first))
     (c.function.ensures.leads inner viewed frame c.args.name.now parts count)
 
@@ -37,5 +37,5 @@ pub returns-clause-leads : goal.returns-clause-leads
 returns-clause-leads c =
     λ viewed frame is inner parts count.
     leads-as c.args.seen.now (template_output inner viewed frame c.args.name.now parts) (page_output inner viewed frame c.args.name.now parts) c.args.self.now (decision_rest inner viewed frame c.args.name.now parts) c.called.result c.called.new.self
-    (template-by inner viewed frame c.args.name.now c.in_ok-title.title parts c.args.count Page c.in_ok-title.ensures count (sym c.find.ensures ∙ c.in-Page.is))
-    (c.called.ensures.leads viewed frame is inner c.args.name.now parts c.in_ok-title.ensures)
+    (template-by inner viewed frame c.args.name.now c.made_or-title.result.now parts c.args.count Page (c.made_or-title.ensures ∙ c.in_ok-made.ensures) count (sym c.find.ensures ∙ c.in-Page.is))
+    (c.called.ensures.leads viewed frame is inner c.args.name.now parts (c.made_or-title.ensures ∙ c.in_ok-made.ensures))

@@ -14,7 +14,7 @@ returns-then-named c =
     let so_far = search_of (text_at p) c.args.search in
     let rest = drop c.args.next (parts_at p) in
     let by = λ (out : Output). searched p items rest (behind_turned (named_item c.args.search.decides out) so_far items) in
-    leads-trimmed c.args.self.now c.args.node p h seen (by (trimmed_output c.args.name.now)) c.args.value c.new-before.result items there c.new-before.ensures
+    leads-trimmed c.args.self.now c.args.node p h seen (by (trimmed_output c.args.name)) c.args.value c.new-before.result items there c.new-before.ensures
     (ap by (sym c.in_ok-name.ensures) ∙ ap (searched p items rest) (sym (c.if-named.ensures.after (text_at p) items there)))
 
 pub returns : goal.returns
@@ -23,6 +23,6 @@ returns c =
     let so_far = search_of (text_at p) c.args.search in
     let rest = drop c.args.next (parts_at p) in
     let by = λ (out : Output). searched p items rest (behind_turned (named_item c.args.search.decides out) so_far items) in
-    leads-in seen p (by (trimmed_output c.args.name.now)) (switch_output p.inner p.viewed p.frame (search_of (text_at p) c.named.new.self) rest) c.args.self.now c.switch.result c.args.self.now
+    leads-in seen p (by (trimmed_output c.args.name)) (switch_output p.inner p.viewed p.frame (search_of (text_at p) c.named.new.self) rest) c.args.self.now c.switch.result c.args.self.now
     (ap by (sym c.in_ok-name.ensures) ∙ ap (searched p items rest) (sym (c.if-named.ensures.after (text_at p) items there)))
     (c.switch.ensures seen p h)

@@ -1,40 +1,45 @@
-use Rattle.std.proofs.Common.{Option}
-use Rattle.wk_tree.specs.Parsed.{list_with, node_with}
+use Rattle.std.proofs.Common.{Option, ℕ}
+use Rattle.std.proofs.lemmas.Result.{IfOk-weaker}
+use Rattle.wk_tree.specs.Parsed.{list_with}
+use Rattle.wk_tree_rules.specs.Trees.{Item}
+use Rattle.std.proofs.Common.{List}
+use Rattle.wk_view_rules.specs.Expansions.{Expansion, Output}
+use Rattle.wk_expand.specs.declared.stack.Listing.{Listing}
+use Rattle.wk_expand.specs.declared.work.Work.{Work}
 use Rattle.wk_tree.specs.declared.item.NodeId.{NodeId}
 use Rattle.std.proofs.Common.{◌≡◌, Some, None, sym, ap, subst}
 use Rattle.wk_expand.specs.State.{current}
-use Rattle.wk_expand.specs.Work.{IsFilled}
-use Rattle.wk_expand.proofs.PartLaws.{some_of}
-use Rattle.wk_expand.proofs.WorkLaws.{listing-end, listing-node}
+use Rattle.wk_expand.specs.Work.{IsAtNode, IsEnded, IsFilled, IsListing}
+use Rattle.wk_expand.proofs.WorkLaws.{ended-listed, listing-end, listing-node, node-listed}
 use Rattle.wk_expand.proofs.work.Work.expand_list.Goals as goal
+
+-- the list stands at a node, or at its end
+at-node : (w : Work) (new : Output) (next : ℕ) (found : Option NodeId) (id : NodeId) (e : Expansion Output) → found ≡ Some id → ((items : List Item) → list_with (current w.expander) w.listing.list ≡ Some items → IsFilled (current w.expander) items w.listing.at w.listing.out (next, found) new) → IsListing w w.listing e → IsAtNode (record w { listing = record { list = w.listing.list; at = next; out = new } }) id (record { list = w.listing.list; at = next; out = new }) e
+at-node w new next found id e is filled h =
+    let listing : Listing = record { list = w.listing.list; at = next; out = new } in
+    node-listed w listing id listing e
+    (listing-node w w.listing id next new e (λ items k. subst (λ (n : Option NodeId). IsFilled (current w.expander) items w.listing.at w.listing.out (next, n) new) is (filled items k)) h)
+
+at-end : (w : Work) (new : Output) (next : ℕ) (found : Option NodeId) (e : Expansion Output) → found ≡ None → ((items : List Item) → list_with (current w.expander) w.listing.list ≡ Some items → IsFilled (current w.expander) items w.listing.at w.listing.out (next, found) new) → IsListing w w.listing e → IsEnded (record w { listing = record { list = w.listing.list; at = next; out = new } }) new e
+at-end w new next found e is filled h =
+    let listing : Listing = record { list = w.listing.list; at = next; out = new } in
+    ended-listed w listing new e
+    (listing-end w w.listing next new e (λ items k. subst (λ (n : Option NodeId). IsFilled (current w.expander) items w.listing.at w.listing.out (next, n) new) is (filled items k)) h)
 
 pub open-requires : goal.open-requires
 open-requires c =
-    let w = c.args.self.now in
-    let h = c.requires.1 in
-    let filled = subst (λ (n : Option NodeId). IsFilled (current w.expander) h.items c.args.listing.at c.args.listing.out (c.in_ok-at.at, n) c.fill.new.out) c.in-Some.is (c.in_ok-at.ensures h.items h.there) in
-    some_of (node_with (current w.expander) c.in-Some.node) filled.0 filled.1
+    (c.requires.0, at-node c.args.self.now c.fill.new.out c.in_ok-at.at c.in_ok-at.node c.in-Some.node c.requires.0 c.in-Some.is c.in_ok-at.ensures c.requires.1)
 
 pub ended-requires : goal.ended-requires
 ended-requires c =
-    let w = c.args.self.now in (
-      c.requires.0,
-      listing-end w c.args.listing c.in_ok-at.at c.fill.new.out c.requires.0 (λ items e.
-          subst (λ (n : Option NodeId). IsFilled (current w.expander) items c.args.listing.at c.args.listing.out (c.in_ok-at.at, n) c.fill.new.out) c.in-None.is (c.in_ok-at.ensures items e)) c.requires.1,
-    )
+    (c.requires.0, at-end c.args.self.now c.fill.new.out c.in_ok-at.at c.in_ok-at.node c.requires.0 c.in-None.is c.in_ok-at.ensures c.requires.1)
 
-pub returns-in_ok-open-in-Some : goal.returns-in_ok-open-in-Some
-returns-in_ok-open-in-Some c =
-    λ seen e h.
-    let w = c.args.self.now in
-    c.in_ok-open-in-Some.ensures seen e
-    (listing-node w c.args.listing c.in-Some.node c.in_ok-at.at c.fill.new.out e (λ items k.
-    subst (λ (n : Option NodeId). IsFilled (current w.expander) items c.args.listing.at c.args.listing.out (c.in_ok-at.at, n) c.fill.new.out) c.in-Some.is (c.in_ok-at.ensures items k)) h)
+pub returns-in-Some : goal.returns-in-Some
+returns-in-Some c =
+    IfOk-weaker c.open.result _ _ (λ turn k seen e h.
+    k seen e (at-node c.args.self.now c.fill.new.out c.in_ok-at.at c.in_ok-at.node c.in-Some.node e c.in-Some.is c.in_ok-at.ensures h)) c.open.ensures
 
-pub returns-in_ok-ended-in-None : goal.returns-in_ok-ended-in-None
-returns-in_ok-ended-in-None c =
-    λ seen e h.
-    let w = c.args.self.now in
-    c.in_ok-ended-in-None.ensures seen e
-    (listing-end w c.args.listing c.in_ok-at.at c.fill.new.out e (λ items k.
-    subst (λ (n : Option NodeId). IsFilled (current w.expander) items c.args.listing.at c.args.listing.out (c.in_ok-at.at, n) c.fill.new.out) c.in-None.is (c.in_ok-at.ensures items k)) h)
+pub returns-in-None : goal.returns-in-None
+returns-in-None c =
+    IfOk-weaker c.ended.result _ _ (λ turn k seen e h.
+    k seen e (at-end c.args.self.now c.fill.new.out c.in_ok-at.at c.in_ok-at.node e c.in-None.is c.in_ok-at.ensures h)) c.ended.ensures
