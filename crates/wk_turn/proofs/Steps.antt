@@ -1,5 +1,5 @@
 -- Each step keeps the rule of the table.
-use Rattle.std.proofs.Common.{◌≡◌, ◌≢◌, ℕ, ◌+◌, ◌-◌, ◌%◌, ◌^◌, ◌<◌, ◌≤◌, eqb, ltb, cond, Bool, true, false, List, [], ◌∷◌, ◌++◌, length, get_or, set, max, Option, Some, None, refl, ap, sym, ◌∙◌, subst, arith, ◌⊎◌, inl, inr, ⊎_elim, length-set, length-append, eq-eqb, ne_eqb}
+use Rattle.std.proofs.Common.{◌≡◌, ◌≢◌, ℕ, suc, ◌+◌, ◌-◌, ◌%◌, ◌^◌, ◌<◌, ◌≤◌, eqb, ltb, cond, Bool, true, false, List, [], ◌∷◌, ◌++◌, length, get_or, set, max, Option, Some, None, refl, ap, sym, ◌∙◌, subst, arith, ◌⊎◌, inl, inr, ⊎_elim, length-set, length-append, eq-eqb, ne_eqb}
 use Rattle.std.specs.List.{sum_by}
 use Rattle.std.proofs.lemmas.Bool.Decides.{nat_tests}
 use mathlib.Core.List.{IsPrefix}
@@ -16,7 +16,7 @@ use Rattle.wk_turn.specs.declared.board.View.{View}
 use Rattle.wk_turn.specs.declared.board.Stage.{Stage}
 use Rattle.wk_turn.specs.declared.board.Stage.TheVariants.{Idle, Waits, Holds, Marked, Ended}
 use Rattle.wk_turn.specs.Journal.{times, IsListed, added, longer, ClosesOwn, AreOwn}
-use Rattle.wk_turn.specs.Line.{in_line, busy, away, AtStage, Knows, Kept, newcomer, spent, joined, counted, drew, looked, Finds, marked, handed_on, ended, told, staged}
+use Rattle.wk_turn.specs.Line.{in_line, busy, away, AtStage, Knows, Kept, newcomer, spent, joined, called, counted, drew, looked, Finds, marked, handed_on, ended, told, staged}
 use Rattle.wk_turn.proofs.Lists.{prefix_nil, prefix_self, prefix_trans, prefix_shorter, prefix_length, sum_set, two_le_sum, some_term, sum_le_length, sum_push, times-append, times-range_out}
 use Rattle.wk_turn.proofs.Owning.{own_none, own_before, own_after, own_more, own_both}
 
@@ -182,7 +182,7 @@ module _ {A E S : Type 0} (start_of : S → A) (journal_of : S → List E) (clos
   unmoved : (s : St) → Rule s → (i id : ℕ) (v : D) (cs : List (ℕ × Option S)) → get_elem? s.views id ≡ some v → Rule (stepped s i (get_or s.words i 0) id cs v keeps)
   unmoved s r i id v cs at = subst (λ (z : List ℕ × List D). Rule record { words = z.0; homes = s.homes; views = z.1 }) (λ k. (sym (set-get_or s.words i 0) k, sym (set_again s.views id v at) k)) r
 
-  at_words : (s : St) (r : Rule s) (i : ℕ) → get_or s.words i 0 ≡ get_or (r.seats ∷ (r.ticket % 2 ^ 64) ∷ (r.serving % 2 ^ 64) ∷ (length r.log) ∷ []) i 0
+  at_words : (s : St) (r : Rule s) (i : ℕ) → get_or s.words i 0 ≡ get_or (r.seats ∷ (r.ticket % 2 ^ 64) ∷ (r.serving % 2 ^ 64) ∷ (length r.log) ∷ r.calls) i 0
   at_words s r i = ap (λ ws. get_or ws i 0) r.words
 
   -- the numbers in line are few enough to differ in the words
@@ -206,16 +206,17 @@ module _ {A E S : Type 0} (start_of : S → A) (journal_of : S → List E) (clos
           let pos = t.3 in absurd (omega arith))
 
   -- the table as the turn begins
-  pub opens : (state : S) (point : ℕ) (first : S) → point ≡ length (journal_of first) → first ≡ state → start_of first ≡ start
-      → Rule (opening (1 ∷ 0 ∷ 0 ∷ point ∷ []) (Some state ∷ []) (newcomer (Some (start_of first)) (journal_of first)))
-  opens state point first len same begun = record {
+  pub opens : (state : S) (point : ℕ) (calls : List ℕ) (first : S) → point ≡ length (journal_of first) → first ≡ state → start_of first ≡ start
+      → Rule (opening (1 ∷ 0 ∷ 0 ∷ point ∷ calls) (Some state ∷ []) (newcomer (Some (start_of first)) (journal_of first)))
+  opens state point calls first len same begun = record {
     seats = 1;
     ticket = 0;
     serving = 0;
     log = journal_of first;
     home = some (Some state);
     owner = λ _. 0;
-    words = ap (λ n. 1 ∷ 0 ∷ 0 ∷ n ∷ []) len;
+    calls = calls;
+    words = ap (λ n. 1 ∷ 0 ∷ 0 ∷ n ∷ calls) len;
     homes = refl;
     room = refl;
     few = omega arith;
@@ -240,7 +241,45 @@ module _ {A E S : Type 0} (start_of : S → A) (journal_of : S → List E) (clos
         within = λ p l. absurd (omega arith);
         stage = tt;
       }
-      only (Rattle.std.proofs.Common.suc j) d e = absurd (some-ne-none d (sym e))
+      only (suc j) d e = absurd (some-ne-none d (sym e))
+
+  abbrev past_four : ℕ → ℕ
+  past_four k = suc (suc (suc (suc k)))
+
+  -- a word that callers sleep on changes
+  calls_at : (slots id k : ℕ) (me : M) → Allows Rule slots id me (past_four k) (λ x. (x + 1) % 2 ^ 64) (called (step slots (past_four k) 1 0 none) me)
+  calls_at slots id k me s r _ at _ = (
+    me.0,
+    keeps,
+    tt,
+    record {
+      seats = r.seats;
+      ticket = r.ticket;
+      serving = r.serving;
+      log = r.log;
+      home = r.home;
+      owner = r.owner;
+      calls = set r.calls k ((get_or s.words (past_four k) 0 + 1) % 2 ^ 64);
+      words = ap (λ ws. set ws (past_four k) ((get_or s.words (past_four k) 0 + 1) % 2 ^ 64)) r.words;
+      homes = r.homes;
+      room = subst (λ (vs : List D). length vs + sum_by (λ (u : D). u.seats) vs ≡ r.seats) (sym same) r.room;
+      few = r.few;
+      line = subst (λ (vs : List D). r.serving + sum_by (λ (u : D). in_line u.stage) vs ≡ r.ticket) (sym same) r.line;
+      turn = subst (λ (vs : List D). sum_by (λ (u : D). busy u.stage) vs ≡ away r.home) (sym same) r.turn;
+      value = r.value;
+      apart = λ p. subst (λ (vs : List D). sum_by (λ (u : D). times p u.own) vs ≤ 1) (sym same) (r.apart p);
+      each = subst (λ (vs : List D). (j : ℕ) (d : D) → get_elem? vs j ≡ some d → K r.serving r.ticket r.log r.home r.owner j d) (sym same) r.each;
+    },
+    refl,
+  )
+    where
+      same : set s.views id me.0 ≡ s.views
+      same = set_again s.views id me.0 at
+
+  pub calls : (slots id i k : ℕ) (me : M) → i ≡ 4 + k → Allows Rule slots id me i (λ x. (x + 1) % 2 ^ 64) (called (step slots i 1 0 none) me)
+  calls slots id i k me past =
+      let at : past_four k ≡ i = omega arith in
+      subst (λ (n : ℕ). Allows Rule slots id me n (λ x. (x + 1) % 2 ^ 64) (called (step slots n 1 0 none) me)) at (calls_at slots id k me)
 
   -- a number is drawn
   pub draws : (slots id : ℕ) (me : M) → me.0.stage ≡ Idle → Allows Rule slots id me 1 (λ x. (x + 1) % 2 ^ 64) (drew (step slots 1 1 0 none) me)
@@ -259,7 +298,8 @@ module _ {A E S : Type 0} (start_of : S → A) (journal_of : S → List E) (clos
           log = r.log;
           home = r.home;
           owner = put r.owner t id;
-          words = ap (λ ws. set ws 1 ((get_or ws 1 0 + 1) % 2 ^ 64)) r.words ∙ ap (λ n. r.seats ∷ n ∷ (r.serving % 2 ^ 64) ∷ (length r.log) ∷ []) (next_word t);
+          calls = r.calls;
+          words = ap (λ ws. set ws 1 ((get_or ws 1 0 + 1) % 2 ^ 64)) r.words ∙ ap (λ n. r.seats ∷ n ∷ (r.serving % 2 ^ 64) ∷ (length r.log) ∷ r.calls) (next_word t);
           homes = r.homes;
           room = let room = r.room in let len = length-set s.views id w in omega arith;
           few = r.few;
@@ -311,6 +351,7 @@ module _ {A E S : Type 0} (start_of : S → A) (journal_of : S → List E) (clos
               log = r.log;
               home = none;
               owner = r.owner;
+              calls = r.calls;
               words = set-get_or s.words 2 0 ∙ r.words;
               homes = ap (λ hs. set hs 0 none) r.homes;
               room = let room = r.room in let len = length-set s.views id w in omega arith;
@@ -364,7 +405,8 @@ module _ {A E S : Type 0} (start_of : S → A) (journal_of : S → List E) (clos
           log = log';
           home = r.home;
           owner = r.owner;
-          words = ap (λ ws. set ws 3 (max (get_or ws 3 0) len)) r.words ∙ ap (λ z. r.seats ∷ (r.ticket % 2 ^ 64) ∷ (r.serving % 2 ^ 64) ∷ z ∷ []) (let high : max (length log) len ≡ length log' = omega arith in high);
+          calls = r.calls;
+          words = ap (λ ws. set ws 3 (max (get_or ws 3 0) len)) r.words ∙ ap (λ z. r.seats ∷ (r.ticket % 2 ^ 64) ∷ (r.serving % 2 ^ 64) ∷ z ∷ r.calls) (let high : max (length log) len ≡ length log' = omega arith in high);
           homes = r.homes;
           room = let room = r.room in let size = length-set s.views id w in omega arith;
           few = r.few;
@@ -426,7 +468,8 @@ module _ {A E S : Type 0} (start_of : S → A) (journal_of : S → List E) (clos
           log = r.log;
           home = back;
           owner = r.owner;
-          words = ap (λ ws. set ws 2 ((get_or ws 2 0 + 1) % 2 ^ 64)) r.words ∙ ap (λ z. r.seats ∷ (r.ticket % 2 ^ 64) ∷ z ∷ (length r.log) ∷ []) (next_word r.serving);
+          calls = r.calls;
+          words = ap (λ ws. set ws 2 ((get_or ws 2 0 + 1) % 2 ^ 64)) r.words ∙ ap (λ z. r.seats ∷ (r.ticket % 2 ^ 64) ∷ z ∷ (length r.log) ∷ r.calls) (next_word r.serving);
           homes = ap (put_back s.homes) carried ∙ ap (λ hs. set hs 0 back) r.homes;
           room = let room = r.room in let size = length-set s.views id w in omega arith;
           few = r.few;
@@ -462,6 +505,7 @@ module _ {A E S : Type 0} (start_of : S → A) (journal_of : S → List E) (clos
           log = r.log;
           home = back;
           owner = r.owner;
+          calls = r.calls;
           words = set-get_or s.words 0 0 ∙ r.words;
           homes = ap (put_back s.homes) carried ∙ ap (λ hs. set hs 0 back) r.homes;
           room = let room = r.room in let size = length-set s.views id w in omega arith;
@@ -522,6 +566,7 @@ module _ {A E S : Type 0} (start_of : S → A) (journal_of : S → List E) (clos
           log = r.log;
           home = r.home;
           owner = r.owner;
+          calls = r.calls;
           words = ap (λ b. set s.words 0 (either b new x)) (eq-eqb x old hit) ∙ ap (λ ws. set ws 0 new) r.words;
           homes = r.homes;
           room = let room = r.room in let len = length-set s.views id w in let now = at_words s r 0 in let all = seats_all in omega arith;
@@ -572,6 +617,7 @@ module _ {A E S : Type 0} (start_of : S → A) (journal_of : S → List E) (clos
         log = r.log;
         home = r.home;
         owner = r.owner;
+        calls = r.calls;
         words = r.words;
         homes = r.homes;
         room = let room = r.room in let size = length-set s.views id w in let more = length-append vs (new ∷ []) in omega arith;
@@ -604,6 +650,7 @@ module _ {A E S : Type 0} (start_of : S → A) (journal_of : S → List E) (clos
         log = r.log;
         home = r.home;
         owner = r.owner;
+        calls = r.calls;
         words = r.words;
         homes = r.homes;
         room = let room = r.room in let size = length-set s.views id both in let same = length-set vs other gone in omega arith;

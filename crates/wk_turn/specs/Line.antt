@@ -1,5 +1,6 @@
 -- The rule of the table, and what each step tells (own).
 -- Word 0 counts the seats, word 1 is the next number to be drawn, word 2 the number that is served, and word 3 the length of the journal. The one slot has the state.
+-- Callers that wait sleep on the other words, of which the rule asks nothing.
 -- Numbers are drawn and served without end. The words keep them modulo 2 ^ 64.
 use Rattle.std.specs.Prelude.{◌≡◌, ◌≢◌, ℕ, ◌+◌, ◌%◌, ◌^◌, ◌<◌, ◌≤◌, List, [], ◌∷◌, ◌++◌, length, Option, Some, None}
 use Rattle.std.specs.List.{sum_by}
@@ -65,7 +66,8 @@ module _ {A E S : Type 0} (start_of : S → A) (journal_of : S → List E) (clos
     pub log : List E
     pub home : maybe.Option (Option S)
     pub owner : ℕ → ℕ
-    pub words : s.words ≡ seats ∷ (ticket % 2 ^ 64) ∷ (serving % 2 ^ 64) ∷ (length log) ∷ []
+    pub calls : List ℕ
+    pub words : s.words ≡ seats ∷ (ticket % 2 ^ 64) ∷ (serving % 2 ^ 64) ∷ (length log) ∷ calls
     pub homes : s.homes ≡ home ∷ []
     pub room : length s.views + sum_by (λ v. v.seats) s.views ≡ seats
     pub few : seats < 2 ^ 64
@@ -103,6 +105,10 @@ module _ {A E S : Type 0} where
   -- a number was drawn, and the word shows what it is modulo 2 ^ 64
   abbrev pub drew : Step (Option S) → Seated A E S → ℕ → Seated A E S → Type 0
   drew st m r m' = (n : ℕ) × (r ≡ n % 2 ^ 64) × (m' ≡ staged m (Waits n) m.1)
+
+  -- a word that callers sleep on was changed, and nothing else
+  abbrev pub called : Step (Option S) → Seated A E S → ℕ → Seated A E S → Type 0
+  called st m r m' = m' ≡ m
 
   -- the slot was given back with the state, and the next number is served
   abbrev pub handed_on : Step (Option S) → Seated A E S → ℕ → Seated A E S → Type 0

@@ -1,4 +1,6 @@
 //! The table that callers share, and what a seat at it knows.
+ghost use Rattle.std.specs.Prelude.{◌≡◌, ℕ, ◌+◌, ◌<◌, List, ◌∷◌};
+
 use crate::storied::Storied;
 use atomic_table::{Seat, Shared, Table, TableRule};
 use std::alloc::Global;
@@ -16,6 +18,29 @@ pub(crate) const SERVING: usize = 2;
 
 /// The word that has the length of the journal.
 pub(crate) const FRONT: usize = 3;
+
+/// The first of the words that callers sleep on until their number is served. Each counts the calls to those on it.
+const WAITING: usize = 4;
+
+/// How many words callers sleep on. With fewer callers in line each has a word of its own.
+const WAITS: u64 = 16;
+
+/// The words as a turn begins round a state with a journal of this length: one seat, no number drawn, nobody called.
+pub(crate) fn words_at(point: u64) -> [u64; 20]
+    ensures { (calls : List ℕ) × (result ≡ 1 ∷ 0 ∷ 0 ∷ point ∷ calls) }
+{
+    let mut words = [0; 20];
+    words[SEATS] = 1;
+    words[FRONT] = point;
+    words
+}
+
+/// The word that the caller with this number sleeps on.
+pub(crate) fn waiting(number: u64) -> usize
+    ensures { (k : ℕ) × (result ≡ 4 + k) × (k < 16) }
+{
+    WAITING + (number % WAITS) as usize
+}
 
 /// How far a seat has come in the line. A number is any number here; the words keep it modulo 2^64.
 pub enum Stage<E> {

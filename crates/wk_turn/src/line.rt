@@ -5,8 +5,8 @@ ghost use Rattle.atomic_table.specs.Seated.{TableId};
 ghost use Rattle.wk_turn.specs.Journal.{added, ClosesOwn, AreOwn};
 ghost use Rattle.wk_turn.specs.Line.{Finds, joined, newcomer, staged};
 
-use crate::board::{Board, FRONT, Place, SEATS, SERVING, Stage, TICKET, Top};
-use crate::plays::{Copy, Count, Draw, End, Glue, HandOn, Look, Mark, Tell};
+use crate::board::{Board, FRONT, Place, SEATS, SERVING, Stage, TICKET, Top, waiting};
+use crate::plays::{Call, Copy, Count, Draw, End, Glue, HandOn, Look, Mark, Tell};
 use crate::storied::Storied;
 use crossbeam_utils::Backoff;
 use std::snapshot::Snapshot;
@@ -14,7 +14,7 @@ use std::sync::Wait;
 
 // Counts one more seat. False where the word can count no more.
 fn count_seat<S: Storied>(top: &Top<S>, place: &mut Place<S>) -> bool
-    requires table { (place.old.table_id ≡ top.now.table_id) × (top.now.table_id.words ≡ 4) }
+    requires table { (place.old.table_id ≡ top.now.table_id) × (top.now.table_id.words ≡ 20) }
     requires bare { place.old.me.0.seats ≡ 0 }
     ensures seat { (place.new.table_id ≡ place.old.table_id) × (place.new.id ≡ place.old.id) }
     ensures counted { result ≡ true → place.new.me ≡ (record place.old.me.0 { seats = 1 }, place.old.me.1) }
@@ -34,7 +34,7 @@ fn count_seat<S: Storied>(top: &Top<S>, place: &mut Place<S>) -> bool
 
 /// A new seat that has seen as much, and made nothing. None where no more seats can be counted.
 pub(crate) fn split_seat<S: Storied>(top: &Top<S>, place: &mut Place<S>) -> Option<Place<S>>
-    requires table { (place.old.table_id ≡ top.now.table_id) × (top.now.table_id.words ≡ 4) }
+    requires table { (place.old.table_id ≡ top.now.table_id) × (top.now.table_id.words ≡ 20) }
     requires bare { place.old.me.0.seats ≡ 0 }
     ensures seat { (place.new.table_id ≡ place.old.table_id) × (place.new.id ≡ place.old.id)
         × (place.new.me ≡ place.old.me) }
@@ -50,7 +50,7 @@ pub(crate) fn split_seat<S: Storied>(top: &Top<S>, place: &mut Place<S>) -> Opti
 /// Takes in another seat. What both have seen are beginnings of what is then seen.
 pub(crate) fn merge_seats<S: Storied>(top: &Top<S>, place: &mut Place<S>, other: Place<S>)
     requires table { (place.old.table_id ≡ top.now.table_id) × (other.table_id ≡ top.now.table_id)
-        × (top.now.table_id.words ≡ 4) }
+        × (top.now.table_id.words ≡ 20) }
     requires idle { (place.old.me.0.stage ≡ Stage.Idle) × (other.me.0.stage ≡ Stage.Idle)
         × (other.me.1 ≡ []) × (other.me.0.seats ≡ 0) }
     ensures seat { (place.new.table_id ≡ place.old.table_id) × (place.new.id ≡ place.old.id)
@@ -63,22 +63,62 @@ pub(crate) fn merge_seats<S: Storied>(top: &Top<S>, place: &mut Place<S>, other:
     top.load::<Tell>(place, SEATS);
 }
 
-// Lets another thread go first. A short wait spins or yields, and a long one sleeps until a number is served. It leaves
-// the table and each seat as they were, since it has no seat: without one no word can be written. How long it rests no
-// clause says; nothing depends on it but time, since the caller looks again at once.
-fn rest<S: Storied, R: Wait>(rt: &R, top: &Top<S>, backoff: &Backoff, serving: u64)
-    requires { top.now.table_id.words ≡ 4 }
+/// How many callers before its own number a caller may find and not sleep at once.
+const NEAR: u64 = 3;
+
+/// How often such a caller looks before it sleeps: for about as long as it takes to wake a few who sleep, so that callers
+/// who all have a processor don't fall asleep one after the other.
+const PATIENCE: u64 = 40;
+
+// Sleeps until the caller with this number is called. Whoever calls has served the number before, and changes the word: so
+// either the look here finds the number served, or the word isn't the one any more that the sleep is for. It leaves the
+// table and each seat as they were, since it has no seat: without one no word can be written.
+fn sleep<S: Storied, R: Wait>(rt: &R, top: &Top<S>, number: u64)
+    requires { top.now.table_id.words ≡ 20 }
 {
-    if backoff.is_completed() {
-        top.park(rt, SERVING, (serving & 0xffff_ffff) as u32);
-    } else {
-        backoff.snooze();
+    let word = waiting(number);
+    let calls = top.peek(word);
+    if top.peek(SERVING) != number {
+        top.park(rt, word, (calls & 0xffff_ffff) as u32);
+    }
+}
+
+/// How a caller waits: how often it has looked without sleeping, and how it spins and yields in between.
+#[derive(Drop)]
+struct Patience {
+    looks: u64,
+    backoff: Backoff,
+}
+
+impl Patience {
+    fn new() -> Patience {
+        Patience {
+            looks: 0,
+            backoff: Backoff::new(),
+        }
+    }
+
+    // Lets another thread go first, where the number that was found served isn't the caller's. How long it rests no clause
+    // says; nothing depends on it but time, since the caller looks again at once. It stands apart from the loop, so that a
+    // turn that waits for nobody costs no more than its steps.
+    #[cold]
+    #[inline(never)]
+    fn rest<S: Storied, R: Wait>(&mut self, rt: &R, top: &Top<S>, number: u64, serving: u64)
+        requires { top.now.table_id.words ≡ 20 }
+    {
+        if self.looks < PATIENCE && number.wrapping_sub(serving) <= NEAR {
+            self.looks += 1;
+            self.backoff.snooze();
+        } else {
+            sleep(rt, top, number);
+        }
     }
 }
 
 /// Draws a number, waits until it is served, and takes the state.
+#[inline]
 pub(crate) fn take_turn<S: Storied, R: Wait>(rt: &R, top: &Top<S>, place: &mut Place<S>) -> S
-    requires table { (place.old.table_id ≡ top.now.table_id) × (top.now.table_id.words ≡ 4)
+    requires table { (place.old.table_id ≡ top.now.table_id) × (top.now.table_id.words ≡ 20)
         × (top.now.table_id.slots ≡ 1) }
     requires idle { (place.old.me.0.stage ≡ Stage.Idle) × (place.old.me.1 ≡ []) }
     ensures seat { (place.new.table_id ≡ place.old.table_id) × (place.new.id ≡ place.old.id) }
@@ -87,25 +127,28 @@ pub(crate) fn take_turn<S: Storied, R: Wait>(rt: &R, top: &Top<S>, place: &mut P
     ensures finds { Finds S.start S.journal S.closes place.old.me.0 result }
 {
     let number = top.fetch_add::<Draw>(place, TICKET, 1);
-    let backoff = Backoff::new();
+    let mut patience = Patience::new();
     'waiting: for _ in rt.forever() {
         let serving = top.load::<Look>(place, SERVING);
         if serving == number {
             return top.exchange(place, 0, None).unwrap();
         }
-        rest(rt, top, &backoff, serving);
+        patience.rest(rt, top, number, serving);
     }
     unreachable!()
 }
 
-// Wakes those who sleep, if anybody is in line. Who draws after this look finds the number served, and doesn't sleep. It
-// leaves the table and each seat as they were, since it has no seat. That it wakes them no clause can say: the runs on
-// several threads show it.
-fn wake<S: Storied>(top: &Top<S>, serving: u64)
-    requires { top.now.table_id.words ≡ 4 }
+// Calls whoever has the number that is served, if anybody is in line. Who draws after this look finds the number served, and
+// doesn't sleep. That it wakes them no clause can say: the runs on several threads show it.
+fn call<S: Storied>(top: &Top<S>, place: &mut Place<S>, serving: u64)
+    requires { (place.old.table_id ≡ top.now.table_id) × (top.now.table_id.words ≡ 20) }
+    ensures { (place.new.table_id ≡ place.old.table_id) × (place.new.id ≡ place.old.id)
+        × (place.new.me ≡ place.old.me) }
 {
     if top.peek(TICKET) != serving {
-        top.wake_all(SERVING);
+        let word = waiting(serving);
+        top.fetch_add::<Call>(place, word, 1);
+        top.wake_all(word);
     }
 }
 
@@ -117,7 +160,7 @@ pub(crate) fn give_turn<S: Storied>(
     point: u64,
     before: &Snapshot<S>,
 )
-    requires table { (place.old.table_id ≡ top.now.table_id) × (top.now.table_id.words ≡ 4)
+    requires table { (place.old.table_id ≡ top.now.table_id) × (top.now.table_id.words ≡ 20)
         × (top.now.table_id.slots ≡ 1) }
     requires turn { ((n : ℕ) × (place.old.me.0.stage ≡ Stage.Holds n (S.journal before.now.value)))
         × (place.old.me.1 ≡ (0, None) ∷ []) }
@@ -141,12 +184,12 @@ pub(crate) fn give_turn<S: Storied>(
     let None = nothing else { unreachable!() };
     top.fetch_max::<Mark>(place, FRONT, point);
     let served = top.fetch_add::<HandOn>(place, SERVING, 1);
-    wake(top, served.wrapping_add(1));
+    call(top, place, served.wrapping_add(1));
 }
 
 /// Gives the slot back empty, and closes the table.
 pub(crate) fn end<S: Storied>(board: Board<S>, mut place: Place<S>)
-    requires table { (place.table_id ≡ board.shared.table_id) × (board.shared.table_id.words ≡ 4)
+    requires table { (place.table_id ≡ board.shared.table_id) × (board.shared.table_id.words ≡ 20)
         × (board.shared.table_id.slots ≡ 1) }
     requires turn { ((n : ℕ) × (at : List S.Entry) × (place.me.0.stage ≡ Stage.Holds n at))
         × (place.me.1 ≡ (0, None) ∷ []) }

@@ -1,7 +1,7 @@
 //! The lock, and how it begins.
 ghost use Rattle.std.specs.Prelude.{◌≡◌, [], ◌∷◌, Some, None, IfOk, IfErr};
 
-use crate::board::Board;
+use crate::board::{Board, words_at};
 use crate::line::{end, give_turn, merge_seats, split_seat, take_turn};
 use crate::pass::{Held, Pass};
 use crate::storied::Storied;
@@ -26,7 +26,7 @@ impl<S: Storied> Model for Turn<S> {
 
     ghost view = { λ t. record { id = t.board.shared.table_id; start = S.start t.board.shared.key.value } };
 
-    ghost invariant = { λ t. (t.board.shared.table_id.words ≡ 4) × (t.board.shared.table_id.slots ≡ 1) };
+    ghost invariant = { λ t. (t.board.shared.table_id.words ≡ 20) × (t.board.shared.table_id.slots ≡ 1) };
 }
 
 /// Begins the turn round a state. The pass has seen the state's whole journal, and made no entry.
@@ -43,7 +43,7 @@ pub fn begin<S: Storied>(alloc: Global, state: S) -> Result<(Turn<S>, Pass<S>), 
         slots.destroy_empty();
         return Err((value.unwrap(), Memory));
     }
-    match Table::new(alloc, &[1, 0, 0, point], slots, &first) {
+    match Table::new(alloc, &words_at(point), slots, &first) {
         Ok((board, seat)) => Ok((Turn { board }, Pass { seat, point })),
         Err(Refused { mut slots }) => {
             let state = slots.pop().unwrap().unwrap();

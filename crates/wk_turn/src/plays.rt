@@ -1,5 +1,5 @@
 //! What each step on the table tells.
-ghost use Rattle.wk_turn.specs.Line.{counted, drew, looked, marked, handed_on, ended, told, joined, spent, newcomer};
+ghost use Rattle.wk_turn.specs.Line.{called, counted, drew, looked, marked, handed_on, ended, told, joined, spent, newcomer};
 ghost use Rattle.std.specs.Prelude.{None};
 
 use crate::board::View;
@@ -34,6 +34,12 @@ pub(crate) struct HandOn;
 
 impl<S, A, E> Play<Option<S>, View<A, E>> for HandOn {
     ghost then = { handed_on };
+}
+
+pub(crate) struct Call;
+
+impl<S, A, E> Play<Option<S>, View<A, E>> for Call {
+    ghost then = { called };
 }
 
 pub(crate) struct End;

@@ -30,8 +30,8 @@ pub returns-clause-idle : goal.returns-clause-idle
 returns-clause-idle g c =
     let put = c.exchange-nothing.ensures.3 in let turn = c.requires.turn in let after = g.S.Storied.journal c.args.state in
     let did = (c.fetch_max.ensures.2 _ _ _ (ap (λ m. m.0.stage) put ∙ turn.0.1) (ap (λ m. m.1) put ∙ ap (λ cs. (0, Some c.args.state) ∷ rest cs) turn.1)).0 in
-    c.fetch_add-served.ensures.2 ∙ (ap (λ m. (record m.0 { stage = Idle }, [])) did
-    ∙ ap (λ m. (record m.0 { seen = after; own = m.0.own ++ added (g.S.Storied.journal c.args.before.now.value) after; own_one = []; own_two = []; stage = Idle }, [])) put)
+    c.call.ensures.2 ∙ (c.fetch_add-served.ensures.2 ∙ (ap (λ m. (record m.0 { stage = Idle }, [])) did
+    ∙ ap (λ m. (record m.0 { seen = after; own = m.0.own ++ added (g.S.Storied.journal c.args.before.now.value) after; own_one = []; own_two = []; stage = Idle }, [])) put))
 
 pub returns-clause-own : goal.returns-clause-own
 returns-clause-own g c =
