@@ -1,0 +1,2 @@
+pub mod SqlKeeper
+pub mod Stored

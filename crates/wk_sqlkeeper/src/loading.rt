@@ -1,0 +1,159 @@
+//! The tables of a wiki out of the database, one query a table.
+use crate::answers::no_memory;
+use crate::columns::text_at;
+use crate::order::{sort_links, sort_members};
+use crate::rows::FromColumns;
+use sqlite::types::Type;
+use sqlite::{Alter, Connection, Error, ErrorCode};
+use std::alloc::Global;
+use wk_bytes::decimal;
+use wk_tables::{
+    CategoryRow, JobRow, LinkRow, PageRow, RedirectRow, RevisionRow, TableRows, Tables,
+};
+
+/// The rows that the query gives, in its order.
+fn read_all<S: Alter, R: FromColumns>(
+    alloc: Global,
+    connection: &mut Connection<S>,
+    query: &str,
+) -> Result<Vec<R>, Error> {
+    let mut read = Vec::new(alloc);
+    let mut rows = connection.query(query, &[])?;
+    'rows: for _ in 0..u64::MAX {
+        let Some(row) = rows.next()? else {
+            return Ok(read);
+        };
+        read.push(R::from_columns(alloc, row)?)?;
+    }
+    Err(Error::SqliteFailure(ErrorCode::OutOfMemory))
+}
+
+fn read_pages<S: Alter>(
+    alloc: Global,
+    connection: &mut Connection<S>,
+) -> Result<Vec<PageRow>, Error> {
+    read_all(
+        alloc,
+        connection,
+        "SELECT page_id, page_namespace, page_title, page_latest, page_len FROM page ORDER BY page_id",
+    )
+}
+
+fn read_revisions<S: Alter>(
+    alloc: Global,
+    connection: &mut Connection<S>,
+) -> Result<Vec<RevisionRow>, Error> {
+    read_all(
+        alloc,
+        connection,
+        "SELECT rev_id, rev_page, rev_parent_id, rev_timestamp, rev_len, rev_gone, rev_text FROM revision ORDER BY rev_id",
+    )
+}
+
+/// The rows of a link table that the query gives, in the order of their titles.
+fn read_links<S: Alter>(
+    alloc: Global,
+    connection: &mut Connection<S>,
+    query: &str,
+) -> Result<Vec<LinkRow>, Error> {
+    let mut rows = read_all(alloc, connection, query)?;
+    sort_links(&mut rows);
+    Ok(rows)
+}
+
+fn read_pagelinks<S: Alter>(
+    alloc: Global,
+    connection: &mut Connection<S>,
+) -> Result<Vec<LinkRow>, Error> {
+    read_links(
+        alloc,
+        connection,
+        "SELECT pl_from, pl_from_namespace, pl_namespace, pl_title FROM pagelinks ORDER BY pl_from, pl_namespace, pl_title",
+    )
+}
+
+fn read_templatelinks<S: Alter>(
+    alloc: Global,
+    connection: &mut Connection<S>,
+) -> Result<Vec<LinkRow>, Error> {
+    read_links(
+        alloc,
+        connection,
+        "SELECT tl_from, tl_from_namespace, tl_namespace, tl_title FROM templatelinks ORDER BY tl_from, tl_namespace, tl_title",
+    )
+}
+
+fn read_existlinks<S: Alter>(
+    alloc: Global,
+    connection: &mut Connection<S>,
+) -> Result<Vec<LinkRow>, Error> {
+    read_links(
+        alloc,
+        connection,
+        "SELECT el_from, el_from_namespace, el_namespace, el_title FROM existlinks ORDER BY el_from, el_namespace, el_title",
+    )
+}
+
+fn read_categorylinks<S: Alter>(
+    alloc: Global,
+    connection: &mut Connection<S>,
+) -> Result<Vec<CategoryRow>, Error> {
+    let mut rows = read_all(
+        alloc,
+        connection,
+        "SELECT cl_from, cl_to, cl_sortkey, cl_sortkey_prefix FROM categorylinks ORDER BY cl_from, cl_to",
+    )?;
+    sort_members(&mut rows);
+    Ok(rows)
+}
+
+fn read_redirects<S: Alter>(
+    alloc: Global,
+    connection: &mut Connection<S>,
+) -> Result<Vec<RedirectRow>, Error> {
+    read_all(
+        alloc,
+        connection,
+        "SELECT rd_from, rd_namespace, rd_title FROM redirect ORDER BY rd_from",
+    )
+}
+
+fn read_jobs<S: Alter>(
+    alloc: Global,
+    connection: &mut Connection<S>,
+) -> Result<Vec<JobRow>, Error> {
+    read_all(
+        alloc,
+        connection,
+        "SELECT job_id, job_cmd, job_namespace, job_title, job_params FROM job ORDER BY job_id",
+    )
+}
+
+/// The number of the table site's row `version`.
+fn read_version<S: Alter>(alloc: Global, connection: &mut Connection<S>) -> Result<u64, Error> {
+    let row = connection.query_row(
+        "SELECT site_value FROM site WHERE site_key = 'version'",
+        &[],
+    )?;
+    let value = text_at(alloc, &row, 0)?;
+    decimal(value.as_str().as_bytes()).ok_or(Error::InvalidColumnType(0, Type::Text))
+}
+
+/// The tables of the wiki. Each list is in the order of its first column, and then of the titles.
+pub fn load_tables<S: Alter>(
+    alloc: Global,
+    connection: &mut Connection<S>,
+) -> Result<Tables, Error> {
+    let rows = TableRows {
+        pages: read_pages(alloc, connection)?,
+        revisions: read_revisions(alloc, connection)?,
+        pagelinks: read_pagelinks(alloc, connection)?,
+        templatelinks: read_templatelinks(alloc, connection)?,
+        existlinks: read_existlinks(alloc, connection)?,
+        categorylinks: read_categorylinks(alloc, connection)?,
+        redirects: read_redirects(alloc, connection)?,
+        jobs: read_jobs(alloc, connection)?,
+        version: read_version(alloc, connection)?,
+    };
+    Tables::from_rows(alloc, rows).map_err(no_memory)
+}
