@@ -1,35 +1,25 @@
 -- What is bound for the parts of a template, part by part.
-use Rattle.std.proofs.Common.{◌≡◌, ℕ, zero, suc, ◌+◌, ◌<◌, ◌≤◌, cond, Bool, true, false, List, [], ◌∷◌, length, drop, Option, Some, None, IsSome, Result, Err, refl, sym, ap, subst, arith, ◌∙◌}
-use Rattle.std.specs.Prelude.{bytes_eq, decimal, find, is_some}
+use Rattle.std.proofs.Common.{◌≡◌, ℕ, zero, suc, ◌+◌, cond, Bool, true, false, List, [], ◌∷◌, drop, Option, Some, None, IsSome, refl, sym, ap, subst, arith, ◌∙◌}
+use Rattle.std.specs.Prelude.{bytes_eq, decimal, find}
 use Rattle.std.specs.List.{slice_get}
 use Rattle.std.specs.Option.{IfSome}
 use Rattle.std.specs.FinMap.{FinMap, insert, empty}
 use Rattle.std.specs.Ordering.{nat_cmp}
 use Rattle.std.specs.Cmp.Lexicographic.{slice_cmp}
-use Rattle.std.proofs.Math.ListN.{drop_of_length-le}
 use Rattle.wk_args.specs.Args.{bound}
 use Rattle.wk_args.proofs.Bindings.{bound-insert, bound-empty}
 use Rattle.wk_text_rules.specs.Marked.{plain_text_of, trimmed_output}
 use Rattle.wk_text_rules.specs.Titles.{PageTitle}
-use Rattle.wk_tree_rules.specs.Tree.{Node, Part as TreePart, further_parts}
+use Rattle.wk_tree_rules.specs.Tree.{Part as TreePart}
 use Rattle.wk_tree_rules.specs.Trees.{Item}
-use Rattle.wk_tree.specs.Parsed.{ParsedText, IsPart, list_with, node_with, part_with}
-use Rattle.wk_tree.specs.declared.item.ListId.{ListId}
-use Rattle.wk_tree.specs.declared.item.NodeId.{NodeId}
-use Rattle.wk_tree.specs.declared.parsed.Part.{Part}
-use Rattle.wk_view_rules.specs.Expand.{expand, trimmed_items, with_bindings}
+use Rattle.wk_tree.specs.Parsed.{ParsedText, list_with}
+use Rattle.wk_view_rules.specs.Expand.{trimmed_items, with_bindings}
 use Rattle.wk_view_rules.specs.Expansions.{Expansion, Output, give, ◌>>=◌}
 use Rattle.wk_view_rules.specs.Frames.{Frame, Binding}
-use Rattle.wk_view_rules.specs.Worlds.{Seen}
 use Rattle.wk_expand.specs.Bindings.{named_binding, named_in}
 use Rattle.wk_expand.specs.Levels.{HasLists}
-use Rattle.wk_expand.specs.Running.{IsSame, ComesTo, StopsAt}
-use Rattle.wk_expand.specs.State.{IsBinding, IsBindingIn, IsFrame, ShowsBindings, current}
+use Rattle.wk_expand.specs.State.{IsBinding, IsBindingIn, ShowsBindings}
 use Rattle.wk_expand.specs.declared.levels.Bound.{Bound}
-use Rattle.wk_expand.specs.declared.state.Expander.{Expander}
-use Rattle.wk_expand.specs.declared.state.Stop.{Stop}
-use Rattle.wk_expand.proofs.NodeLaws.{count-is, part-of, some_within}
-use Rattle.wk_expand.proofs.PartLaws.{at_some, bare, current-same, list-later, named, part-is, some_of, some_part}
 use Rattle.wk_expand.proofs.WrittenLaws.{bind-same, regrouped}
 
 -- ---- what is bound, in the code and in the rules

@@ -1,8 +1,7 @@
 -- What a draft comes to.
-use Rattle.std.proofs.Common.{◌≡◌, ℕ, List, [], ◌∷◌, ◌++◌, drop, reverse, Option, Some, None, option_map, refl, sym, ap, ap₂, subst, ◌∙◌}
+use Rattle.std.proofs.Common.{◌≡◌, ℕ, List, [], drop, reverse, Option, Some, None, option_map, refl, sym, ap, ap₂, subst, ◌∙◌}
 use Rattle.wk_text_rules.specs.Titles.{PageTitle}
-use Rattle.wk_tree.specs.Parsed.{ParsedText, list_with}
-use Rattle.wk_tree.specs.declared.item.ListId.{ListId}
+use Rattle.wk_tree.specs.Parsed.{list_with}
 use Rattle.wk_tree_rules.specs.Tree.{tree}
 use Rattle.wk_tree_rules.specs.Trees.{Item}
 use Rattle.wk_tree_rules.specs.declared.Mode.TheVariants as mode
@@ -10,9 +9,9 @@ use Rattle.std.proofs.lemmas.List.Elements.{All-head, All-nil}
 use Rattle.wk_view_laws.proofs.PlanLemmas.{met, noted-agrees, run-and_then, run-asks}
 use Rattle.wk_view_laws.specs.Plans.{goes_on}
 use Rattle.wk_view_rules.specs.Expand.{expand}
-use Rattle.wk_view_rules.specs.Expansions.{Expansion, Output, Progress, give, ◌>>=◌, most_open, no_counters, no_progress}
+use Rattle.wk_view_rules.specs.Expansions.{Expansion, Output, Progress, give, ◌>>=◌, most_open, no_counters}
 use Rattle.wk_view_rules.specs.Frames.{Frame}
-use Rattle.wk_view_rules.specs.Plans.{Plan, Outcome, gives, and_then, done, noted, run}
+use Rattle.wk_view_rules.specs.Plans.{Plan, gives, and_then, done, noted, run}
 use Rattle.wk_view_rules.specs.Views.{Expanded, expanded_by, text_plan, view_plan}
 use Rattle.wk_view_rules.specs.Worlds.{Agrees, Answer, PageText, Read, Seen, ask, of_seen, page_of}
 use Rattle.wk_view_rules.specs.declared.Kind.{Kind}
@@ -23,10 +22,10 @@ use Rattle.wk_expand.specs.Kept.{expanded_with}
 use Rattle.wk_expand.specs.Levels.{LevelsShown, tree_in}
 use Rattle.wk_expand.specs.Machines.{IsLeft}
 use Rattle.wk_expand.specs.Nodes.{rest_list}
-use Rattle.wk_expand.specs.Running.{goes, needed, Passes, Stops, StopsAt}
-use Rattle.wk_expand.specs.State.{IsBegun, IsFrame, ShowsFrame, current, progress_of}
+use Rattle.wk_expand.specs.Running.{goes, needed, Passes, StopsAt}
+use Rattle.wk_expand.specs.State.{IsBegun, ShowsFrame, progress_of}
 use Rattle.wk_expand.specs.Steps.{given_text}
-use Rattle.wk_expand.specs.Work.{Continues, IsListing, IsNow, IsTurn}
+use Rattle.wk_expand.specs.Work.{Continues, IsNow, IsTurn}
 use Rattle.wk_expand.specs.declared.drafts.Root.{Root}
 use Rattle.wk_expand.specs.declared.drafts.Root.TheVariants.{Page, Given}
 use Rattle.wk_expand.specs.declared.stack.Turn.{Turn}
@@ -37,7 +36,7 @@ use Rattle.wk_expand.specs.declared.stack.Opened.{Opened}
 use Rattle.wk_expand.specs.declared.state.Expander.{Expander}
 use Rattle.wk_expand.specs.declared.state.Stop.TheVariants.{Needs}
 use Rattle.wk_expand.specs.declared.work.Work.{Work}
-use Rattle.wk_expand.proofs.ListLaws.{expand-is, list-start, plans-ended}
+use Rattle.wk_expand.proofs.ListLaws.{list-start, plans-ended}
 use Rattle.wk_expand.proofs.RunLaws.{run-give, needed-on}
 
 -- ---- what is left of a draft

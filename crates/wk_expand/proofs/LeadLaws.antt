@@ -1,22 +1,20 @@
 -- What a node does next, in the text in which it stands.
-use Rattle.std.proofs.Common.{◌≡◌, ℕ, ◌+◌, ◌<◌, ◌≤◌, List, [], ◌∷◌, ◌++◌, codes, length, drop, Option, Some, None, IsSome, Result, Err, refl, sym, ap, subst, ◌∙◌, append_assoc, append-nil}
+use Rattle.std.proofs.Common.{◌≡◌, ℕ, ◌<◌, ◌≤◌, List, [], ◌++◌, codes, length, Some, None, IsSome, Result, Err, refl, sym, ap, subst, ◌∙◌, append_assoc}
 use Rattle.std.specs.List.{slice_get}
 use Rattle.std.specs.Option.{IfSome}
 use Rattle.wk_text_rules.specs.Marked.{all_plain}
-use Rattle.wk_text_rules.specs.Titles.{PageTitle}
 use Rattle.wk_tree.specs.Parsed.{ParsedText, IsPart, list_with, node_with, part_with}
 use Rattle.wk_tree.specs.declared.item.ListId.{ListId}
 use Rattle.wk_tree.specs.declared.item.NodeId.{NodeId}
 use Rattle.wk_tree.specs.declared.parsed.Part.{Part as Kept}
-use Rattle.wk_tree_rules.specs.Tree.{Node, Part, further_parts}
+use Rattle.wk_tree_rules.specs.Tree.{Part, further_parts}
 use Rattle.wk_tree_rules.specs.Trees.{Item}
 use Rattle.wk_view_rules.specs.Expand.{whole_part, trimmed_items}
-use Rattle.wk_view_rules.specs.Expansions.{Expansion, Output, Progress, give, ◌>>=◌}
-use Rattle.wk_view_rules.specs.Plans.{Plan, gives, and_then}
+use Rattle.wk_view_rules.specs.Expansions.{Expansion, Output, give, ◌>>=◌}
 use Rattle.wk_view_rules.specs.Worlds.{Seen}
 use Rattle.wk_expand.specs.Levels.{LevelsShown, tree_in}
-use Rattle.wk_expand.specs.Running.{ComesTo, IsSame, Passes, StopsAt}
-use Rattle.wk_expand.specs.Stack.{AreWithin, IsHere, IsNext, IsPending, IsRest, LeadsOn, LeadsTo, Place, Waits, parts_at, text_at, whole_behind}
+use Rattle.wk_expand.specs.Running.{ComesTo, IsSame, StopsAt}
+use Rattle.wk_expand.specs.Stack.{AreWithin, IsHere, IsPending, IsRest, LeadsOn, LeadsTo, Place, Waits, parts_at, text_at}
 use Rattle.wk_expand.specs.State.{IsFrame, ShowsFrame, current}
 use Rattle.wk_expand.specs.declared.stack.Next.{Next}
 use Rattle.wk_expand.specs.declared.stack.Next.TheVariants.{Gives, Expands, Goes}

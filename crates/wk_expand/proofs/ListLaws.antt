@@ -1,5 +1,5 @@
 -- The items of a list, as the code finds them, and what they give one behind the other.
-use Rattle.std.proofs.Common.{◌≡◌, ℕ, zero, suc, ◌+◌, ◌<◌, ◌≤◌, false, true, List, [], ◌∷◌, ◌++◌, length, drop, get_or, Option, Some, None, IsSome, Result, Ok, Err, refl, sym, ap, subst, ◌∙◌, append_assoc, append-nil}
+use Rattle.std.proofs.Common.{◌≡◌, ℕ, zero, suc, ◌+◌, ◌<◌, ◌≤◌, false, true, List, [], ◌∷◌, ◌++◌, length, drop, get_or, Option, Some, None, IsSome, refl, sym, ap, subst, ◌∙◌, append_assoc, append-nil}
 use Rattle.std.specs.List.{slice_get, AllByRecursion}
 use Rattle.std.specs.Option.{IfSome, option_and_then}
 use Rattle.std.specs.Str.{IsUtf8}
@@ -20,14 +20,12 @@ use Rattle.wk_view_rules.specs.Expand.{expand, item_output, items_output}
 use Rattle.wk_view_rules.specs.Expansions.{Expansion, Output, Progress, give, ◌>>=◌}
 use Rattle.wk_view_rules.specs.Frames.{Frame}
 use Rattle.wk_view_rules.specs.Plans.{Plan, gives, asks, and_then}
-use Rattle.wk_view_rules.specs.Worlds.{Seen}
 use Rattle.wk_expand.specs.Items.{item_with, text_at, IsItem, IsTextAt}
 use Rattle.wk_expand.specs.Nodes.{charged_node, rest_list}
 use Rattle.wk_expand.specs.Running.{IsSame}
 use Rattle.wk_expand.specs.Work.{IsFilled}
-use Rattle.wk_expand.specs.State.{IsFrame, current, progress_of}
+use Rattle.wk_expand.specs.State.{current}
 use Rattle.wk_expand.specs.declared.state.Expander.{Expander}
-use Rattle.wk_expand.specs.declared.state.Stop.{Stop}
 use Rattle.wk_expand.proofs.PartLaws.{current-same, some_of, some_part, at_some}
 use Rattle.wk_expand.proofs.NodeLaws.{some_within}
 use Rattle.wk_expand.proofs.WrittenLaws.{plans-regrouped, drop-some}

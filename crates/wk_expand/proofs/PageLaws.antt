@@ -1,7 +1,6 @@
 -- Texts within each other: the frame of a page that is entered, and that of its caller.
-use Rattle.std.proofs.Common.{◌≡◌, ℕ, ◌/◌, ◌<◌, Bool, List, [], ◌∷◌, length, drop, Some, IsSome, Result, Ok, Err, refl, sym, ap, ap₂, subst, ◌∙◌}
+use Rattle.std.proofs.Common.{◌≡◌, ℕ, ◌/◌, ◌<◌, Bool, List, [], ◌∷◌, length, drop, Some, IsSome, refl, sym, ap, ap₂, subst, ◌∙◌}
 use Rattle.std.specs.Bool.{if◌then◌else◌}
-use Rattle.std.specs.Result.{OnOk}
 use Rattle.wk_text_rules.specs.Marked.{trimmed_output}
 use Rattle.wk_text_rules.specs.Titles.{PageTitle}
 use Rattle.wk_tree_rules.specs.Tree.{tree, Part}
@@ -10,17 +9,15 @@ use Rattle.wk_tree_rules.specs.declared.Mode.TheVariants as mode
 use Rattle.wk_tree.specs.Parsed.{ParsedText, list_with}
 use Rattle.wk_tree.specs.declared.item.ListId.{ListId}
 use Rattle.wk_view_rules.specs.Expand.{argument_value, included, with_bindings}
-use Rattle.wk_view_rules.specs.Expansions.{Expansion, Output, give, charged, argument_within_limit, inclusion_within_limit, ◌>>=◌}
+use Rattle.wk_view_rules.specs.Expansions.{Expansion, Output, charged, argument_within_limit, inclusion_within_limit, ◌>>=◌}
 use Rattle.wk_view_rules.specs.Frames.{Frame, Binding, binding_length, caller}
 use Rattle.wk_view_rules.specs.Worlds.{Seen}
 use Rattle.wk_expand.specs.Levels.{LevelsShown, tree_in}
-use Rattle.wk_expand.specs.Running.{IsSame, ComesTo, Leads, StopsAt}
+use Rattle.wk_expand.specs.Running.{IsSame, ComesTo}
 use Rattle.wk_expand.specs.State.{IsFrame, ShowsBindings, ShowsFrame, caller_tree, current}
 use Rattle.wk_expand.specs.declared.levels.Level.{Level}
 use Rattle.wk_expand.specs.declared.state.Expander.{Expander}
-use Rattle.wk_expand.specs.declared.state.Stop.{Stop}
 use Rattle.wk_expand.proofs.PartLaws.{some_of, some_part}
-use Rattle.wk_expand.proofs.RunLaws.{comes-bind, stops-bind}
 
 -- an expansion that has come as far, in other texts
 abbrev pub with_levels : LevelsShown → Expander → Expander

@@ -1,12 +1,11 @@
 -- What a machine comes to, to which the answers are given one at a time.
-use Rattle.std.proofs.Common.{◌≡◌, ℕ, ◌+◌, [], ◌∷◌, ◌++◌, length, Some, None, refl, sym, ap, subst, ◌∙◌, length-append}
+use Rattle.std.proofs.Common.{◌≡◌, ℕ, ◌+◌, [], ◌∷◌, ◌++◌, length, Some, None, sym, ap, subst, ◌∙◌, length-append}
 use Rattle.std.proofs.lemmas.List.Elements.{All-nil, All-push}
 use Rattle.wk_text_rules.specs.Titles.{PageTitle}
-use Rattle.wk_view_laws.proofs.RoundLemmas.{need-unanswered}
 use Rattle.wk_view_rules.specs.Worlds.{Agrees, Answer, Read, Seen, ask, of_seen}
 use Rattle.wk_view_rules.specs.declared.Kind.{Kind}
 use Rattle.wk_expand.specs.Answers.{read_with}
-use Rattle.wk_expand.specs.Drafts.{DraftShown, drafted, plan_of}
+use Rattle.wk_expand.specs.Drafts.{DraftShown, drafted}
 use Rattle.wk_expand.specs.Machines.{MachineShown}
 use Rattle.wk_expand.specs.Resumed.{AreRuns, IsGiven}
 use Rattle.wk_expand.specs.Rounds.{IsSeenAfter}

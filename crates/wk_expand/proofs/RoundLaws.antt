@@ -1,14 +1,12 @@
 -- What a step says with more seen, and that rounds of drafting come to an end.
-use Rattle.std.proofs.Common.{◌≡◌, ℕ, zero, suc, ◌+◌, ◌<◌, ◌≤◌, true, false, IsTrue, List, [], ◌∷◌, ◌++◌, length, Option, Some, None, arith, inl, inr, refl, sym, ap, subst, ◌∙◌}
+use Rattle.std.proofs.Common.{◌≡◌, ℕ, zero, suc, ◌+◌, ◌<◌, ◌≤◌, true, false, IsTrue, List, [], ◌∷◌, ◌++◌, length, Some, None, arith, inl, inr, refl, sym, ap, subst, ◌∙◌}
 use Rattle.std.specs.List.{list_any}
-use Rattle.std.proofs.lemmas.List.Elements.{All-nil}
 use Rattle.wk_text_rules.specs.Titles.{PageTitle}
 use Rattle.wk_view_laws.proofs.PlanLemmas.{agrees-itself, done-elsewhere, need-elsewhere}
 use Rattle.wk_view_laws.proofs.RoundLemmas.{ask-last, length-leads, need-text, need-unanswered, need-view, unanswered-unread}
 use Rattle.wk_view_laws.proofs.ViewLemmas.{length-text, length-view}
-use Rattle.wk_view_rules.specs.Plans.{Outcome, need, reads_of, NeedsOrReads}
-use Rattle.wk_view_rules.specs.Views.{Expanded}
-use Rattle.wk_view_rules.specs.Worlds.{Agrees, Answer, Read, Seen, ask, is_read_of, of_seen}
+use Rattle.wk_view_rules.specs.Plans.{reads_of, NeedsOrReads}
+use Rattle.wk_view_rules.specs.Worlds.{Agrees, Answer, Seen, ask, is_read_of, of_seen}
 use Rattle.wk_view_rules.specs.declared.Kind.{Kind}
 use Rattle.wk_expand.specs.Answers.{read_with}
 use Rattle.wk_expand.specs.Drafts.{DraftShown, drafted, plan_of}

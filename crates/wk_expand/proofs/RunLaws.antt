@@ -1,5 +1,5 @@
 -- How the parts of an expansion go together.
-use Rattle.std.proofs.Common.{◌≡◌, Some, List, ◌∷◌, Result, Ok, Err, refl, sym, ap, subst, ◌∙◌}
+use Rattle.std.proofs.Common.{◌≡◌, Some, Result, Ok, Err, refl, sym, ap, subst, ◌∙◌}
 use Rattle.wk_text_rules.specs.Titles.{PageTitle}
 use Rattle.wk_view_rules.specs.Expansions.{Expansion, give, ◌>>=◌}
 use Rattle.wk_view_rules.specs.Plans.{Plan, Outcome, done, need, run}
@@ -10,7 +10,7 @@ use Rattle.wk_view_laws.proofs.PlanLemmas.{run-and_then}
 use Rattle.wk_expand.specs.Levels.{LevelsShown}
 use Rattle.wk_view_rules.specs.Frames.{Frame}
 use Rattle.wk_expand.specs.State.{progress_of, ShowsFrame, IsFrame}
-use Rattle.wk_expand.specs.Running.{goes, needed, Stops, StopsAt, IsSame, Came, Passes, ComesTo, Leads}
+use Rattle.wk_expand.specs.Running.{goes, needed, Stops, StopsAt, IsSame, Passes, ComesTo, Leads}
 use Rattle.wk_expand.specs.declared.state.Expander.{Expander}
 use Rattle.wk_expand.specs.declared.state.Stop.{Stop}
 use Rattle.wk_expand.specs.declared.state.Stop.TheVariants.{Needs, Memory}

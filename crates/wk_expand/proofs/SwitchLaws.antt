@@ -5,26 +5,19 @@ use Rattle.std.specs.Option.{IfSome}
 use Rattle.std.proofs.Math.Seq.{drop-cons}
 use Rattle.std.proofs.lemmas.Option.{slice_get-get_or, slice_get_within}
 use Rattle.wk_text_rules.specs.Titles.{PageTitle}
-use Rattle.wk_tree.specs.Parsed.{ParsedText, list_with, node_with, part_with, IsPart}
+use Rattle.wk_tree.specs.Parsed.{ParsedText, list_with}
 use Rattle.wk_tree.specs.declared.item.ListId.{ListId}
-use Rattle.wk_tree.specs.declared.item.NodeId.{NodeId}
-use Rattle.wk_tree.specs.declared.parsed.Part.{Part as Kept}
-use Rattle.wk_tree_rules.specs.Tree.{Node, Part, further_parts}
+use Rattle.wk_tree_rules.specs.Tree.{Part}
 use Rattle.wk_tree_rules.specs.Trees.{Item}
 use Rattle.wk_view_rules.specs.Expand.{Search, behind_bare_item, behind_named_item, switch_output, trimmed_items, without_result}
 use Rattle.wk_view_rules.specs.Expansions.{Expansion, Output, give, ◌>>=◌}
 use Rattle.wk_view_rules.specs.Frames.{Frame}
 use Rattle.wk_view_rules.specs.Words.{named_item}
-use Rattle.wk_view_rules.specs.Worlds.{Seen}
 use Rattle.wk_view_rules.specs.declared.Turned.{Turned}
 use Rattle.wk_view_rules.specs.declared.Turned.TheVariants.{Result, Default, Pass}
 use Rattle.wk_expand.specs.Searches.{HasDefault, behind_turned}
 use Rattle.wk_expand.specs.Stack.{Place, searched}
 use Rattle.wk_expand.specs.declared.search.Search.{Search as Found}
-use Rattle.wk_expand.specs.declared.state.Expander.{Expander}
-use Rattle.wk_expand.specs.declared.state.Stop.{Stop}
-use Rattle.wk_expand.proofs.NodeLaws.{count-is, part-of, some_within}
-use Rattle.wk_expand.proofs.PartLaws.{current-same, part-is, some_of, some_part}
 
 module _ (inner : Frame → List Item → Expansion Output) (viewed : PageTitle) (frame : Frame) where
   abbrev pub behind_bare : Search → List Part → Output → Expansion Output

@@ -1,5 +1,5 @@
 -- Trees that are kept by their texts.
-use Rattle.std.proofs.Common.{◌≡◌, ℕ, ◌≤◌, Bool, true, false, List, [], ◌∷◌, length, slice_get, is_some, Contains, Option, Some, None, inl, inr, refl, sym, ap, subst, ◌∙◌}
+use Rattle.std.proofs.Common.{◌≡◌, ℕ, ◌≤◌, Bool, true, List, [], ◌∷◌, length, slice_get, is_some, Some, inl, inr, refl, sym, ap, subst, ◌∙◌}
 use Rattle.std.specs.Prelude.{◌&&◌, eqb}
 use Rattle.std.proofs.lemmas.Slice.Eq.{bytes_eq-Decides}
 use Rattle.wk_view_laws.proofs.PlanLemmas.{both_parts}
@@ -13,7 +13,7 @@ use Rattle.std.proofs.lemmas.Bool.{cases_Bool}
 use Rattle.lru.specs.LruCache.{LruCache, promoted, put_entries}
 use Rattle.lru.proofs.CallerLemmas.{Contains-lookup_entry, Contains-promoted, Contains-put_entries}
 use Rattle.wk_tree.specs.Parsed.{ParsedText}
-use Rattle.wk_expand.specs.Trees.{AreKept, IsKeptTree, most_bytes, parsed_text}
+use Rattle.wk_expand.specs.Trees.{AreKept, most_bytes, parsed_text}
 use Rattle.wk_expand.specs.declared.trees.Reading.{Reading}
 
 abbrev pub entries_of : LruCache Reading ParsedText → List (Reading × ParsedText)

@@ -2,23 +2,22 @@
 use Rattle.std.specs.declared.vec.Vec.{Vec}
 use Rattle.std.specs.Vec.{vec_len}
 use Rattle.std.proofs.lemmas.List.{reverse-append}
-use Rattle.std.proofs.Common.{◌≡◌, ℕ, zero, suc, ◌+◌, ◌<◌, ◌≤◌, List, [], ◌∷◌, ◌++◌, length, drop, reverse, Option, Some, None, Result, Ok, Err, refl, sym, ap, ap₂, subst, arith, ◌-◌, ◌∙◌}
+use Rattle.std.proofs.Common.{◌≡◌, ℕ, suc, ◌+◌, ◌<◌, List, [], ◌∷◌, ◌++◌, length, drop, reverse, Option, Some, None, refl, sym, ap, subst, arith, ◌-◌, ◌∙◌}
 use Rattle.wk_text_rules.specs.Titles.{PageTitle}
-use Rattle.wk_tree.specs.Parsed.{ParsedText, list_with, node_with}
+use Rattle.wk_tree.specs.Parsed.{list_with, node_with}
 use Rattle.wk_tree.specs.declared.item.ListId.{ListId}
 use Rattle.wk_tree.specs.declared.item.NodeId.{NodeId}
-use Rattle.wk_tree_rules.specs.Tree.{Node, title_part, further_parts}
+use Rattle.wk_tree_rules.specs.Tree.{title_part}
 use Rattle.wk_tree_rules.specs.Trees.{Item}
 use Rattle.wk_view_rules.specs.Expand.{expand, items_output, node_output}
-use Rattle.wk_view_rules.specs.Expansions.{Expansion, Output, give, ◌>>=◌, charged, most_open}
+use Rattle.wk_view_rules.specs.Expansions.{Expansion, Output, give, ◌>>=◌}
 use Rattle.wk_view_rules.specs.Frames.{Frame}
-use Rattle.wk_view_rules.specs.Texts.{nesting_error, node_error}
 use Rattle.wk_view_rules.specs.Worlds.{Seen}
 use Rattle.wk_expand.specs.Levels.{LevelsShown, tree_in}
 use Rattle.wk_expand.specs.Nodes.{charged_node, opened, rest_list}
 use Rattle.wk_expand.specs.Running.{ComesTo, Passes, StopsAt}
 use Rattle.wk_view_rules.specs.declared.Kind.{Kind}
-use Rattle.wk_expand.specs.Stack.{AreWithin, IsExpanded, IsHere, IsNext, IsPlace, LeadsTo, LeadsOn, Place, Waits, text_at, parts_at}
+use Rattle.wk_expand.specs.Stack.{AreWithin, IsHere, IsNext, IsPlace, LeadsTo, Place, Waits}
 use Rattle.wk_expand.specs.State.{ShowsFrame, current}
 use Rattle.wk_expand.specs.Work.{Continues, IsAtNode, IsEnded, IsFilled, IsGoing, IsListBehind, IsListing, IsNow, IsOpened, IsPassed, IsTurn, HasOpened, Spot, place_of}
 use Rattle.wk_expand.specs.declared.stack.Listing.{Listing}

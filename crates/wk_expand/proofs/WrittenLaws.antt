@@ -1,26 +1,15 @@
 -- A template as it is written, part by part.
-use Rattle.std.proofs.Common.{◌≡◌, ℕ, zero, suc, ◌+◌, ◌<◌, ◌≤◌, List, [], ◌∷◌, ◌++◌, length, drop, codes, Some, IsSome, Ok, Err, refl, sym, ap, subst, ◌∙◌, arith, append_assoc, append-nil}
-use Rattle.std.proofs.lemmas.List.{drop_all}
+use Rattle.std.proofs.Common.{◌≡◌, ℕ, zero, suc, ◌+◌, List, [], ◌∷◌, ◌++◌, drop, codes, Some, refl, ap, ◌∙◌, arith, append_assoc, append-nil}
 use Rattle.std.specs.List.{slice_get}
 use Rattle.wk_text_rules.specs.Marked.{MarkedByte, all_plain}
 use Rattle.wk_text_rules.specs.Titles.{PageTitle}
-use Rattle.wk_tree.specs.Parsed.{node_with, part_with}
-use Rattle.wk_tree.specs.declared.item.NodeId.{NodeId}
-use Rattle.wk_tree_rules.specs.Tree.{Node, Part, further_parts}
+use Rattle.wk_tree_rules.specs.Tree.{Part}
 use Rattle.wk_tree_rules.specs.Trees.{Item}
-use Rattle.wk_view_rules.specs.Expand.{expand, whole_part, written_parts, template_as_written}
+use Rattle.wk_view_rules.specs.Expand.{whole_part, written_parts, template_as_written}
 use Rattle.wk_view_rules.specs.Expansions.{Expansion, Output, Progress, give, ◌>>=◌}
 use Rattle.wk_view_rules.specs.Frames.{Frame}
 use Rattle.wk_view_rules.specs.Plans.{Plan, gives, asks, and_then}
-use Rattle.wk_view_rules.specs.Worlds.{Seen}
 use Rattle.wk_expand.specs.Nodes.{rest_written}
-use Rattle.wk_expand.specs.Running.{IsSame}
-use Rattle.wk_expand.specs.State.{IsFrame, current, progress_of}
-use Rattle.wk_expand.specs.declared.state.Expander.{Expander}
-use Rattle.wk_expand.specs.declared.state.Stop.{Stop}
-use Rattle.wk_expand.proofs.PartLaws.{some_of, some_part}
-use Rattle.wk_expand.proofs.NodeLaws.{node-later, part-of, some_within}
-use Rattle.wk_expand.proofs.RunLaws.{comes-as, comes-bind, comes-on, comes-out, frame-same, gives-then, same-itself, same-on, stops-as, stops-bind, stops-on}
 
 -- three plans, one behind the other
 pub plans-regrouped : {A B C : Type 0} (p : Plan A) (f : A → Plan B) (g : B → Plan C) → and_then (and_then p f) g ≡ and_then p (λ x. and_then (f x) g)

@@ -1,10 +1,10 @@
 -- Drafts that are resumed.
-use Rattle.std.specs.Prelude.{◌≡◌, ℕ, List, [], Option, Some, None, Ok}
+use Rattle.std.specs.Prelude.{◌≡◌, ℕ, List, [], Option, Some, None}
 use Rattle.wk_text_rules.specs.Titles.{PageTitle}
 use Rattle.wk_view_rules.specs.Expansions.{Expansion, Output}
 use Rattle.wk_view_rules.specs.Plans.{and_then, run}
 use Rattle.wk_view_rules.specs.Views.{expanded_by}
-use Rattle.wk_view_rules.specs.Worlds.{Agrees, Seen, ask, of_seen}
+use Rattle.wk_view_rules.specs.Worlds.{Agrees, Seen, of_seen}
 use Rattle.wk_expand.specs.Drafts.{drafted}
 use Rattle.wk_expand.specs.State.{progress_of}
 use Rattle.wk_expand.specs.Work.{IsNow}

@@ -1,5 +1,5 @@
 -- What the calls of an expansion do: each carries out a part of the rules from how far the expansion has come.
-use Rattle.std.specs.Prelude.{◌≡◌, ℕ, List, Option, Some, None, Result, Ok, Err}
+use Rattle.std.specs.Prelude.{◌≡◌, Option, Some, None, Result, Ok, Err}
 use Rattle.wk_text_rules.specs.Titles.{PageTitle}
 use Rattle.wk_view_rules.specs.Expansions.{Expansion, Progress, give}
 use Rattle.wk_view_rules.specs.Plans.{Outcome, done, need, run}

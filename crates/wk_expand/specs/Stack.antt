@@ -1,8 +1,5 @@
 -- What an expansion that has begun is still to do: what each open node does with the output that it waits for.
-use Rattle.std.specs.Prelude.{◌≡◌, ℕ, suc, ◌+◌, ◌≤◌, List, [], ◌∷◌, ◌++◌, length, drop, codes, true, Option, Some, None, if◌then◌else◌, Bool, Result, Ok, Err}
-use Rattle.std.specs.FinMap.{FinMap}
-use Rattle.std.specs.Ordering.{nat_cmp}
-use Rattle.std.specs.Cmp.Lexicographic.{slice_cmp}
+use Rattle.std.specs.Prelude.{◌≡◌, ℕ, ◌+◌, ◌≤◌, List, ◌∷◌, ◌++◌, drop, codes, true, Option, Some, None, if◌then◌else◌, Result, Ok, Err}
 use Rattle.wk_text_rules.specs.Marked.{all_plain, plain_text_of, trimmed_output}
 use Rattle.wk_text_rules.specs.Numerals.{same_output}
 use Rattle.wk_text_rules.specs.Titles.{PageTitle}
@@ -11,13 +8,13 @@ use Rattle.wk_tree_rules.specs.Trees.{Item}
 use Rattle.wk_tree_rules.specs.declared.Mode.TheVariants as mode
 use Rattle.wk_tree.specs.Parsed.{ParsedText, list_with, node_with}
 use Rattle.wk_tree.specs.declared.item.NodeId.{NodeId}
-use Rattle.wk_view_rules.specs.Expand.{expand, kind_output, operand, redirected, switch_output, trimmed_items, whole_part, behind_bare_item, with_bindings, Search as Rule}
-use Rattle.wk_view_rules.specs.Expansions.{Expansion, Output, give, ◌>>=◌, argument_within_limit, inclusion_within_limit, most_open}
+use Rattle.wk_view_rules.specs.Expand.{kind_output, operand, redirected, switch_output, trimmed_items, whole_part, behind_bare_item, with_bindings, Search as Rule}
+use Rattle.wk_view_rules.specs.Expansions.{Expansion, Output, give, ◌>>=◌, argument_within_limit, inclusion_within_limit}
 use Rattle.wk_view_rules.specs.Frames.{Frame, Binding}
 use Rattle.wk_view_rules.specs.Words.{named_item}
 use Rattle.wk_view_rules.specs.Worlds.{Seen}
 use Rattle.wk_expand.specs.Levels.{HasLists, LevelsShown, tree_in}
-use Rattle.wk_expand.specs.Nodes.{rest_list, rest_written}
+use Rattle.wk_expand.specs.Nodes.{rest_written}
 use Rattle.wk_expand.specs.Bindings.{named_binding}
 use Rattle.wk_expand.specs.Running.{Passes, StopsAt}
 use Rattle.wk_expand.specs.Searches.{HasDefault, behind_turned, search_of}

@@ -1,5 +1,5 @@
-use Rattle.std.proofs.Common.{◌≡◌, [], sym, ap, subst}
-use Rattle.wk_view_rules.specs.Worlds.{Agrees, Seen, of_seen}
+use Rattle.std.proofs.Common.{sym, subst}
+use Rattle.wk_view_rules.specs.Worlds.{Agrees, of_seen}
 use Rattle.wk_expand.specs.Machines.{MachineShown}
 use Rattle.wk_expand.proofs.DraftLaws.{nothing-agrees}
 use Rattle.wk_expand.proofs.drafting.draft.Goals as goal

@@ -6,12 +6,12 @@ use Rattle.wk_expand.specs.Kept.{expanded_with}
 use Rattle.wk_expand.specs.declared.answer.Counts.{Counts}
 use Rattle.wk_view_rules.specs.Plans.{done, noted}
 use Rattle.wk_view_rules.specs.Views.{view_plan}
-use Rattle.wk_view_rules.specs.Worlds.{Agrees, ask, of_seen}
+use Rattle.wk_view_rules.specs.Worlds.{ask, of_seen}
 use Rattle.wk_view_rules.specs.declared.Kind.TheVariants.{View}
 use Rattle.wk_expand.specs.Answers.{answer_of, read_with}
 use Rattle.wk_expand.specs.Drafts.{DraftShown, drafted}
 use Rattle.wk_expand.specs.Running.{needed}
-use Rattle.wk_expand.proofs.DraftLaws.{first-agrees, first-answer, missing-done, nothing-agrees, view-answered, view-missing}
+use Rattle.wk_expand.proofs.DraftLaws.{first-answer, missing-done, nothing-agrees, view-answered, view-missing}
 use Rattle.wk_expand.proofs.machine.expand_page.Goals as goal
 
 pub returns-in_default : goal.returns-in_default

@@ -1,8 +1,5 @@
-use Rattle.std.proofs.Common.{◌≡◌, [], Some, refl, sym, ap, subst, ◌∙◌}
+use Rattle.std.proofs.Common.{◌≡◌, Some, refl, subst}
 use Rattle.wk_tree.specs.Parsed.{ParsedText, list_with, tree_of}
-use Rattle.wk_tree_rules.specs.Tree.{tree}
-use Rattle.wk_tree_rules.specs.declared.Mode.TheVariants as mode
-use Rattle.wk_view_rules.specs.Worlds.{Agrees, of_seen}
 use Rattle.wk_expand.specs.State.{IsBegun}
 use Rattle.wk_expand.specs.declared.stack.Listing.{Listing}
 use Rattle.wk_expand.specs.declared.work.Work.{Work}

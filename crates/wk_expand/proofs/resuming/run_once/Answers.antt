@@ -1,4 +1,4 @@
-use Rattle.std.proofs.Common.{true, false, subst}
+use Rattle.std.proofs.Common.{subst}
 use Rattle.wk_expand.specs.Resumed.{IsAnswered}
 use Rattle.wk_expand.specs.Runs.{IsRan}
 use Rattle.wk_expand.specs.declared.machine.Ran.{Ran}

@@ -1,7 +1,6 @@
-use Rattle.std.proofs.Common.{◌≡◌, length, ap, sym, ◌∙◌}
+use Rattle.std.proofs.Common.{length, ap, sym, ◌∙◌}
 use Rattle.std.proofs.lemmas.Bool.{OnTrue_from, eqb-true}
 use Rattle.wk_text_rules.specs.Blank.{trimmed}
-use Rattle.wk_text_rules.specs.Marked.{text_of}
 use Rattle.wk_expand.proofs.TextLaws.{trimmed_already}
 use Rattle.wk_expand.proofs.texts.is_trimmed.Goals as goal
 

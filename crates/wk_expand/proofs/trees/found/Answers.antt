@@ -1,9 +1,5 @@
-use Rattle.std.proofs.Common.{◌≡◌, slice_get, is_some, option_map, Some, sym, ap, subst, ◌∙◌}
-use Rattle.std.specs.Map.{lookup}
-use Rattle.lru.specs.LruCache.{LruCache, promoted}
-use Rattle.wk_tree.specs.Parsed.{ParsedText}
+use Rattle.std.proofs.Common.{slice_get, option_map, sym, ap, subst, ◌∙◌}
 use Rattle.wk_expand.specs.Trees.{AreKept}
-use Rattle.wk_expand.specs.declared.trees.Reading.{Reading}
 use Rattle.wk_expand.proofs.TreeLaws.{entries_of, front-found, kept-promoted, reading-same, reading_eq}
 use Rattle.wk_expand.proofs.trees.found.Goals as goal
 

@@ -1,8 +1,5 @@
-use Rattle.std.proofs.Common.{◌≡◌, sym, ap, subst, ◌∙◌}
-use Rattle.lru.specs.LruCache.{LruCache}
-use Rattle.wk_tree.specs.Parsed.{ParsedText}
+use Rattle.std.proofs.Common.{sym, ap, subst, ◌∙◌}
 use Rattle.wk_expand.specs.Trees.{AreKept}
-use Rattle.wk_expand.specs.declared.trees.Reading.{Reading}
 use Rattle.wk_expand.proofs.TreeLaws.{entries_of, kept-put, reading-same, reading_eq}
 use Rattle.wk_expand.proofs.trees.keep.Goals as goal
 

@@ -1,13 +1,12 @@
-use Rattle.std.proofs.Common.{◌≡◌, ◌++◌, ◌∷◌, [], List, None, Some, refl, sym, ap, subst, ◌∙◌}
+use Rattle.std.proofs.Common.{◌≡◌, ◌++◌, [], refl, sym, ap, subst, ◌∙◌}
 use Rattle.std.specs.Option.{option_to_list}
 use Rattle.std.proofs.lemmas.Result.{IfOk-weaker}
-use Rattle.wk_view_rules.specs.Expansions.{Expansion, Output}
-use Rattle.wk_expand.specs.Stack.{LeadsTo, Waits}
+use Rattle.wk_view_rules.specs.Expansions.{Output}
 use Rattle.wk_expand.specs.Work.{IsEnded}
 use Rattle.wk_expand.specs.declared.stack.Listing.{Listing}
 use Rattle.wk_expand.specs.declared.stack.Opened.{Opened}
 use Rattle.wk_expand.specs.declared.work.Work.{Work}
-use Rattle.wk_expand.proofs.WorkLaws.{ended-done, ended-going, ended-turn, ended-waits, pop-none}
+use Rattle.wk_expand.proofs.WorkLaws.{ended-going, ended-turn, ended-waits}
 use Rattle.wk_expand.proofs.work.Work.ended.Goals as goal
 
 pub finished-requires : goal.finished-requires

@@ -1,4 +1,4 @@
-use Rattle.std.proofs.Common.{◌≡◌, ℕ, Option, Some, None, subst}
+use Rattle.std.proofs.Common.{Option, Some, None, subst}
 use Rattle.std.proofs.lemmas.Result.{IfOk-weaker}
 use Rattle.wk_tree.specs.Parsed.{list_with}
 use Rattle.wk_tree.specs.declared.item.NodeId.{NodeId}

@@ -7,7 +7,7 @@ use Rattle.wk_view_rules.specs.Expansions.{Expansion, Output}
 use Rattle.wk_expand.specs.declared.stack.Listing.{Listing}
 use Rattle.wk_expand.specs.declared.work.Work.{Work}
 use Rattle.wk_tree.specs.declared.item.NodeId.{NodeId}
-use Rattle.std.proofs.Common.{◌≡◌, Some, None, sym, ap, subst}
+use Rattle.std.proofs.Common.{◌≡◌, Some, None, subst}
 use Rattle.wk_expand.specs.State.{current}
 use Rattle.wk_expand.specs.Work.{IsAtNode, IsEnded, IsFilled, IsListing}
 use Rattle.wk_expand.proofs.WorkLaws.{ended-listed, listing-end, listing-node, node-listed}

@@ -1,4 +1,4 @@
-use Rattle.std.proofs.Common.{◌≡◌, refl, ap}
+use Rattle.std.proofs.Common.{refl, ap}
 use Rattle.wk_view_rules.specs.Expansions.{Output}
 use Rattle.wk_expand.specs.declared.stack.Listing.{Listing}
 use Rattle.wk_expand.proofs.work.Work.passed.Goals as goal
