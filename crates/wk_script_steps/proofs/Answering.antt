@@ -34,6 +34,8 @@ module _ {K : Type 0} (told : K → Option StoreTables) (faults : K → ℕ) (mo
     fault = λ is. absurd ((step-no-failure old.start.limits (script_of old drafts) moment line reply comes.reply_is).store is);
   }
 
+-- a failure, of which no step tells
+module _ {K : Type 0} (told : K → Option StoreTables) (faults : K → ℕ) (moment : ℕ) (line : ScriptLine) (old new : WikiSeen K) (drafts after : List TicketDraft) where
   -- where memory is wanting
   pub tells-memory : LineRun old.start.limits (script_of old drafts) moment line (Some (api_error nomemory (point_of (script_of new after)))) (script_of new after)
       → Holds new.state after → new.start ≡ old.start → GoesOn told faults old new

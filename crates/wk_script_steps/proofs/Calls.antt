@@ -125,6 +125,41 @@ module _ {K : Type 0} (told : K → Option StoreTables) (faults : K → ℕ) whe
     value = value;
   }
 
+  -- nothing was made, and the keeper goes on
+  module _ (old new : WikiSeen K) (drafts : List TicketDraft) (result : Result Value Memory) (holds : Holds old.state drafts) (nothing : HasMadeNothing told old new) (keeper : GoesOn told faults old new) where
+    goes-there : GoesOn told faults old (record old { keeper = new.keeper })
+    goes-there = record { tells = keeper.tells; never_falls = keeper.never_falls; whole = keeper.whole }
+
+    -- it is as the rules have it
+    pub fan-still : (reply : ApiReply) → Comes old.start.limits (script_of old drafts) 0 fan_line reply (script_of old drafts) → Shows reply result
+        → Answers told faults 0 fan_line old new drafts drafts result
+    fan-still reply comes value = subst (λ (w : WikiSeen K). Answers told faults 0 fan_line old w drafts drafts result) (sym nothing.wiki) (record {
+      reply = reply;
+      tells = tells-step told faults 0 fan_line old (record old { keeper = new.keeper }) drafts drafts reply comes holds refl goes-there;
+      value = value;
+    })
+
+    -- memory is wanting
+    pub fan-starved : Shows (api_error nomemory (length old.journal)) result → Answers told faults 0 fan_line old new drafts drafts result
+    fan-starved value = subst (λ (w : WikiSeen K). Answers told faults 0 fan_line old w drafts drafts result) (sym nothing.wiki) (record {
+      reply = api_error nomemory (length old.journal);
+      tells = tells-memory told faults 0 fan_line old (record old { keeper = new.keeper }) drafts drafts fan_out_of_memory holds refl goes-there;
+      value = value;
+    })
+
+    -- the store fails
+    pub fan-failed-told : IsSome (first_fan old.state.jobs) → is_fan_refused old.start.limits old.state (length old.journal) ≡ false
+        → Rose (faults old.keeper) (faults new.keeper) → Shows (api_error storefault (length old.journal)) result → Answers told faults 0 fan_line old new drafts drafts result
+    fan-failed-told stands room rose value = by (first_fan old.state.jobs) refl stands
+      where
+        by : (o : Option FanEntry) → first_fan old.state.jobs ≡ o → IsSome o → Answers told faults 0 fan_line old new drafts drafts result
+        by None is none = absurd (let e : false ≡ true = none in cc)
+        by (Some fan) is some = subst (λ (w : WikiSeen K). Answers told faults 0 fan_line old w drafts drafts result) (sym nothing.wiki) (record {
+          reply = api_error storefault (length old.journal);
+          tells = tells-fault told faults 0 fan_line old (record old { keeper = new.keeper }) drafts drafts (fan_failed is room) holds refl goes-there rose;
+          value = value;
+        })
+
   -- ---- a ticket that comes in
 
   module _ (old new : WikiSeen K) (drafts : List TicketDraft) (draft : TicketDraft) (run : IsRun old.start old.journal old.state) (holds : Holds old.state drafts) (keeper : GoesOn told faults old new) where

@@ -30,7 +30,7 @@ use Rattle.wk_script_steps.specs.Seen.{script_of}
 pub made-is : {K : Type 0} (old new : WikiSeen K) (event : Event) (drafts after : List TicketDraft) → HasMade old new event
     → script_of new after ≡ record (after_event (script_of old drafts) event) { drafts = after }
 made-is old new event drafts after made = λ i. record {
-  start = made.start i .state;
+  start = (made.start i).state;
   journal = made.journal i;
   state = sym (ap (λ (o : Option State). unwrap_or o old.state) made.stepped) i;
   drafts = after;
