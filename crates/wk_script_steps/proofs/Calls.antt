@@ -48,6 +48,19 @@ Shows reply result = IfOk result (λ v. view v ≡ reply.value)
 pub shows-at : (point n : ℕ) (reply : ℕ → ApiReply) (result : Result Value Memory) → point ≡ n → Shows (reply point) result → Shows (reply n) result
 shows-at point n reply result same shown = subst (λ p. Shows (reply p) result) same shown
 
+-- it shows the ticket and the title of this claim
+pub claim-shown : (number point : ℕ) (title : PageTitle) (claim : ClaimOutcome) (result : Result Value Memory) → number ≡ claim.ticket → title ≡ claim.title
+    → Shows (reply_beside (claim_entries (record { ticket = number; title = title })) point) result → Shows (reply_beside (claim_entries claim) point) result
+claim-shown number point title claim result ticket_is title_is shown =
+    let P : ClaimOutcome → Type 0 = λ c. Shows (reply_beside (claim_entries c) point) result in
+    let same : record { ticket = number; title = title } ≡ claim = (λ i. record { ticket = ticket_is i; title = title_is i }) in
+    subst P same shown
+
+-- it shows this title, which came in
+pub title-shown : (point : ℕ) (title other : PageTitle) (result : Result Value Memory) → title ≡ other
+    → Shows (reply_beside (giveback_entries title) point) result → Shows (reply_beside (giveback_entries other) point) result
+title-shown point title other result same shown = subst (λ (t : PageTitle). Shows (reply_beside (giveback_entries t) point) result) same shown
+
 module _ {K : Type 0} (told : K → Option StoreTables) (faults : K → ℕ) where
   goes-nowhere : (w : WikiSeen K) → GoesOn told faults w w
   goes-nowhere w = record { tells = refl; never_falls = omega arith; whole = λ is. refl }
@@ -82,10 +95,19 @@ module _ {K : Type 0} (told : K → Option StoreTables) (faults : K → ℕ) whe
     value = value;
   }
 
-  -- the same where the wiki is said to be as it was
-  pub at-same : (moment : ℕ) (line : ScriptLine) (old new : WikiSeen K) (drafts after : List TicketDraft) (result : Result Value Memory) → new ≡ old
-      → Answers told faults moment line old old drafts after result → Answers told faults moment line old new drafts after result
-  at-same moment line old new drafts after result same answers = subst (λ (w : WikiSeen K). Answers told faults moment line old w drafts after result) (sym same) answers
+  -- the same where the wiki and the tickets are said to be as they were
+  module _ (moment : ℕ) (line : ScriptLine) (old new : WikiSeen K) (drafts after : List TicketDraft) (result : Result Value Memory) (holds : Holds old.state drafts) (same : new ≡ old) (lists : after ≡ drafts) where
+    at-same : Answers told faults moment line old old drafts drafts result → Answers told faults moment line old new drafts after result
+    at-same answers = subst (λ (w : WikiSeen K). Answers told faults moment line old w drafts after result) (sym same)
+        (subst (λ (ds : List TicketDraft). Answers told faults moment line old old drafts ds result) (sym lists) answers)
+
+    pub answers-same : (reply : ApiReply) → Comes old.start.limits (script_of old drafts) moment line reply (script_of old drafts) → Shows reply result
+        → Answers told faults moment line old new drafts after result
+    answers-same reply comes value = at-same (answers-still moment line old drafts drafts reply result comes holds value)
+
+    pub starved-same : LineRun old.start.limits (script_of old drafts) moment line (Some (api_error nomemory (length old.journal))) (script_of old drafts)
+        → Shows (api_error nomemory (length old.journal)) result → Answers told faults moment line old new drafts after result
+    starved-same run value = at-same (starved-still moment line old drafts result run holds value)
 
   -- ---- `claim`
 

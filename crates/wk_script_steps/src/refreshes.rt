@@ -19,19 +19,19 @@ use wk_script_tickets::{OpenTicket, place};
 /// Brings in the refresh of a ticket, one of these, whose draft needs nothing more.
 fn bring_in<K: Keeper>(
     wiki: &mut Wiki<K>,
-    open: OpenTicket,
+    ticket: OpenTicket,
     draft: Draft,
 ) -> Result<Value, Memory>
-    requires fit { IsFit wiki.old.state open }
-    requires page { draft.page ≡ open.title }
+    requires fit { IsFit wiki.old.state ticket }
+    requires page { draft.page ≡ ticket.title }
     requires own_text { draft.given ≡ None }
-    requires drafted { drafted open ≡ done draft.expanded draft.reads }
-    ensures { (drafts : List TicketDraft) → Holds wiki.old.state drafts → find (has_number open.ticket) drafts ≡ Some open
-        → Answers K.told K.faults 0 (finish_line open.ticket) wiki.old wiki.new drafts (others open.ticket drafts) result }
+    requires drafted { drafted ticket ≡ done draft.expanded draft.reads }
+    ensures { (drafts : List TicketDraft) → Holds wiki.old.state drafts → find (has_number ticket.ticket) drafts ≡ Some ticket
+        → Answers K.told K.faults 0 (finish_line ticket.ticket) wiki.old wiki.new drafts (others ticket.ticket drafts) result }
 {
     wiki.facts();
     let alloc = wiki.allocator();
-    match wiki.finish(open.into_ticket(), draft) {
+    match wiki.finish(ticket.into_ticket(), draft) {
         Finished::Done => done(alloc, wiki.point()),
         Finished::Stale {
             title,
@@ -45,14 +45,14 @@ fn bring_in<K: Keeper>(
 }
 
 /// Gives a ticket, one of these, back, for whose draft memory is wanting.
-fn refuse<K: Keeper>(wiki: &mut Wiki<K>, open: OpenTicket) -> Result<Value, Memory>
-    requires fit { IsFit wiki.old.state open }
-    ensures { (drafts : List TicketDraft) → Holds wiki.old.state drafts → find (has_number open.ticket) drafts ≡ Some open
-        → Answers K.told K.faults 0 (finish_line open.ticket) wiki.old wiki.new drafts (others open.ticket drafts) result }
+fn refuse<K: Keeper>(wiki: &mut Wiki<K>, ticket: OpenTicket) -> Result<Value, Memory>
+    requires fit { IsFit wiki.old.state ticket }
+    ensures { (drafts : List TicketDraft) → Holds wiki.old.state drafts → find (has_number ticket.ticket) drafts ≡ Some ticket
+        → Answers K.told K.faults 0 (finish_line ticket.ticket) wiki.old wiki.new drafts (others ticket.ticket drafts) result }
 {
     wiki.facts();
     let alloc = wiki.allocator();
-    wiki.give_back(open.into_ticket());
+    wiki.give_back(ticket.into_ticket());
     no_memory(alloc, wiki.point())
 }
 
@@ -70,8 +70,8 @@ pub fn finish<K: Keeper>(
     let Some(at) = place(tickets.as_slice(), number) else {
         return no_ticket(alloc, wiki.point());
     };
-    let open = &mut tickets[at];
-    match open.step(alloc, trees) {
+    let ticket = &mut tickets[at];
+    match ticket.step(alloc, trees) {
         Ok(Step::Done(draft)) => bring_in(wiki, tickets.remove(at), draft),
         Ok(Step::Needs(title, kind)) => needs_read(alloc, &title, kind, wiki.point()),
         Err(Memory) => refuse(wiki, tickets.remove(at)),

@@ -29,7 +29,13 @@ pub fn reopen<K: Keeper>(wiki: Wiki<K>, tickets: Vec<OpenTicket>) -> Result<Wiki
     let limits = wiki.limits();
     give_all_back(&mut wiki, tickets);
     wiki.facts();
-    Wiki::load(alloc, wiki.release(), limits)
+    match Wiki::load(alloc, wiki.release(), limits) {
+        Ok(opened) => {
+            opened.facts();
+            Ok(opened)
+        }
+        Err(refusal) => Err(refusal),
+    }
 }
 
 /// How many jobs of both kinds there are. No wiki has memory for 2^64.

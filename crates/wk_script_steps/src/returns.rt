@@ -1,5 +1,5 @@
 //! The line `giveback`, and tickets that come in at the end of a life.
-ghost use Rattle.std.specs.Prelude.{◌≡◌, Some};
+ghost use Rattle.std.specs.Prelude.{◌≡◌, [], Some};
 ghost use Rattle.wk_script_rules.specs.ScriptLines.{giveback_line};
 ghost use Rattle.wk_script_rules.specs.WikiScripts.{all_given_back};
 ghost use Rattle.wk_core.specs.Steps.{GoesOn};
