@@ -138,7 +138,8 @@ impl<K: Keeper> Wiki<K> {
     ///
     /// `None` exactly where no fan job stands. `JournalFull` exactly where one does, and the journal's length and the
     /// tickets that are out are at the limit, or the numbers of jobs have come to their end. `Memory` may come, and
-    /// `StoreFault` only where the keeper's count of faults rose. Where nothing was served the wiki is as before.
+    /// `StoreFault` only where a fan job stands for which the journal has room, and the keeper's count of faults rose. Where
+    /// nothing was served the wiki is as before.
     pub fn fan(&mut self) -> Result<Option<Fanned>, FanRefusal>
         ensures fanned { IfOk result (λ fanned. option_map fanned_outcome fanned ≡ next_fan_outcome fan_pages self.old.state) }
         ensures event { IfOk result (λ fanned. IfSome fanned (λ _. HasMade self.old self.new Fan)) }
@@ -147,6 +148,7 @@ impl<K: Keeper> Wiki<K> {
         ensures full { result ≡ Err FanRefusal.JournalFull → IsSome (first_fan self.old.state.jobs) × (is_fan_refused_now self.old ≡ true) }
         ensures refused { OnErr result (HasMadeNothing K.told self.old self.new) }
         ensures keeper { GoesOn K.told K.faults self.old self.new }
+        ensures failed { result ≡ Err FanRefusal.StoreFault → IsSome (first_fan self.old.state.jobs) × (is_fan_refused_now self.old ≡ false) }
         ensures fault { result ≡ Err FanRefusal.StoreFault → Rose (K.faults self.old.keeper) (K.faults self.new.keeper) }
         ensures no_fault { OnOk result (K.faults self.new.keeper ≡ K.faults self.old.keeper) }
     {

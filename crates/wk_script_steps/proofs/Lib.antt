@@ -1,0 +1,9 @@
+pub mod Answering
+pub mod Calls
+pub mod Holding
+pub mod JobCounts
+pub mod LineRuns
+pub mod Reading
+pub mod ReadLines
+pub mod Reopening
+pub mod Returning

@@ -1,0 +1,79 @@
+//! The line `finish`.
+ghost use Rattle.std.specs.Prelude.{◌≡◌, Some, List};
+ghost use Rattle.std.specs.Prelude.{find};
+ghost use Rattle.wk_view_rules.specs.Plans.{done};
+ghost use Rattle.wk_script_rules.specs.ScriptLines.{finish_line};
+ghost use Rattle.wk_script_rules.specs.WikiScripts.{TicketDraft, drafted};
+ghost use Rattle.wk_script_tickets.specs.Drafts.{has_number, others};
+ghost use Rattle.wk_script_steps.specs.Seen.{Holds, IsFit};
+ghost use Rattle.wk_script_steps.specs.Told.{Answers};
+
+use serde_json::Value;
+use wk_core::{Finished, Wiki};
+use wk_expand::{Draft, Step, Trees};
+use wk_keeper::Keeper;
+use wk_memory::Memory;
+use wk_script_lines::{done, needs_read, no_memory, no_ticket, stale, store_fault};
+use wk_script_tickets::{OpenTicket, place};
+
+/// Brings in the refresh of a ticket, one of these, whose draft needs nothing more.
+fn bring_in<K: Keeper>(
+    wiki: &mut Wiki<K>,
+    open: OpenTicket,
+    draft: Draft,
+) -> Result<Value, Memory>
+    requires fit { IsFit wiki.old.state open }
+    requires page { draft.page ≡ open.title }
+    requires own_text { draft.given ≡ None }
+    requires drafted { drafted open ≡ done draft.expanded draft.reads }
+    ensures { (drafts : List TicketDraft) → Holds wiki.old.state drafts → find (has_number open.ticket) drafts ≡ Some open
+        → Answers K.told K.faults 0 (finish_line open.ticket) wiki.old wiki.new drafts (others open.ticket drafts) result }
+{
+    wiki.facts();
+    let alloc = wiki.allocator();
+    match wiki.finish(open.into_ticket(), draft) {
+        Finished::Done => done(alloc, wiki.point()),
+        Finished::Stale {
+            title,
+            kind,
+            read,
+            now,
+        } => stale(alloc, &title, kind, read, now, wiki.point()),
+        Finished::StoreFault => store_fault(alloc, wiki.point()),
+        Finished::Memory => no_memory(alloc, wiki.point()),
+    }
+}
+
+/// Gives a ticket, one of these, back, for whose draft memory is wanting.
+fn refuse<K: Keeper>(wiki: &mut Wiki<K>, open: OpenTicket) -> Result<Value, Memory>
+    requires fit { IsFit wiki.old.state open }
+    ensures { (drafts : List TicketDraft) → Holds wiki.old.state drafts → find (has_number open.ticket) drafts ≡ Some open
+        → Answers K.told K.faults 0 (finish_line open.ticket) wiki.old wiki.new drafts (others open.ticket drafts) result }
+{
+    wiki.facts();
+    let alloc = wiki.allocator();
+    wiki.give_back(open.into_ticket());
+    no_memory(alloc, wiki.point())
+}
+
+/// Brings in the refresh of the ticket of this number, where its draft needs nothing more.
+pub fn finish<K: Keeper>(
+    wiki: &mut Wiki<K>,
+    tickets: &mut Vec<OpenTicket>,
+    trees: &mut Trees,
+    number: u64,
+) -> Result<Value, Memory>
+    requires holds { Holds wiki.old.state tickets.old.items }
+    ensures { Answers K.told K.faults 0 (finish_line number) wiki.old wiki.new tickets.old.items tickets.new.items result }
+{
+    let alloc = wiki.allocator();
+    let Some(at) = place(tickets.as_slice(), number) else {
+        return no_ticket(alloc, wiki.point());
+    };
+    let open = &mut tickets[at];
+    match open.step(alloc, trees) {
+        Ok(Step::Done(draft)) => bring_in(wiki, tickets.remove(at), draft),
+        Ok(Step::Needs(title, kind)) => needs_read(alloc, &title, kind, wiki.point()),
+        Err(Memory) => refuse(wiki, tickets.remove(at)),
+    }
+}
