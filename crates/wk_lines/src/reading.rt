@@ -1,6 +1,7 @@
 //! How an input is read into a line cutter.
-ghost use Rattle.std.specs.Prelude.{◌≡◌, ◌^◌, ◌<◌, ◌≤◌, IfErr, IfOk, Err};
+ghost use Rattle.std.specs.Prelude.{◌≡◌, ◌+◌, ◌^◌, ◌<◌, ◌≤◌, [], IfErr, IfOk, OnOk, Err};
 ghost use Rattle.wk_base.specs.Faults.{Rose};
+ghost use Rattle.wk_bytes.specs.LineCutter.{HasNoNewline};
 ghost use Rattle.wk_lines.specs.Reading.{Fills, Gives, StopsReading};
 
 use crate::stop::Stop;
@@ -17,14 +18,18 @@ pub enum NextLine {
     Last(Line),
 }
 
-/// Reads once, and pushes what was read. Whether the input is at its end.
+/// Reads once, where no whole line is left, and pushes what was read. Whether the input is at its end.
 fn fill<I: Source>(cutter: &mut LineCutter, total: &mut u64, input: &mut I) -> Result<bool, Stop>
+    requires none { cutter.old.whole ≡ [] }
+    requires begun { HasNoNewline cutter.old.rest }
     ensures ok { IfOk result (Fills (record { cutter = cutter.old; total = total.old }) (record { cutter = cutter.new; total = total.new })
         (I.rest input.old) (I.rest input.new)) }
     ensures err { IfErr result (StopsReading (record { cutter = cutter.old; total = total.old })
         (record { cutter = cutter.new; total = total.new }) (I.rest input.old) (I.rest input.new)) }
-    ensures few { total.old < 2 ^ 41 → total.new < 2 ^ 41 }
+    ensures few { total.old < 2 ^ 40 + 2 ^ 13 → total.new < 2 ^ 40 + 2 ^ 13 }
+    ensures begun { HasNoNewline cutter.new.rest }
     ensures never_falls { I.faults input.old ≤ I.faults input.new }
+    ensures no_fault { OnOk result (I.faults input.new ≡ I.faults input.old) }
     ensures cause { result ≡ Err Stop.ReadFault → Rose (I.faults input.old) (I.faults input.new) }
 {
     if BOUND <= *total {
@@ -52,13 +57,16 @@ pub fn next_line<I: Source>(
     total: &mut u64,
     input: &mut I,
 ) -> Result<NextLine, Stop>
-    requires { total.old < 2 ^ 41 }
+    requires few { total.old < 2 ^ 40 + 2 ^ 13 }
+    requires begun { HasNoNewline cutter.old.rest }
     ensures ok { IfOk result (Gives (record { cutter = cutter.old; total = total.old }) (record { cutter = cutter.new; total = total.new })
         (I.rest input.old) (I.rest input.new)) }
     ensures err { IfErr result (StopsReading (record { cutter = cutter.old; total = total.old })
         (record { cutter = cutter.new; total = total.new }) (I.rest input.old) (I.rest input.new)) }
-    ensures few { total.new < 2 ^ 41 }
+    ensures few { total.new < 2 ^ 40 + 2 ^ 13 }
+    ensures begun { HasNoNewline cutter.new.rest }
     ensures never_falls { I.faults input.old ≤ I.faults input.new }
+    ensures no_fault { OnOk result (I.faults input.new ≡ I.faults input.old) }
     ensures cause { result ≡ Err Stop.ReadFault → Rose (I.faults input.old) (I.faults input.new) }
 {
     'reads: loop {

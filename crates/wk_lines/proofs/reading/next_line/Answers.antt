@@ -1,5 +1,5 @@
-use Rattle.std.proofs.Common.{arith}
-use Rattle.wk_lines.proofs.Joined.{fills_on, stops_on}
+use Rattle.std.proofs.Common.{arith, ◌∙◌}
+use Rattle.wk_lines.proofs.Joined.{fills_on, none_left, rest_of, stops_on}
 use Rattle.wk_lines.proofs.reading.next_line.Goals as goal
 
 pub returns-in-Err-clause-err : goal.returns-in-Err-clause-err
@@ -10,4 +10,10 @@ pub reads-preserved : goal.reads-preserved
 reads-preserved g c =
     let before = c.reads.invariant in
     let on = fills_on _ _ _ _ _ _ _ _ c.next.result c.in-Ok.ended before.0 c.next.ensures.line c.in-More.is c.in-Ok.ensures.ok c.if-ended.false in
-    (on.0, c.fill.ensures.few before.1, omega (arith, before.2, on.1), omega (arith, before.3, c.fill.ensures.never_falls))
+    (on.0, c.fill.ensures.few before.1, omega (arith, before.2, on.1), c.in-Ok.ensures.no_fault ∙ before.3, c.fill.ensures.begun)
+
+pub fill-requires-clause-none : goal.fill-requires-clause-none
+fill-requires-clause-none g c = none_left _ _ c.next.result c.next.ensures.line c.in-More.is c.next.ensures.more
+
+pub fill-requires-clause-begun : goal.fill-requires-clause-begun
+fill-requires-clause-begun g c = rest_of _ _ c.next.result c.next.ensures.line c.reads.invariant.4
