@@ -1,5 +1,5 @@
 -- A ticket that is taken from its place, and comes in.
-use Rattle.std.proofs.Common.{◌≡◌, ℕ, ◌<◌, List, get_or, set, length, Option, Some, refl, sym, ap, ◌∙◌, subst}
+use Rattle.std.proofs.Common.{◌≡◌, ℕ, ◌<◌, List, get_or, set, length, Option, Some, sym, ap, ◌∙◌, subst}
 use Rattle.std.specs.List.{remove}
 use Rattle.std.specs.Prelude.{Result, find, slice_get}
 use Rattle.std.proofs.lemmas.List.{get_or-set_same}
@@ -18,7 +18,7 @@ use Rattle.wk_script_rules.specs.ScriptLines.{finish_line, giveback_line}
 use Rattle.wk_script_rules.specs.WikiScripts.{TicketDraft}
 use Rattle.wk_script_tickets.specs.Drafts.{has_number, others}
 use Rattle.wk_script_tickets.proofs.Lists.{taken-out}
-use Rattle.wk_script_steps.specs.Seen.{Holds, script_of}
+use Rattle.wk_script_steps.specs.Seen.{Holds}
 use Rattle.wk_script_steps.specs.Told.{Answers}
 use Rattle.wk_script_steps.proofs.Calls.{Shows, giveback-told, goes-same}
 use Rattle.wk_script_steps.proofs.Holding.{found-fit}

@@ -1,5 +1,5 @@
 -- A read for one of the tickets.
-use Rattle.std.proofs.Common.{◌≡◌, ℕ, ◌<◌, true, eqb, List, length, map, set, get_or, Some, Option, refl, sym, ap, ◌∙◌, subst}
+use Rattle.std.proofs.Common.{◌≡◌, ℕ, ◌<◌, true, List, length, map, set, get_or, Some, Option, refl, sym, ap, ◌∙◌, subst}
 use Rattle.std.proofs.lemmas.List.{set-get_or}
 use Rattle.std.proofs.lemmas.Option.{get_or_from_slice_get, slice_get_read}
 use Rattle.std.specs.Prelude.{Err, IfOk, Ok, OnErr, OnOk, Result, find, slice_get}
@@ -12,7 +12,6 @@ use Rattle.wk_view_rules.specs.declared.Kind.{Kind}
 use Rattle.wk_view_rules.specs.declared.Kind.TheVariants.{Exists, Include, View}
 use Rattle.wk_state_rules.specs.States.{State, world_of}
 use Rattle.wk_script_lines.specs.Shown.{read_shown}
-use borrow.Author.Tests.{eqb-true}
 use Rattle.serde_json.specs.View.{view}
 use Rattle.serde_json.specs.declared.value.Value.{Value}
 use Rattle.wk_table_rules.specs.Rows.{StoreTables}

@@ -54,7 +54,12 @@ fn read_open<K: Keeper>(
     }
 }
 
-/// Reads for the ticket of this number what its draft needs next, from the present world.
+/// Reads for the ticket of this number what its draft needs next, from the present world: the reply's value. `trees` keeps
+/// parsed texts.
+///
+/// It tells the title and the kind that are read, with the mark of the answer; `notticket` where no ticket that is out has
+/// this number; `noread` where the draft needs nothing more; `nomemory`, and then the ticket and its reads are as before.
+/// The wiki stays as it is, and so does its point. `Memory` where there is none for the value, and nothing was read then.
 pub fn read<K: Keeper>(
     wiki: &Wiki<K>,
     tickets: &mut Vec<OpenTicket>,

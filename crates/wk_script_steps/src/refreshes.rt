@@ -56,7 +56,14 @@ fn refuse<K: Keeper>(wiki: &mut Wiki<K>, ticket: OpenTicket) -> Result<Value, Me
     no_memory(alloc, wiki.point())
 }
 
-/// Brings in the refresh of the ticket of this number, where its draft needs nothing more.
+/// Brings in the refresh of the ticket of this number, where its draft needs nothing more: the reply's value. `trees` keeps
+/// parsed texts.
+///
+/// It tells `done`, or `stale` with the first read that isn't current any more; `storefault`, only where the store's count
+/// of faults rose; `nomemory`. At each of these the ticket comes in, and at each but `done` its job is queued again, behind
+/// all others. `needsread` with what the draft needs next, and `notticket` where no ticket that is out has this number,
+/// leave all as it was. It shows the point behind the line. `Memory` where there is none for the value: what came in has
+/// come in.
 pub fn finish<K: Keeper>(
     wiki: &mut Wiki<K>,
     tickets: &mut Vec<OpenTicket>,

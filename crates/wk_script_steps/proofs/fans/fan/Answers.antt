@@ -1,13 +1,10 @@
-use Rattle.std.proofs.Common.{◌≡◌, ℕ, Option, Some, None, Err, codes, false, length, refl, sym, ap, ◌∙◌}
+use Rattle.std.proofs.Common.{◌≡◌, Some, None, Err, codes, length, sym, ap, ◌∙◌}
 use Rattle.wk_job_rules.specs.Steps.{fan_pages}
-use Rattle.wk_state_rules.specs.Events.{Fan}
 use Rattle.wk_wiki_rules.specs.Fans.{FanOutcome, next_fan_outcome}
-use Rattle.wk_wiki_rules.specs.Room.{is_fan_refused}
 use Rattle.wk_answer_rules.specs.ApiErrors.{api_error, journalfull, nomemory, storefault}
 use Rattle.wk_answer_rules.specs.Values.{reply_beside}
 use Rattle.wk_core.specs.Answers.{fanned_outcome}
 use Rattle.wk_core.specs.Seen.{WikiSeen}
-use Rattle.wk_core.specs.Steps.{HasMade}
 use Rattle.wk_script_rules.specs.Replies.{fan_entries, nothing_entries}
 use Rattle.wk_script_steps.specs.Seen.{script_of}
 use Rattle.wk_script_steps.proofs.Calls.{fan-failed-told, fan-starved, fan-still, fan-told, shows-at}

@@ -1,4 +1,4 @@
-use Rattle.std.proofs.Common.{◌≡◌, Some, None, set, length, ap, refl, sym, ◌∙◌}
+use Rattle.std.proofs.Common.{set, length, ap, refl, ◌∙◌}
 use Rattle.wk_answer_rules.specs.ApiErrors.{api_error, nomemory}
 use Rattle.wk_script_rules.specs.Replies.{line_error, notticket}
 use Rattle.wk_script_rules.specs.Runs.{read_out_of_memory}

@@ -1,4 +1,4 @@
-use Rattle.std.proofs.Common.{◌≡◌, length, ap, refl, sym, ◌∙◌}
+use Rattle.std.proofs.Common.{length}
 use Rattle.wk_script_steps.proofs.Reading.{need-of}
 use Rattle.wk_script_steps.proofs.ReadLines.{reads-nothing, reads-one}
 use Rattle.wk_script_rules.specs.WikiScripts.{drafted}

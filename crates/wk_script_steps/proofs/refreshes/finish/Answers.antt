@@ -1,4 +1,4 @@
-use Rattle.std.proofs.Common.{◌≡◌, Some, None, set, length, ap, refl, sym, ◌∙◌}
+use Rattle.std.proofs.Common.{set, length, ap, refl, ◌∙◌}
 use Rattle.wk_script_rules.specs.Replies.{line_error, needsread, notticket}
 use Rattle.wk_script_rules.specs.ScriptLines.{finish_line}
 use Rattle.wk_script_rules.specs.WikiScripts.{drafted}

@@ -1,4 +1,4 @@
-use Rattle.std.proofs.Common.{◌≡◌, ap, refl, sym, ◌∙◌}
+use Rattle.std.proofs.Common.{ap, sym, ◌∙◌}
 use Rattle.wk_wiki_rules.specs.Starts.{Start}
 use Rattle.wk_script_steps.proofs.Reopening.{IsReleased, is-lost, reopens}
 use Rattle.wk_script_steps.proofs.restarts.reopen.Goals as goal
