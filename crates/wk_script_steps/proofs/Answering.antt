@@ -1,5 +1,5 @@
 -- What is told of a line, by its run.
-use Rattle.std.proofs.Common.{◌≡◌, ◌≢◌, ℕ, List, Option, Some, refl, sym, ap, ◌∙◌, subst}
+use Rattle.std.proofs.Common.{◌≡◌, ℕ, List, Option, Some, subst}
 use Rattle.wk_base.specs.Faults.{Rose}
 use Rattle.wk_table_rules.specs.Rows.{StoreTables}
 use Rattle.wk_page_rules.specs.Verdict.{MostHeld}

@@ -1,22 +1,19 @@
 -- What each line is answered, by what the calls of the wiki told.
-use Rattle.std.proofs.Common.{◌≡◌, ◌≢◌, ℕ, ◌+◌, ◌≤◌, Bool, true, false, eqb, List, [], ◌∷◌, ◌++◌, length, codes, map, set, get_or, unwrap_or, Option, Some, None, refl, sym, ap, ◌∙◌, subst, arith}
+use Rattle.std.proofs.Common.{◌≡◌, ℕ, ◌+◌, ◌≤◌, true, false, List, [], ◌∷◌, ◌++◌, length, Option, Some, None, refl, sym, ap, ◌∙◌, subst, arith}
 use Rattle.std.specs.Prelude.{IsSome, IfOk, Result, find, is_some, option_map}
-use Rattle.std.specs.List.{remove}
-use borrow.Author.Tests.{eqb-true}
 use Rattle.serde_json.specs.View.{view}
 use Rattle.serde_json.specs.declared.value.Value.{Value}
 use Rattle.wk_memory.specs.declared.Memory.{Memory}
 use Rattle.wk_base.specs.Faults.{Rose}
 use Rattle.wk_table_rules.specs.Rows.{StoreTables}
 use Rattle.wk_text_rules.specs.Titles.{PageTitle}
-use Rattle.wk_view_rules.specs.Plans.{done, need}
+use Rattle.wk_view_rules.specs.Plans.{done}
 use Rattle.wk_view_rules.specs.Views.{Expanded}
 use Rattle.wk_view_rules.specs.Worlds.{Read}
-use Rattle.wk_view_rules.specs.declared.Kind.{Kind}
 use Rattle.wk_job_rules.specs.Jobs.{FanEntry, first_fan, first_queued}
 use Rattle.wk_job_rules.specs.Steps.{fan_pages}
-use Rattle.wk_state_rules.specs.States.{State, title_at, world_of}
-use Rattle.wk_state_rules.specs.Events.{Event, Claim, Done, Back, Fan, Save, step}
+use Rattle.wk_state_rules.specs.States.{title_at, world_of}
+use Rattle.wk_state_rules.specs.Events.{Claim, Done, Back, Fan}
 use Rattle.wk_wiki_rules.specs.Claims.{ClaimOutcome, claim_outcome}
 use Rattle.wk_wiki_rules.specs.Fans.{FanOutcome, next_fan_outcome}
 use Rattle.wk_wiki_rules.specs.Room.{is_claim_refused, is_fan_refused}
@@ -26,19 +23,17 @@ use Rattle.wk_core.specs.Seen.{WikiSeen}
 use Rattle.wk_core.specs.Steps.{GoesOn, HasMade, HasMadeNothing}
 use Rattle.wk_core.specs.Tickets.{IsOut}
 use Rattle.wk_answer_rules.specs.Values.{ApiReply, reply_beside}
-use Rattle.wk_answer_rules.specs.ApiErrors.{api_error, journalfull, nomemory, storefault}
-use Rattle.wk_script_rules.specs.ScriptLines.{ScriptLine, claim_line, read_line, finish_line, giveback_line, fan_line}
-use Rattle.wk_script_rules.specs.WikiScripts.{TicketDraft, WikiScript, point_of, after_event, draft_of, drafted, with_read, without_draft, given_back_by}
-use Rattle.wk_script_rules.specs.Replies.{line_error, notticket, noread, needsread, claim_entries, nothing_entries, read_entries, done_entries, stale_entries, giveback_entries, fan_entries}
-use Rattle.wk_script_rules.specs.Steps.{claimed, present_read, finished}
-use Rattle.wk_script_rules.specs.Runs.{LineRun, claim_out_of_memory, read_out_of_memory, finish_out_of_memory, finish_failed, fan_out_of_memory, fan_failed}
-use Rattle.wk_script_tickets.specs.Drafts.{begun, has_number, longer, others}
-use Rattle.wk_script_tickets.proofs.Lists.{read-at, taken-out}
-use Rattle.wk_script_steps.specs.Seen.{Holds, IsFit, claim_of, script_of}
-use Rattle.wk_script_steps.specs.Told.{Answers, Tells}
+use Rattle.wk_answer_rules.specs.ApiErrors.{api_error, nomemory, storefault}
+use Rattle.wk_script_rules.specs.ScriptLines.{ScriptLine, claim_line, finish_line, giveback_line, fan_line}
+use Rattle.wk_script_rules.specs.WikiScripts.{TicketDraft, WikiScript, point_of, after_event, drafted, given_back_by}
+use Rattle.wk_script_rules.specs.Replies.{claim_entries, done_entries, stale_entries, giveback_entries, fan_entries}
+use Rattle.wk_script_rules.specs.Runs.{LineRun, finish_out_of_memory, finish_failed, fan_out_of_memory, fan_failed}
+use Rattle.wk_script_tickets.specs.Drafts.{begun, has_number, others}
+use Rattle.wk_script_steps.specs.Seen.{Holds, script_of}
+use Rattle.wk_script_steps.specs.Told.{Answers}
 use Rattle.wk_script_steps.proofs.Answering.{tells-fault, tells-memory, tells-step}
-use Rattle.wk_script_steps.proofs.Holding.{back-apart, done-apart, found-fit, holds-claimed, holds-on, holds-others, holds-read}
-use Rattle.wk_script_steps.proofs.LineRuns.{Comes, claim-full, fan-full, finish-no-ticket, given-back, giveback-no-ticket, made-is, nothing-claimed, nothing-fanned, nothing-to-read, one-claimed, one-fanned, one-finished, one-read, one-stale, read-missing, read-no-ticket}
+use Rattle.wk_script_steps.proofs.Holding.{back-apart, done-apart, holds-claimed, holds-on, holds-others}
+use Rattle.wk_script_steps.proofs.LineRuns.{Comes, given-back, made-is, one-claimed, one-fanned, one-finished, one-stale}
 
 -- this is what a result shows, where it is a value
 abbrev pub Shows : ApiReply → Result Value Memory → Type 0
@@ -47,6 +42,19 @@ Shows reply result = IfOk result (λ v. view v ≡ reply.value)
 -- it shows this at a point that is the journal's length
 pub shows-at : (point n : ℕ) (reply : ℕ → ApiReply) (result : Result Value Memory) → point ≡ n → Shows (reply point) result → Shows (reply n) result
 shows-at point n reply result same shown = subst (λ p. Shows (reply p) result) same shown
+
+-- it shows the ticket and the title of this claim
+pub claim-shown : (number point : ℕ) (title : PageTitle) (claim : ClaimOutcome) (result : Result Value Memory) → number ≡ claim.ticket → title ≡ claim.title
+    → Shows (reply_beside (claim_entries (record { ticket = number; title = title })) point) result → Shows (reply_beside (claim_entries claim) point) result
+claim-shown number point title claim result ticket_is title_is shown =
+    let P : ClaimOutcome → Type 0 = λ c. Shows (reply_beside (claim_entries c) point) result in
+    let same : record { ticket = number; title = title } ≡ claim = (λ i. record { ticket = ticket_is i; title = title_is i }) in
+    subst P same shown
+
+-- it shows this title, which came in
+pub title-shown : (point : ℕ) (title other : PageTitle) (result : Result Value Memory) → title ≡ other
+    → Shows (reply_beside (giveback_entries title) point) result → Shows (reply_beside (giveback_entries other) point) result
+title-shown point title other result same shown = subst (λ (t : PageTitle). Shows (reply_beside (giveback_entries t) point) result) same shown
 
 module _ {K : Type 0} (told : K → Option StoreTables) (faults : K → ℕ) where
   goes-nowhere : (w : WikiSeen K) → GoesOn told faults w w
@@ -82,10 +90,19 @@ module _ {K : Type 0} (told : K → Option StoreTables) (faults : K → ℕ) whe
     value = value;
   }
 
-  -- the same where the wiki is said to be as it was
-  pub at-same : (moment : ℕ) (line : ScriptLine) (old new : WikiSeen K) (drafts after : List TicketDraft) (result : Result Value Memory) → new ≡ old
-      → Answers told faults moment line old old drafts after result → Answers told faults moment line old new drafts after result
-  at-same moment line old new drafts after result same answers = subst (λ (w : WikiSeen K). Answers told faults moment line old w drafts after result) (sym same) answers
+  -- the same where the wiki and the tickets are said to be as they were
+  module _ (moment : ℕ) (line : ScriptLine) (old new : WikiSeen K) (drafts after : List TicketDraft) (result : Result Value Memory) (holds : Holds old.state drafts) (same : new ≡ old) (lists : after ≡ drafts) where
+    at-same : Answers told faults moment line old old drafts drafts result → Answers told faults moment line old new drafts after result
+    at-same answers = subst (λ (w : WikiSeen K). Answers told faults moment line old w drafts after result) (sym same)
+        (subst (λ (ds : List TicketDraft). Answers told faults moment line old old drafts ds result) (sym lists) answers)
+
+    pub answers-same : (reply : ApiReply) → Comes old.start.limits (script_of old drafts) moment line reply (script_of old drafts) → Shows reply result
+        → Answers told faults moment line old new drafts after result
+    answers-same reply comes value = at-same (answers-still moment line old drafts drafts reply result comes holds value)
+
+    pub starved-same : LineRun old.start.limits (script_of old drafts) moment line (Some (api_error nomemory (length old.journal))) (script_of old drafts)
+        → Shows (api_error nomemory (length old.journal)) result → Answers told faults moment line old new drafts after result
+    starved-same run value = at-same (starved-still moment line old drafts result run holds value)
 
   -- ---- `claim`
 

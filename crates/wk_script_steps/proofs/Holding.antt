@@ -1,11 +1,11 @@
 -- The tickets that are out stay so, with their drafts, over the events of others.
-use Rattle.std.proofs.Common.{◌≡◌, ◌≢◌, ℕ, ◌+◌, ◌<◌, Bool, true, false, not, cond, eqb, List, [], ◌∷◌, ◌++◌, length, map, Option, Some, None, refl, sym, ap, ◌∙◌, subst, arith}
+use Rattle.std.proofs.Common.{◌≡◌, ◌≢◌, ℕ, ◌+◌, ◌<◌, Bool, true, false, not, cond, eqb, List, [], ◌∷◌, ◌++◌, length, map, Some, sym, subst, arith}
 use Rattle.std.proofs.lemmas.List.Elements.{All-push}
 use Rattle.std.specs.List.{AllByRecursion}
 use Rattle.std.specs.Prelude.{find}
 use Rattle.wk_page_rules.specs.History.{text_of_revision}
 use Rattle.wk_text_rules.specs.Titles.{PageTitle}
-use Rattle.wk_view_rules.specs.Worlds.{HasItsText, IsHonest, Read, page_of}
+use Rattle.wk_view_rules.specs.Worlds.{HasItsText, Read, page_of}
 use Rattle.wk_view_rules.specs.declared.Kind.{Kind}
 use Rattle.wk_job_rules.specs.Steps.{fan_pages}
 use Rattle.wk_job_laws.specs.InOrder.{Rises}

@@ -1,5 +1,6 @@
 pub mod Answering
 pub mod Calls
+pub mod Finishing
 pub mod Holding
 pub mod JobCounts
 pub mod LineRuns

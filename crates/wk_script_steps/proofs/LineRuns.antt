@@ -1,6 +1,6 @@
 -- What a line's run is, by what the calls of the wiki told.
-use Rattle.std.proofs.Common.{◌≡◌, ℕ, ◌+◌, Bool, true, false, cond, List, [], ◌∷◌, ◌++◌, length, codes, unwrap_or, Option, Some, None, refl, sym, ap, ◌∙◌, subst}
-use Rattle.std.specs.Prelude.{IsSome, find, option_map}
+use Rattle.std.proofs.Common.{◌≡◌, ℕ, ◌+◌, Bool, true, false, cond, List, codes, unwrap_or, Option, Some, None, refl, sym, ap, ◌∙◌}
+use Rattle.std.specs.Prelude.{IsSome, option_map}
 use Rattle.wk_page_rules.specs.Verdict.{MostHeld}
 use Rattle.wk_text_rules.specs.Titles.{PageTitle}
 use Rattle.wk_view_rules.specs.Plans.{Outcome, done, need}
@@ -10,7 +10,7 @@ use Rattle.wk_view_rules.specs.declared.Kind.{Kind}
 use Rattle.wk_job_rules.specs.Jobs.{FanEntry, first_fan, first_queued}
 use Rattle.wk_job_rules.specs.Steps.{fan_pages}
 use Rattle.wk_state_rules.specs.States.{State, title_at, world_of}
-use Rattle.wk_state_rules.specs.Events.{Event, Claim, Done, Back, Fan, step}
+use Rattle.wk_state_rules.specs.Events.{Event, Fan}
 use Rattle.wk_wiki_rules.specs.Claims.{ClaimOutcome, claim_outcome}
 use Rattle.wk_wiki_rules.specs.Fans.{FanOutcome, fan_outcome, next_fan_outcome}
 use Rattle.wk_wiki_rules.specs.Room.{is_claim_refused, is_fan_refused}
@@ -21,9 +21,9 @@ use Rattle.wk_core.specs.Steps.{HasMade}
 use Rattle.wk_answer_rules.specs.Values.{ApiReply, reply_beside}
 use Rattle.wk_answer_rules.specs.ApiErrors.{api_error, journalfull}
 use Rattle.wk_script_rules.specs.ScriptLines.{ScriptLine, api_line, claim_line, read_line, finish_line, giveback_line, fan_line, long_line, unknown_line}
-use Rattle.wk_script_rules.specs.WikiScripts.{TicketDraft, WikiScript, point_of, after_event, draft_of, drafted, with_draft, with_read, without_draft, given_back_by}
-use Rattle.wk_script_rules.specs.Replies.{LineError, badline, linetoolong, notticket, noread, needsread, line_error, claim_entries, nothing_entries, read_entries, done_entries, stale_entries, giveback_entries, fan_entries}
-use Rattle.wk_script_rules.specs.Steps.{LineStep, replied, refused_line, journal_full_line, after_answer, api_answer, claimed, present_read, read_by_need, read_step, finished, finish_by, finish_step, giveback_step, with_ticket_out, line_step}
+use Rattle.wk_script_rules.specs.WikiScripts.{TicketDraft, WikiScript, point_of, after_event, draft_of, drafted, with_read, given_back_by}
+use Rattle.wk_script_rules.specs.Replies.{badline, linetoolong, notticket, noread, needsread, line_error, claim_entries, nothing_entries, read_entries, done_entries, stale_entries, giveback_entries, fan_entries}
+use Rattle.wk_script_rules.specs.Steps.{LineStep, replied, refused_line, journal_full_line, after_answer, api_answer, claimed, present_read, read_by_need, read_step, finished, finish_by, finish_step, giveback_step, line_step}
 use Rattle.wk_script_steps.specs.Seen.{script_of}
 
 -- behind an event, with these tickets

@@ -1,11 +1,19 @@
 -- What the reads of a draft are, by what was seen.
-use Rattle.std.proofs.Common.{◌≡◌, ℕ, Bool, true, false, cond, List, [], ◌∷◌, Option, Some, None, refl, sym, ap, ◌∙◌, subst}
+use Rattle.std.proofs.Common.{◌≡◌, ℕ, Bool, true, false, cond, List, [], ◌∷◌, Option, Some, None, unwrap_or, ap, subst}
 use Rattle.std.specs.Prelude.{find, option_map}
 use Rattle.std.specs.List.{AllByRecursion}
-use Rattle.std.proofs.lemmas.List.Elements.{All-from_recursion, recursion_from_All}
+use Rattle.std.proofs.lemmas.List.Elements.{All-from_recursion, All-nil, recursion_from_All}
 use Rattle.wk_view_rules.specs.Worlds.{Agrees, HasItsText, IsHonest, Read, ask, is_read_of, of_seen, page_of}
 use Rattle.wk_text_rules.specs.Titles.{PageTitle}
 use Rattle.wk_view_rules.specs.declared.Kind.{Kind}
+use Rattle.wk_view_rules.specs.Plans.{Outcome, done, need, reads_of}
+use Rattle.wk_view_rules.specs.Views.{Expanded, view_plan}
+use Rattle.wk_view_laws.proofs.PlanLemmas.{agrees-itself}
+use Rattle.wk_page_rules.specs.History.{text_of_revision}
+use Rattle.wk_state_rules.specs.States.{State}
+use Rattle.wk_expand.specs.Running.{needed}
+use Rattle.wk_script_rules.specs.WikiScripts.{TicketDraft, drafted}
+use Rattle.wk_script_steps.specs.Seen.{IsFit}
 
 module _ (text_of : ℕ → Option (List ℕ)) where
   Honest : Read → Type 0
@@ -33,3 +41,18 @@ module _ (text_of : ℕ → Option (List ℕ)) where
       All-from_recursion (λ (r : Read). HasItsText text_of (page_of r.answer)) reads
       (honest-all seen reads (recursion_from_All (λ (r : Read). HasItsText text_of (page_of r.answer)) seen honest)
       (recursion_from_All (λ (r : Read). ask (of_seen seen) r.title r.kind ≡ Some r.answer) reads agrees))
+
+-- the reads of a ticket's draft are honest
+pub draft-honest : (state : State) (draft : TicketDraft) (expanded : Expanded) (reads : List Read) → IsFit state draft → drafted draft ≡ done expanded reads → IsHonest (text_of_revision state.history) reads
+draft-honest state draft expanded reads fit is =
+    honest-reads (text_of_revision state.history) draft.seen reads fit.honest
+    (subst (λ (o : Outcome Expanded). Agrees (of_seen draft.seen) (reads_of o)) is (agrees-itself (of_seen draft.seen) (view_plan draft.title) [] (All-nil _)))
+
+-- what a draft needs, where that is all that is told of it
+pub need-of : {A : Type 0} (o : Outcome A) (title : PageTitle) (kind : Kind) → needed o ≡ Some (title, kind) → (reads : List Read) × (o ≡ need title kind reads)
+need-of (done x reads) title kind is = absurd (let e : None ≡ Some (title, kind) = is in cc)
+need-of (need asked as_kind reads) title kind is =
+    let pair : Some (asked, as_kind) ≡ Some (title, kind) = is in
+    let same : asked ≡ title = ap (λ (o : Option (PageTitle × Kind)). (unwrap_or o (asked, as_kind)).0) pair in
+    let same_kind : as_kind ≡ kind = ap (λ (o : Option (PageTitle × Kind)). (unwrap_or o (asked, as_kind)).1) pair in
+    (reads, λ i. need (same i) (same_kind i) reads)

@@ -15,8 +15,7 @@ use Rattle.wk_core.specs.Loads.{HasOpened, bad_store_of}
 use Rattle.wk_core.specs.Seen.{IsTold, WikiSeen}
 use Rattle.wk_core.specs.declared.outcomes.LoadCause.{LoadCause}
 use Rattle.wk_core.specs.declared.outcomes.LoadCause.TheVariants as cause
-use Rattle.wk_script_rules.specs.WikiScripts.{TicketDraft, WikiScript, all_given_back, restarted, script_from}
-use Rattle.wk_script_steps.specs.Going.{GoesOnOver}
+use Rattle.wk_script_rules.specs.WikiScripts.{TicketDraft, WikiScript, all_given_back, script_from}
 use Rattle.wk_script_steps.specs.Reopened.{IsLost, Reopens}
 use Rattle.wk_script_steps.specs.Seen.{script_of}
 use Rattle.wk_script_steps.proofs.Returning.{bare}

@@ -9,7 +9,6 @@ use Rattle.wk_core.specs.Seen.{WikiSeen}
 use Rattle.wk_core.specs.Steps.{HasMade}
 use Rattle.wk_script_rules.specs.WikiScripts.{TicketDraft, WikiScript, after_event, all_given_back, given_back_by}
 use Rattle.wk_script_tickets.proofs.Lists.{taken-out, ticket}
-use Rattle.wk_script_tickets.specs.Drafts.{others}
 use Rattle.wk_script_steps.specs.Seen.{Holds, script_of}
 use Rattle.wk_script_steps.proofs.Holding.{back-apart, holds-others}
 use Rattle.wk_script_steps.proofs.LineRuns.{made-is}

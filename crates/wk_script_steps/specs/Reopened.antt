@@ -1,14 +1,13 @@
 -- What comes of a restart (own).
-use Rattle.std.specs.Prelude.{◌≡◌, ℕ, ◌≤◌, Bool, true, false, [], List, Option, Some, None, IfSome, IsSome, is_some}
+use Rattle.std.specs.Prelude.{◌≡◌, ℕ, ◌≤◌, true, [], List, Option, None, IfSome, is_some}
 use Rattle.wk_base.specs.Faults.{Rose}
 use Rattle.wk_table_rules.specs.Rows.{StoreTables}
-use Rattle.wk_state_rules.specs.States.{State}
 use Rattle.wk_state_rules.specs.Tables.{tables_of}
 use Rattle.wk_core.specs.Loads.{bad_store_of}
 use Rattle.wk_core.specs.Seen.{WikiSeen}
 use Rattle.wk_core.specs.declared.outcomes.LoadCause.{LoadCause}
 use Rattle.wk_core.specs.declared.outcomes.LoadCause.TheVariants as cause
-use Rattle.wk_script_rules.specs.WikiScripts.{TicketDraft, WikiScript, all_given_back, restarted, script_from}
+use Rattle.wk_script_rules.specs.WikiScripts.{TicketDraft, all_given_back, restarted, script_from}
 use Rattle.wk_script_steps.specs.Seen.{script_of}
 use Rattle.wk_script_steps.specs.Going.{GoesOnOver}
 

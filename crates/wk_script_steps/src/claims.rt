@@ -11,7 +11,12 @@ use wk_memory::Memory;
 use wk_script_lines::{claimed, journal_full, no_claim, no_memory};
 use wk_script_tickets::OpenTicket;
 
-/// Claims the first refresh job that is queued, and keeps its ticket behind the others.
+/// Claims the first refresh job that is queued, and keeps its ticket behind the others: the reply's value (the forms of all
+/// replies are own).
+///
+/// It tells the ticket and its page's title, or `null` where no job is queued; `journalfull` where one is, and the journal
+/// has no room for the claim and for the event by which the ticket comes in; `nomemory`, and then nothing is claimed. It
+/// shows the point behind the line. `Memory` where there is none for the value: what was claimed is claimed.
 pub fn claim<K: Keeper>(wiki: &mut Wiki<K>, tickets: &mut Vec<OpenTicket>) -> Result<Value, Memory>
     requires holds { Holds wiki.old.state tickets.old.items }
     ensures { Answers K.told K.faults 0 claim_line wiki.old wiki.new tickets.old.items tickets.new.items result }

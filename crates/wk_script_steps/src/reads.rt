@@ -23,38 +23,43 @@ use wk_title::Title;
 /// Reads this title for the draft, which needs it: the reply. After an `Err` nothing is read.
 fn read_needed<K: Keeper>(
     wiki: &Wiki<K>,
-    open: &mut OpenTicket,
+    ticket: &mut OpenTicket,
     title: Title,
     kind: Kind,
 ) -> Result<Value, Memory>
-    requires { ask (of_seen open.old.seen) title kind ≡ None }
+    requires { ask (of_seen ticket.old.seen) title kind ≡ None }
     ensures ok { IfOk result (λ v. view v ≡ (reply_beside (read_entries (present_read wiki.now.state title kind)) (length wiki.now.journal)).value) }
-    ensures read { OnOk result (open.new ≡ longer open.old (present_read wiki.now.state title kind)) }
-    ensures err { OnErr result (open.new ≡ open.old) }
+    ensures read { OnOk result (ticket.new ≡ longer ticket.old (present_read wiki.now.state title kind)) }
+    ensures err { OnErr result (ticket.new ≡ ticket.old) }
 {
     let answer = wiki.fetch(&title, kind)?;
     let reply = next_read(wiki.allocator(), &title, kind, mark(&answer), wiki.point())?;
-    open.add(title, kind, answer)?;
+    ticket.add(title, kind, answer)?;
     Ok(reply)
 }
 
 /// Reads what the draft of the ticket needs next: the reply. After an `Err` the ticket and its reads are as before.
 fn read_open<K: Keeper>(
     wiki: &Wiki<K>,
-    open: &mut OpenTicket,
+    ticket: &mut OpenTicket,
     trees: &mut Trees,
 ) -> Result<Value, Memory>
-    ensures { ReadsNext wiki.now.state (length wiki.now.journal) open.old open.new result }
+    ensures { ReadsNext wiki.now.state (length wiki.now.journal) ticket.old ticket.new result }
 {
     let alloc = wiki.allocator();
-    match open.step(alloc, trees) {
+    match ticket.step(alloc, trees) {
         Ok(Step::Done(_draft)) => no_read(alloc, wiki.point()),
-        Ok(Step::Needs(title, kind)) => read_needed(wiki, open, title, kind),
+        Ok(Step::Needs(title, kind)) => read_needed(wiki, ticket, title, kind),
         Err(Memory) => Err(Memory),
     }
 }
 
-/// Reads for the ticket of this number what its draft needs next, from the present world.
+/// Reads for the ticket of this number what its draft needs next, from the present world: the reply's value. `trees` keeps
+/// parsed texts.
+///
+/// It tells the title and the kind that are read, with the mark of the answer; `notticket` where no ticket that is out has
+/// this number; `noread` where the draft needs nothing more; `nomemory`, and then the ticket and its reads are as before.
+/// The wiki stays as it is, and so does its point. `Memory` where there is none for the value, and nothing was read then.
 pub fn read<K: Keeper>(
     wiki: &Wiki<K>,
     tickets: &mut Vec<OpenTicket>,
@@ -68,8 +73,8 @@ pub fn read<K: Keeper>(
     let Some(at) = place(tickets.as_slice(), number) else {
         return no_ticket(alloc, wiki.point());
     };
-    let open = &mut tickets[at];
-    match read_open(wiki, open, trees) {
+    let ticket = &mut tickets[at];
+    match read_open(wiki, ticket, trees) {
         Ok(value) => Ok(value),
         Err(Memory) => no_memory(alloc, wiki.point()),
     }

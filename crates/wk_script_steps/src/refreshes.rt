@@ -19,19 +19,19 @@ use wk_script_tickets::{OpenTicket, place};
 /// Brings in the refresh of a ticket, one of these, whose draft needs nothing more.
 fn bring_in<K: Keeper>(
     wiki: &mut Wiki<K>,
-    open: OpenTicket,
+    ticket: OpenTicket,
     draft: Draft,
 ) -> Result<Value, Memory>
-    requires fit { IsFit wiki.old.state open }
-    requires page { draft.page ≡ open.title }
+    requires fit { IsFit wiki.old.state ticket }
+    requires page { draft.page ≡ ticket.title }
     requires own_text { draft.given ≡ None }
-    requires drafted { drafted open ≡ done draft.expanded draft.reads }
-    ensures { (drafts : List TicketDraft) → Holds wiki.old.state drafts → find (has_number open.ticket) drafts ≡ Some open
-        → Answers K.told K.faults 0 (finish_line open.ticket) wiki.old wiki.new drafts (others open.ticket drafts) result }
+    requires drafted { drafted ticket ≡ done draft.expanded draft.reads }
+    ensures { (drafts : List TicketDraft) → Holds wiki.old.state drafts → find (has_number ticket.ticket) drafts ≡ Some ticket
+        → Answers K.told K.faults 0 (finish_line ticket.ticket) wiki.old wiki.new drafts (others ticket.ticket drafts) result }
 {
     wiki.facts();
     let alloc = wiki.allocator();
-    match wiki.finish(open.into_ticket(), draft) {
+    match wiki.finish(ticket.into_ticket(), draft) {
         Finished::Done => done(alloc, wiki.point()),
         Finished::Stale {
             title,
@@ -45,18 +45,25 @@ fn bring_in<K: Keeper>(
 }
 
 /// Gives a ticket, one of these, back, for whose draft memory is wanting.
-fn refuse<K: Keeper>(wiki: &mut Wiki<K>, open: OpenTicket) -> Result<Value, Memory>
-    requires fit { IsFit wiki.old.state open }
-    ensures { (drafts : List TicketDraft) → Holds wiki.old.state drafts → find (has_number open.ticket) drafts ≡ Some open
-        → Answers K.told K.faults 0 (finish_line open.ticket) wiki.old wiki.new drafts (others open.ticket drafts) result }
+fn refuse<K: Keeper>(wiki: &mut Wiki<K>, ticket: OpenTicket) -> Result<Value, Memory>
+    requires fit { IsFit wiki.old.state ticket }
+    ensures { (drafts : List TicketDraft) → Holds wiki.old.state drafts → find (has_number ticket.ticket) drafts ≡ Some ticket
+        → Answers K.told K.faults 0 (finish_line ticket.ticket) wiki.old wiki.new drafts (others ticket.ticket drafts) result }
 {
     wiki.facts();
     let alloc = wiki.allocator();
-    wiki.give_back(open.into_ticket());
+    wiki.give_back(ticket.into_ticket());
     no_memory(alloc, wiki.point())
 }
 
-/// Brings in the refresh of the ticket of this number, where its draft needs nothing more.
+/// Brings in the refresh of the ticket of this number, where its draft needs nothing more: the reply's value. `trees` keeps
+/// parsed texts.
+///
+/// It tells `done`, or `stale` with the first read that isn't current any more; `storefault`, only where the store's count
+/// of faults rose; `nomemory`. At each of these the ticket comes in, and at each but `done` its job is queued again, behind
+/// all others. `needsread` with what the draft needs next, and `notticket` where no ticket that is out has this number,
+/// leave all as it was. It shows the point behind the line. `Memory` where there is none for the value: what came in has
+/// come in.
 pub fn finish<K: Keeper>(
     wiki: &mut Wiki<K>,
     tickets: &mut Vec<OpenTicket>,
@@ -70,8 +77,8 @@ pub fn finish<K: Keeper>(
     let Some(at) = place(tickets.as_slice(), number) else {
         return no_ticket(alloc, wiki.point());
     };
-    let open = &mut tickets[at];
-    match open.step(alloc, trees) {
+    let ticket = &mut tickets[at];
+    match ticket.step(alloc, trees) {
         Ok(Step::Done(draft)) => bring_in(wiki, tickets.remove(at), draft),
         Ok(Step::Needs(title, kind)) => needs_read(alloc, &title, kind, wiki.point()),
         Err(Memory) => refuse(wiki, tickets.remove(at)),

@@ -17,7 +17,13 @@ use wk_memory::Memory;
 use wk_script_lines::restarted;
 use wk_script_tickets::OpenTicket;
 
-/// Opens the wiki anew over its store. The tickets that are out come in before, in the order of their numbers.
+/// Opens the wiki anew over its store, under the same limits. The tickets that are out are given back before, in the order
+/// of their numbers.
+///
+/// Where the store tells its tables the wiki begins as a restart leaves it: each job is queued, no ticket is out, and the
+/// journal is empty. It isn't opened where the store fails, only where its count of faults rose, where memory is wanting, or
+/// where the store is bad, which one that tells its tables never is; then its keeper comes back, with the tables of the
+/// last state.
 pub fn reopen<K: Keeper>(wiki: Wiki<K>, tickets: Vec<OpenTicket>) -> Result<Wiki<K>, LoadRefusal<K>>
     requires holds { Holds wiki.state tickets.items }
     requires within { AreWithinFull wiki.start.limits }
@@ -29,7 +35,13 @@ pub fn reopen<K: Keeper>(wiki: Wiki<K>, tickets: Vec<OpenTicket>) -> Result<Wiki
     let limits = wiki.limits();
     give_all_back(&mut wiki, tickets);
     wiki.facts();
-    Wiki::load(alloc, wiki.release(), limits)
+    match Wiki::load(alloc, wiki.release(), limits) {
+        Ok(opened) => {
+            opened.facts();
+            Ok(opened)
+        }
+        Err(refusal) => Err(refusal),
+    }
 }
 
 /// How many jobs of both kinds there are. No wiki has memory for 2^64.
@@ -47,7 +59,8 @@ fn job_count<K: Keeper>(wiki: &Wiki<K>) -> Result<u64, Memory>
     Ok(count)
 }
 
-/// What is told of a restart.
+/// What is told of a restart: the reply's value, with the number of jobs of both kinds and that of the pages that exist.
+/// `Memory` where there is none for the value.
 pub fn told_restart<K: Keeper>(wiki: &Wiki<K>) -> Result<Value, Memory>
     ensures { IfOk result (λ v. view v ≡ (reply_beside (restart_entries wiki.now.state) (length wiki.now.journal)).value) }
 {

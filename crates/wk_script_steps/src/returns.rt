@@ -1,5 +1,5 @@
 //! The line `giveback`, and tickets that come in at the end of a life.
-ghost use Rattle.std.specs.Prelude.{◌≡◌, Some};
+ghost use Rattle.std.specs.Prelude.{◌≡◌, [], Some};
 ghost use Rattle.wk_script_rules.specs.ScriptLines.{giveback_line};
 ghost use Rattle.wk_script_rules.specs.WikiScripts.{all_given_back};
 ghost use Rattle.wk_core.specs.Steps.{GoesOn};
@@ -13,7 +13,10 @@ use wk_memory::Memory;
 use wk_script_lines::{given_back, no_ticket};
 use wk_script_tickets::{OpenTicket, place};
 
-/// Gives the ticket of this number back.
+/// Gives the ticket of this number back: the reply's value. Its job is queued again, behind all others.
+///
+/// It tells the title of the ticket's page, or `notticket` where no ticket that is out has this number. It shows the point
+/// behind the line. `Memory` where there is none for the value: what was given back is given back.
 pub fn give_back<K: Keeper>(
     wiki: &mut Wiki<K>,
     tickets: &mut Vec<OpenTicket>,
