@@ -1,4 +1,5 @@
 pub mod Answering
+pub mod ByOutcomes
 pub mod Calls
 pub mod Finishing
 pub mod Holding

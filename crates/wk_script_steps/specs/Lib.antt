@@ -1,4 +1,5 @@
 pub mod Going
+pub mod Outcomes
 pub mod Reads
 pub mod Reopened
 pub mod Seen

@@ -1,14 +1,35 @@
 //! The line `fan`.
+ghost use Rattle.std.specs.Prelude.{◌≡◌, IfOk};
+ghost use Rattle.serde_json.specs.View.{view};
 ghost use Rattle.wk_script_rules.specs.ScriptLines.{fan_line};
+ghost use Rattle.wk_script_steps.specs.Outcomes.{fan_reply};
 ghost use Rattle.wk_script_steps.specs.Seen.{Holds};
 ghost use Rattle.wk_script_steps.specs.Told.{Answers};
 
 use serde_json::Value;
-use wk_core::{FanRefusal, Wiki};
+use std::alloc::Global;
+use wk_core::{FanRefusal, Fanned, Wiki};
 use wk_keeper::Keeper;
 use wk_memory::Memory;
 use wk_script_lines::{fanned, journal_full, no_fan, no_memory, store_fault};
 use wk_script_tickets::OpenTicket;
+
+/// What is told of a fan.
+fn told_fan(
+    alloc: Global,
+    answer: &Result<Option<Fanned>, FanRefusal>,
+    point: u64,
+) -> Result<Value, Memory>
+    ensures { IfOk result (λ v. view v ≡ (fan_reply answer.now point).value) }
+{
+    match answer {
+        Ok(None) => no_fan(alloc, point),
+        Ok(Some(fan)) => fanned(alloc, &fan.title, fan.served, fan.queued, point),
+        Err(FanRefusal::JournalFull) => journal_full(alloc, point),
+        Err(FanRefusal::StoreFault) => store_fault(alloc, point),
+        Err(FanRefusal::Memory) => no_memory(alloc, point),
+    }
+}
 
 /// Serves the first fan job: the reply's value. The tickets stay as they are.
 ///
@@ -21,12 +42,6 @@ pub fn fan<K: Keeper>(wiki: &mut Wiki<K>, tickets: &Vec<OpenTicket>) -> Result<V
     ensures { Answers K.told K.faults 0 fan_line wiki.old wiki.new tickets.now.items tickets.now.items result }
 {
     wiki.facts();
-    let alloc = wiki.allocator();
-    match wiki.fan() {
-        Ok(None) => no_fan(alloc, wiki.point()),
-        Ok(Some(fan)) => fanned(alloc, &fan.title, fan.served, fan.queued, wiki.point()),
-        Err(FanRefusal::JournalFull) => journal_full(alloc, wiki.point()),
-        Err(FanRefusal::StoreFault) => store_fault(alloc, wiki.point()),
-        Err(FanRefusal::Memory) => no_memory(alloc, wiki.point()),
-    }
+    let answer = wiki.fan();
+    told_fan(wiki.allocator(), &answer, wiki.point())
 }

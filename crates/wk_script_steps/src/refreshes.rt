@@ -1,20 +1,39 @@
 //! The line `finish`.
-ghost use Rattle.std.specs.Prelude.{◌≡◌, Some, List};
-ghost use Rattle.std.specs.Prelude.{find};
+ghost use Rattle.std.specs.Prelude.{◌≡◌, IfOk, List, Some, find};
+ghost use Rattle.serde_json.specs.View.{view};
 ghost use Rattle.wk_view_rules.specs.Plans.{done};
 ghost use Rattle.wk_script_rules.specs.ScriptLines.{finish_line};
 ghost use Rattle.wk_script_rules.specs.WikiScripts.{TicketDraft, drafted};
 ghost use Rattle.wk_script_tickets.specs.Drafts.{has_number, others};
+ghost use Rattle.wk_script_steps.specs.Outcomes.{finish_reply};
 ghost use Rattle.wk_script_steps.specs.Seen.{Holds, IsFit};
 ghost use Rattle.wk_script_steps.specs.Told.{Answers};
 
 use serde_json::Value;
+use std::alloc::Global;
 use wk_core::{Finished, Wiki};
 use wk_expand::{Draft, Step, Trees};
 use wk_keeper::Keeper;
 use wk_memory::Memory;
 use wk_script_lines::{done, needs_read, no_memory, no_ticket, stale, store_fault};
 use wk_script_tickets::{OpenTicket, place};
+
+/// What is told of how a refresh came in.
+fn told_finish(alloc: Global, finished: &Finished, point: u64) -> Result<Value, Memory>
+    ensures { IfOk result (λ v. view v ≡ (finish_reply finished.now point).value) }
+{
+    match finished {
+        Finished::Done => done(alloc, point),
+        Finished::Stale {
+            title,
+            kind,
+            read,
+            now,
+        } => stale(alloc, title, *kind, *read, *now, point),
+        Finished::StoreFault => store_fault(alloc, point),
+        Finished::Memory => no_memory(alloc, point),
+    }
+}
 
 /// Brings in the refresh of a ticket, one of these, whose draft needs nothing more.
 fn bring_in<K: Keeper>(
@@ -30,18 +49,8 @@ fn bring_in<K: Keeper>(
         → Answers K.told K.faults 0 (finish_line ticket.ticket) wiki.old wiki.new drafts (others ticket.ticket drafts) result }
 {
     wiki.facts();
-    let alloc = wiki.allocator();
-    match wiki.finish(ticket.into_ticket(), draft) {
-        Finished::Done => done(alloc, wiki.point()),
-        Finished::Stale {
-            title,
-            kind,
-            read,
-            now,
-        } => stale(alloc, &title, kind, read, now, wiki.point()),
-        Finished::StoreFault => store_fault(alloc, wiki.point()),
-        Finished::Memory => no_memory(alloc, wiki.point()),
-    }
+    let finished = wiki.finish(ticket.into_ticket(), draft);
+    told_finish(wiki.allocator(), &finished, wiki.point())
 }
 
 /// Gives a ticket, one of these, back, for whose draft memory is wanting.
