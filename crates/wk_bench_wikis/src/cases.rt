@@ -1,0 +1,126 @@
+//! What the words ask for.
+ghost use Rattle.std.specs.Prelude.{◌≤◌, IfSome};
+
+/// What is done with a wiki over a store in memory.
+#[derive(Clone, Copy)]
+pub enum Case {
+    /// The store alone is made.
+    Store,
+    /// A wiki is opened over it.
+    Load,
+    /// Pages are edited.
+    Edits,
+    /// Refresh jobs are claimed and given back.
+    Claims,
+    /// Refresh jobs are claimed, their pages drafted, and the jobs given back.
+    Drafts,
+    /// Refresh jobs are claimed, their pages drafted, and the refreshes finished.
+    Refreshes,
+    /// The first 300 users of a title are listed.
+    Users,
+}
+
+/// A case, how many pages the store has, how many of them are edited first, and how often it is done behind them.
+#[derive(Clone, Copy)]
+pub struct Asked {
+    pub case: Case,
+    pub pages: u64,
+    pub edits: u32,
+    pub times: u64,
+}
+
+/// The greatest number.
+const MOST: u64 = 1_000_000;
+
+pub const USAGE: &str = "wk_bench_wikis store|load PAGES, wk_bench_wikis edits PAGES EDITS, \
+wk_bench_wikis users PAGES TIMES, or wk_bench_wikis claims|drafts|refreshes PAGES EDITS TIMES, \
+with PAGES, EDITS and TIMES from 1 to 1000000";
+
+/// The number, where the word is one from 1 to the greatest.
+fn number(word: &str) -> Option<u64>
+    ensures { IfSome result (λ n. (1 ≤ n) × (n ≤ 1000000)) }
+{
+    let Ok(number) = word.parse::<u64>() else {
+        return None;
+    };
+    if 1 <= number && number <= MOST {
+        Some(number)
+    } else {
+        None
+    }
+}
+
+/// A case of which the words tell the pages.
+fn with_pages(case: Case, words: &[String]) -> Option<Asked> {
+    if words.len() != 1 {
+        return None;
+    }
+    let pages = number(&words[0])?;
+    Some(Asked {
+        case,
+        pages,
+        edits: 0,
+        times: 0,
+    })
+}
+
+/// A case of which the words tell the pages and the edits.
+fn with_edits(case: Case, words: &[String]) -> Option<Asked> {
+    if words.len() != 2 {
+        return None;
+    }
+    let pages = number(&words[0])?;
+    let edits = number(&words[1])? as u32;
+    Some(Asked {
+        case,
+        pages,
+        edits,
+        times: 0,
+    })
+}
+
+/// A case of which the words tell the pages, and how often it is done.
+fn with_times(case: Case, words: &[String]) -> Option<Asked> {
+    if words.len() != 2 {
+        return None;
+    }
+    let pages = number(&words[0])?;
+    let times = number(&words[1])?;
+    Some(Asked {
+        case,
+        pages,
+        edits: 0,
+        times,
+    })
+}
+
+/// A case of which the words tell the pages, the edits, and how often it is done.
+fn with_both(case: Case, words: &[String]) -> Option<Asked> {
+    if words.len() != 3 {
+        return None;
+    }
+    let pages = number(&words[0])?;
+    let edits = number(&words[1])? as u32;
+    let times = number(&words[2])?;
+    Some(Asked {
+        case,
+        pages,
+        edits,
+        times,
+    })
+}
+
+/// What the words ask for. None where they name no case, or don't fit it.
+pub fn chosen(words: &[String]) -> Option<Asked> {
+    let (name, others) = words.split_first()?;
+    match name.as_str() {
+        "store" => with_pages(Case::Store, others),
+        "load" => with_pages(Case::Load, others),
+        "edits" => with_edits(Case::Edits, others),
+        "claims" => with_both(Case::Claims, others),
+        "drafts" => with_both(Case::Drafts, others),
+        "refreshes" => with_both(Case::Refreshes, others),
+        "users" => with_times(Case::Users, others),
+        _ => None,
+    }
+}
