@@ -1,0 +1,4 @@
+pub mod Commands
+pub mod Options
+pub mod Verdicts
+pub mod Answers
