@@ -11,3 +11,4 @@ pub mod Listings
 pub mod Scripts
 pub mod Cached
 pub mod Lived
+pub mod CommandLines

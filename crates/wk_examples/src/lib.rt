@@ -28,3 +28,4 @@ pub mod titles;
 pub mod tools;
 pub mod trees;
 pub mod views;
+pub mod words;

@@ -1,0 +1,24 @@
+use Rattle.std.proofs.Common.{refl}
+use Rattle.clap.proofs.OnLiterals.{clap_on_literals}
+use Rattle.wk_words.specs.Verdicts.{verdict}
+use Rattle.wk_examples.proofs.words.asking.Goals as goal
+
+pub returns-clause-plain : goal.returns-clause-plain
+unfolding verdict clap_on_literals
+returns-clause-plain c = refl
+
+pub returns-clause-option : goal.returns-clause-option
+unfolding verdict clap_on_literals
+returns-clause-option c = refl
+
+pub returns-clause-behind_a_sign : goal.returns-clause-behind_a_sign
+unfolding verdict clap_on_literals
+returns-clause-behind_a_sign c = refl
+
+pub returns-clause-greatest : goal.returns-clause-greatest
+unfolding verdict clap_on_literals
+returns-clause-greatest c = refl
+
+pub returns-clause-without_effect : goal.returns-clause-without_effect
+unfolding verdict clap_on_literals
+returns-clause-without_effect c = refl
