@@ -1,7 +1,5 @@
 //! Pages that are listed by a title.
 
-use crate::opening::opened;
-use crate::refusal::WorkRefusal;
 use std::alloc::Global;
 use wk_core::{Keeper, Reach, Wiki};
 use wk_memory::Memory;
@@ -24,13 +22,12 @@ fn list<K: Keeper>(wiki: &Wiki<K>, title: &Title) -> Result<u64, Memory> {
     Ok(users.len() as u64)
 }
 
-/// Opens a wiki over the keeper, and lists the first 300 pages that include a template so many times. How many were listed.
-pub fn listed<K: Keeper>(alloc: Global, keeper: K, times: u64) -> Result<u64, WorkRefusal> {
-    let wiki = opened(alloc, keeper)?;
+/// Lists the first 300 pages that include a template so many times. How many were listed.
+pub fn listed<K: Keeper>(alloc: Global, wiki: &Wiki<K>, times: u64) -> Result<u64, Memory> {
     let template = template(alloc)?;
     let mut count = 0u64;
     for _number in 0..times {
-        count = count.saturating_add(list(&wiki, &template)?);
+        count = count.saturating_add(list(wiki, &template)?);
     }
     Ok(count)
 }

@@ -1,23 +1,15 @@
 //! What the words ask for.
 ghost use Rattle.std.specs.Prelude.{◌≤◌, IfSome};
 
-/// What is done with a wiki over a store in memory.
+use wk_bench_core::Task;
+
+/// What is done with a store in memory.
 #[derive(Clone, Copy)]
 pub enum Case {
     /// The store alone is made.
     Store,
-    /// A wiki is opened over it.
-    Load,
-    /// Pages are edited.
-    Edits,
-    /// Refresh jobs are claimed and given back.
-    Claims,
-    /// Refresh jobs are claimed, their pages drafted, and the jobs given back.
-    Drafts,
-    /// Refresh jobs are claimed, their pages drafted, and the refreshes finished.
-    Refreshes,
-    /// The first 300 users of a title are listed.
-    Users,
+    /// A wiki is opened over it, and this is done.
+    Wiki(Task),
 }
 
 /// A case, how many pages the store has, how many of them are edited first, and how often it is done behind them.
@@ -115,12 +107,12 @@ pub fn chosen(words: &[String]) -> Option<Asked> {
     let (name, others) = words.split_first()?;
     match name.as_str() {
         "store" => with_pages(Case::Store, others),
-        "load" => with_pages(Case::Load, others),
-        "edits" => with_edits(Case::Edits, others),
-        "claims" => with_both(Case::Claims, others),
-        "drafts" => with_both(Case::Drafts, others),
-        "refreshes" => with_both(Case::Refreshes, others),
-        "users" => with_times(Case::Users, others),
+        "load" => with_pages(Case::Wiki(Task::Load), others),
+        "edits" => with_edits(Case::Wiki(Task::Edits), others),
+        "claims" => with_both(Case::Wiki(Task::Claims), others),
+        "drafts" => with_both(Case::Wiki(Task::Drafts), others),
+        "refreshes" => with_both(Case::Wiki(Task::Refreshes), others),
+        "users" => with_times(Case::Wiki(Task::Users), others),
         _ => None,
     }
 }

@@ -11,18 +11,19 @@ use std::alloc::Global;
 use std::process::ExitCode;
 use std::rt::Env;
 use std::{env, io};
+use wk_bench_core::Task;
 use wk_memory::Memory;
-use work::worked;
+use work::done;
 
 /// What is run without words: each of these with 20 pages, 8 edits and 5 times.
 const CASES: [Case; 7] = [
     Case::Store,
-    Case::Load,
-    Case::Edits,
-    Case::Claims,
-    Case::Drafts,
-    Case::Refreshes,
-    Case::Users,
+    Case::Wiki(Task::Load),
+    Case::Wiki(Task::Edits),
+    Case::Wiki(Task::Claims),
+    Case::Wiki(Task::Drafts),
+    Case::Wiki(Task::Refreshes),
+    Case::Wiki(Task::Users),
 ];
 
 /// The case at a small size.
@@ -83,7 +84,7 @@ fn main(rt: HostRuntime) -> io::Result<ExitCode> {
         return Ok(ExitCode::from(2));
     };
     for asked in all {
-        match worked(rt.alloc(), asked) {
+        match done(rt.alloc(), asked) {
             Ok((counted, count)) => println!(rt; "{counted} {count}")?,
             Err(refusal) => {
                 eprintln!(rt; "wk_bench_wikis: {refusal}")?;
