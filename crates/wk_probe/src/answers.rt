@@ -9,6 +9,7 @@ use crate::numerals::same_value;
 use crate::refusal::{Refusal, refusal_text};
 use crate::titles::{kept_value, norm};
 use crate::trees::tree_value;
+use crate::wikis::api_value;
 use crate::wire::{http_value, params_value};
 use serde_json::{Value, json};
 use std::alloc::Global;
@@ -33,6 +34,7 @@ fn answer(alloc: Global, bytes: &[u8]) -> Result<Value, Refusal> {
         Some("http") => http_value(alloc, &request),
         Some("params") => params_value(alloc, &request),
         Some("request") => request_value(alloc, &request),
+        Some("api") => api_value(alloc, &request),
         Some(_) => Err(Refusal::UnknownOp),
         None => Err(Refusal::NoOp),
     }

@@ -43,6 +43,10 @@
 //!   has `base`, `body`, `create_only`, `no_create` and `title`, `delete` has `base` and `title`, `parse` has `page`,
 //!   `expand` has `text` and `title`, `backlinks`, `embedded`, `members`, `changes` and `revisions` have `from`, `limit`
 //!   and `title`, and `revisions` has `content` too. What isn't given is `null`.
+//! - `{"op":"api","pages":{T:TEXT,..},"refresh":R,"query":Q}` asks what a wiki in memory answers to the query Q, which is
+//!   given as bytes in the same way and counts as posted. The pages were saved in the order of the bytes of their titles as
+//!   they are written, each at as many seconds since 1970 as its place from 1 on; where R is `true` every job was done
+//!   then. The answer is the reply's value.
 //!
 //! Other members are ignored, and of members with one name the last counts. A line that is none of these forms is
 //! answered with `{"error":"..."}`, which says what is wrong, and the next line goes on. The program takes no words.
@@ -65,6 +69,7 @@ mod run;
 mod seen;
 mod titles;
 mod trees;
+mod wikis;
 mod wire;
 
 use run::serve_all;

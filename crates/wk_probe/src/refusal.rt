@@ -56,6 +56,12 @@ pub enum Refusal {
     SeenWithoutTitle,
     /// A title and a kind stand in `seen` twice.
     SeenTwice,
+    /// The wiki wasn't opened.
+    NotOpened,
+    /// A page in `pages` wasn't saved.
+    NotSaved,
+    /// Jobs are left.
+    NotRefreshed,
 }
 
 impl From<Memory> for Refusal {
@@ -99,5 +105,8 @@ pub fn refusal_text(refusal: Refusal) -> &'static str {
             "seen is not a list of lists of a title, a kind and an answer of that kind",
         Refusal::SeenWithoutTitle => "a title in seen is no title",
         Refusal::SeenTwice => "a title and a kind are in seen twice",
+        Refusal::NotOpened => "the wiki cannot be opened",
+        Refusal::NotSaved => "a page in pages cannot be saved",
+        Refusal::NotRefreshed => "jobs are left",
     }
 }
