@@ -1,0 +1,5 @@
+pub mod Acting
+pub mod Ending
+pub mod Going
+pub mod Restarted
+pub mod Writing

@@ -1,0 +1,127 @@
+//! A script's run, and what comes of one line.
+ghost use Rattle.std.specs.Prelude.{◌≡◌, ◌≤◌, ◌∷◌, ℕ, List, [], Option, None, Some};
+ghost use Rattle.wk_base.specs.Faults.{Rose};
+ghost use Rattle.wk_bytes.specs.Line.{line_in};
+ghost use Rattle.wk_core.specs.Limits.{AreWithinFull};
+ghost use Rattle.wk_script_rules.specs.ScriptLines.{restart_line, script_line};
+ghost use Rattle.wk_script.specs.Behind.{IsBehind, IsRestartTold, stop_of};
+ghost use Rattle.wk_script_steps.specs.Seen.{Holds};
+
+use crate::serving::{serve, write_reply};
+use std::alloc::Global;
+use wk_base::{Clock, Sink};
+use wk_bytes::Line;
+use wk_core::{LoadCause, LoadRefusal, Wiki};
+use wk_expand::Trees;
+use wk_keeper::Keeper;
+use wk_lines::Stop;
+use wk_memory::Memory;
+use wk_script_lines::{ScriptLine, script_line};
+use wk_script_steps::{reopen, told_restart};
+use wk_script_tickets::OpenTicket;
+
+/// A script's wiki, the tickets that are out, the parsed texts that are kept, and the points of the replies so far. It
+/// can't be let go, since the tickets must come in.
+pub struct Run<K: Keeper> {
+    pub wiki: Wiki<K>,
+    pub tickets: Vec<OpenTicket>,
+    pub trees: Trees,
+    pub points: Vec<u64>,
+}
+
+/// What stands behind a line.
+pub enum Next<K: Keeper> {
+    /// The run goes on.
+    Goes(Run<K>),
+    /// It stops here.
+    Stops(Run<K>, Stop),
+    /// A restart didn't open the store, for this cause: the keeper, and the points so far.
+    Lost(K, Vec<u64>, LoadCause),
+}
+
+/// Tells of a restart, whose point stands with the others. The wiki is the one that was opened.
+fn tell_restart<K: Keeper, O: Sink>(run: Run<K>, output: &mut O) -> Next<K>
+    ensures next { IsRestartTold run (O.taken output.old) (O.taken output.new) result }
+    ensures never_falls { O.faults output.old ≤ O.faults output.new }
+    ensures no_fault { stop_of result ≡ None → O.faults output.new ≡ O.faults output.old }
+    ensures cause { stop_of result ≡ Some Stop.WriteFault → Rose (O.faults output.old) (O.faults output.new) }
+{
+    match told_restart(&run.wiki) {
+        Err(Memory) => Next::Stops(run, Stop::Memory),
+        Ok(value) => match write_reply(run.wiki.allocator(), &value, output) {
+            Ok(()) => Next::Goes(run),
+            Err(stop) => Next::Stops(run, stop),
+        },
+    }
+}
+
+/// Opens the wiki anew, and tells of it. The parsed texts stay.
+fn restart<K: Keeper, O: Sink>(alloc: Global, run: Run<K>, output: &mut O) -> Next<K>
+    requires holds { Holds run.wiki.state run.tickets.items }
+    requires within { AreWithinFull run.wiki.start.limits }
+    ensures next { (raw : Option (List ℕ)) (left : Option (List ℕ)) → script_line raw ≡ restart_line
+        → IsBehind K.told K.faults run (raw ∷ []) left left (O.taken output.old) (O.taken output.new) result }
+    ensures never_falls { O.faults output.old ≤ O.faults output.new }
+    ensures no_fault { stop_of result ≡ None → O.faults output.new ≡ O.faults output.old }
+    ensures cause { stop_of result ≡ Some Stop.WriteFault → Rose (O.faults output.old) (O.faults output.new) }
+{
+    let Run {
+        wiki,
+        tickets,
+        trees,
+        points,
+    } = run;
+    let mut points = points;
+    if let Err(_) = points.reserve(1) {
+        let run = Run {
+            wiki,
+            tickets,
+            trees,
+            points,
+        };
+        return Next::Stops(run, Stop::Memory);
+    }
+    match reopen(wiki, tickets) {
+        Err(LoadRefusal { keeper, cause }) => Next::Lost(keeper, points, cause),
+        Ok(wiki) => {
+            points.push_reserved(wiki.point());
+            let run = Run {
+                wiki,
+                tickets: Vec::new(alloc),
+                trees,
+                points,
+            };
+            tell_restart(run, output)
+        }
+    }
+}
+
+/// Answers a line, if it has a reply, and writes the answer.
+pub fn serve_line<K: Keeper, O: Sink, C: Clock>(
+    alloc: Global,
+    run: Run<K>,
+    line: &Line,
+    output: &mut O,
+    clock: &mut C,
+) -> Next<K>
+    requires holds { Holds run.wiki.state run.tickets.items }
+    requires unsealed { run.wiki.start.sealed ≡ None }
+    requires within { AreWithinFull run.wiki.start.limits }
+    ensures next { IsBehind K.told K.faults run (line_in line.now) (C.left clock.old) (C.left clock.new) (O.taken output.old) (O.taken output.new) result }
+    ensures never_falls { O.faults output.old ≤ O.faults output.new }
+    ensures no_fault { stop_of result ≡ None → O.faults output.new ≡ O.faults output.old }
+    ensures cause { stop_of result ≡ Some Stop.WriteFault → Rose (O.faults output.old) (O.faults output.new) }
+{
+    match script_line(line) {
+        None => Next::Goes(run),
+        Some(ScriptLine::Empty) => Next::Goes(run),
+        Some(ScriptLine::Restart) => restart(alloc, run, output),
+        Some(line) => {
+            let mut run = run;
+            match serve(&mut run, line, output, clock) {
+                Ok(()) => Next::Goes(run),
+                Err(stop) => Next::Stops(run, stop),
+            }
+        }
+    }
+}
