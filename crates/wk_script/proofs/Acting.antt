@@ -15,7 +15,6 @@ use Rattle.wk_request.specs.Refusals.{Refuses, told as told_refusal}
 use Rattle.wk_request.specs.declared.refusal.RequestRefusal.{RequestRefusal}
 use Rattle.wk_request.specs.declared.refusal.RequestRefusal.TheVariants.{Refused as ByNumber, Memory as NoMemory}
 use Rattle.wk_answer_rules.specs.ApiErrors.{api_error, nomemory, request_error, storefault}
-use Rattle.wk_answer_rules.specs.Saves.{Answered}
 use Rattle.wk_answer_laws.proofs.Possible.{event-possible, IsPossibleSave}
 use Rattle.wk_answer.specs.Saved.{IsActed, by_fault, by_rule}
 use Rattle.wk_script_rules.specs.ScriptLines.{api_line}

@@ -1,27 +1,24 @@
 -- How a run ends, by what stands behind all lines.
-use Rattle.std.proofs.Common.{◌≡◌, ℕ, ◌+◌, ◌^◌, ◌≤◌, List, [], ◌++◌, length, false, refl, sym, ◌∙◌, ap, subst, arith}
+use Rattle.std.proofs.Common.{◌≡◌, ℕ, List, [], false, refl, sym, subst, arith}
 use Rattle.std.proofs.KnownBytes.{Consumes-nil}
-use Rattle.std.specs.Prelude.{Option, None, Result, Ok, Err}
+use Rattle.std.specs.Prelude.{Option, Result, Ok, Err}
 use Rattle.wk_text_rules.specs.Lines.{lines}
 use Rattle.wk_table_rules.specs.Rows.{StoreTables}
 use Rattle.wk_lines.specs.declared.stop.Stop.{Stop}
 use Rattle.wk_lines.specs.declared.stop.Stop.TheVariants as stop
-use Rattle.wk_core.specs.Loads.{bad_store_of}
 use Rattle.wk_core.specs.Seen.{IsTold, WikiSeen}
 use Rattle.wk_core.specs.declared.outcomes.LoadCause.{LoadCause}
 use Rattle.wk_core.specs.declared.outcomes.LoadCause.TheVariants as cause
-use Rattle.wk_script_rules.specs.WikiScripts.{TicketDraft, all_given_back}
+use Rattle.wk_script_rules.specs.WikiScripts.{TicketDraft}
 use Rattle.wk_script_rules.specs.Runs.{max_line}
-use Rattle.wk_script_steps.specs.Seen.{script_of}
-use Rattle.wk_script_runs.specs.Ends.{HasLife}
 use Rattle.wk_script_runs.specs.Outside.{Outside}
-use Rattle.wk_script_runs.specs.Through.{IsOfInput, IsPartThrough, IsThrough, LosesStore, StopsWithin}
+use Rattle.wk_script_runs.specs.Through.{IsPartThrough, IsThrough, LosesStore, StopsWithin}
 use Rattle.wk_script_runs.proofs.Ended.{cut-back, cut-lost, whole-run}
 use Rattle.wk_script_runs.proofs.Serving.{nothing-in-part}
 use Rattle.wk_script.specs.Behind.{HasComeIn}
-use Rattle.wk_script.specs.Report.{IsCutTo, IsHandedAt, IsRunTo, bad_of, end_of_cause, end_of_stop}
+use Rattle.wk_script.specs.Report.{IsRunTo, end_of_cause, end_of_stop}
 use Rattle.wk_script.specs.declared.script.ScriptEnd.{ScriptEnd}
-use Rattle.wk_script.specs.declared.script.ScriptEnd.TheVariants.{Done, ReadFault, WriteFault, StoreFault, BadStore, Bound, Memory}
+use Rattle.wk_script.specs.declared.script.ScriptEnd.TheVariants.{Done, Memory}
 
 module _ {K : Type 0} (told : K → Option StoreTables) (faults : K → ℕ) (old new : WikiSeen K) (drafts : List TicketDraft) (before after : Outside) (points : List ℕ) where
   -- all lines were answered

@@ -1,12 +1,11 @@
 -- A restart that is told of.
-use Rattle.std.proofs.Common.{◌≡◌, ℕ, List, [], ◌∷◌, ◌++◌, length, Option, refl, sym, ap, ◌∙◌, subst}
+use Rattle.std.proofs.Common.{◌≡◌, ℕ, List, [], ◌∷◌, ◌++◌, length, Option, refl, sym, subst}
 use Rattle.wk_table_rules.specs.Rows.{StoreTables}
-use Rattle.wk_core.specs.Seen.{WikiSeen}
 use Rattle.wk_script_rules.specs.ScriptLines.{restart_line, script_line}
 use Rattle.wk_script_rules.specs.WikiScripts.{TicketDraft}
 use Rattle.wk_script_rules.specs.Runs.{reply_text}
 use Rattle.wk_script_steps.specs.Reopened.{Reopens}
-use Rattle.wk_script_runs.specs.Served.{Served, Writes}
+use Rattle.wk_script_runs.specs.Served.{Writes}
 use Rattle.wk_script_runs.specs.Serving.{WritesFirst}
 use Rattle.wk_script_runs.proofs.Restarting.{restart-served, restart_reply}
 use Rattle.wk_script_runs.proofs.Serving.{all-first, one-in-part, one-written}

@@ -1,4 +1,3 @@
-use Rattle.std.proofs.Common.{refl}
 use Rattle.wk_request.specs.Asked.{request_asked}
 use Rattle.wk_request_rules.specs.Requests.{valid}
 use Rattle.wk_script.proofs.Acting.{acted, starved}

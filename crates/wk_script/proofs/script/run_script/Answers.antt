@@ -1,9 +1,4 @@
-use Rattle.std.proofs.Common.{◌≡◌, ℕ, List, [], sym, ◌∙◌, subst}
-use Rattle.std.specs.Prelude.{Result, Ok}
-use Rattle.wk_core.specs.Seen.{WikiSeen}
-use Rattle.wk_script.specs.Report.{IsRunTo}
-use Rattle.wk_script.specs.declared.script.ScriptEnd.{ScriptEnd}
-use Rattle.wk_script.specs.declared.script.ScriptEnd.TheVariants.{Memory}
+use Rattle.std.proofs.Common.{◌∙◌}
 use Rattle.wk_script.proofs.Ending.{ended, lost-end, stopped, unbegun-run}
 use Rattle.wk_script.proofs.script.run_script.Goals as goal
 
