@@ -1,6 +1,7 @@
 //! What the words ask for.
 ghost use Rattle.std.specs.Prelude.{◌≤◌, IfSome};
 
+use wk_bench_answers::asked_named;
 use wk_bench_core::Task;
 
 /// What is done with a store in memory.
@@ -10,6 +11,8 @@ pub enum Case {
     Store,
     /// A wiki is opened over it, and this is done.
     Wiki(Task),
+    /// A wiki is opened over a store of its own, and this is asked.
+    Answers(wk_bench_answers::Asked),
 }
 
 /// A case, how many pages the store has, how many of them are edited first, and how often it is done behind them.
@@ -25,7 +28,8 @@ pub struct Asked {
 const MOST: u64 = 1_000_000;
 
 pub const USAGE: &str = "wk_bench_wikis store|load PAGES, wk_bench_wikis edits PAGES EDITS, \
-wk_bench_wikis users PAGES TIMES, or wk_bench_wikis claims|drafts|refreshes PAGES EDITS TIMES, \
+wk_bench_wikis users PAGES TIMES, wk_bench_wikis claims|drafts|refreshes PAGES EDITS TIMES, or \
+wk_bench_wikis answers parse|expand|backlinks|embedded|members|changes|revisions PAGES TIMES, \
 with PAGES, EDITS and TIMES from 1 to 1000000";
 
 /// The number, where the word is one from 1 to the greatest.
@@ -102,6 +106,13 @@ fn with_both(case: Case, words: &[String]) -> Option<Asked> {
     })
 }
 
+/// What a wiki is asked, of which the words tell the pages, and how often it is asked.
+fn answers_asked(words: &[String]) -> Option<Asked> {
+    let (name, others) = words.split_first()?;
+    let question = asked_named(name.as_str())?;
+    with_times(Case::Answers(question), others)
+}
+
 /// What the words ask for. None where they name no case, or don't fit it.
 pub fn chosen(words: &[String]) -> Option<Asked> {
     let (name, others) = words.split_first()?;
@@ -113,6 +124,7 @@ pub fn chosen(words: &[String]) -> Option<Asked> {
         "drafts" => with_both(Case::Wiki(Task::Drafts), others),
         "refreshes" => with_both(Case::Wiki(Task::Refreshes), others),
         "users" => with_times(Case::Wiki(Task::Users), others),
+        "answers" => answers_asked(others),
         _ => None,
     }
 }

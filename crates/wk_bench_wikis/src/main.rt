@@ -16,7 +16,7 @@ use wk_memory::Memory;
 use work::done;
 
 /// What is run without words: each of these with 20 pages, 8 edits and 5 times.
-const CASES: [Case; 7] = [
+const CASES: [Case; 14] = [
     Case::Store,
     Case::Wiki(Task::Load),
     Case::Wiki(Task::Edits),
@@ -24,6 +24,13 @@ const CASES: [Case; 7] = [
     Case::Wiki(Task::Drafts),
     Case::Wiki(Task::Refreshes),
     Case::Wiki(Task::Users),
+    Case::Answers(wk_bench_answers::Asked::Parse),
+    Case::Answers(wk_bench_answers::Asked::Expand),
+    Case::Answers(wk_bench_answers::Asked::Backlinks),
+    Case::Answers(wk_bench_answers::Asked::Embedded),
+    Case::Answers(wk_bench_answers::Asked::Members),
+    Case::Answers(wk_bench_answers::Asked::Changes),
+    Case::Answers(wk_bench_answers::Asked::Revisions),
 ];
 
 /// The case at a small size.

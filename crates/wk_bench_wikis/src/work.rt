@@ -2,9 +2,31 @@
 
 use crate::cases::{Asked, Case};
 use std::alloc::Global;
+use thiserror::Error;
+use wk_bench_answers::{AnswersRefusal, answered, asked_word};
 use wk_bench_core::{Task, Work, WorkRefusal, store, worked};
 use wk_keeper::MemKeeper;
 use wk_memory::Memory;
+
+/// Why what is asked isn't done.
+#[derive(Debug, Drop, Error)]
+pub enum Refusal {
+    /// Work on a wiki is refused.
+    #[error("{0}")]
+    Work(WorkRefusal),
+    /// Answers are refused.
+    #[error("{0}")]
+    Answers(AnswersRefusal),
+    /// Memory ran out.
+    #[error("out of memory")]
+    Memory,
+}
+
+impl From<Memory> for Refusal {
+    fn from(_: Memory) -> Refusal {
+        Refusal::Memory
+    }
+}
 
 /// Makes the store of so many pages. How many pages it has.
 fn made(alloc: Global, pages: u64) -> Result<u64, Memory> {
@@ -12,9 +34,26 @@ fn made(alloc: Global, pages: u64) -> Result<u64, Memory> {
 }
 
 /// Does the work on a wiki over the store of so many pages. What is counted.
-fn worked_in_memory(alloc: Global, pages: u64, work: Work) -> Result<u64, WorkRefusal> {
+fn worked_in_memory(alloc: Global, pages: u64, work: Work) -> Result<u64, Refusal> {
     let keeper = MemKeeper::new(store(alloc, pages)?);
-    worked(alloc, keeper, work)
+    match worked(alloc, keeper, work) {
+        Ok(count) => Ok(count),
+        Err(refusal) => Err(Refusal::Work(refusal)),
+    }
+}
+
+/// Answers so many times what a wiki over a store of so many pages is asked. The bytes of the replies.
+fn answered_in_memory(
+    alloc: Global,
+    pages: u64,
+    question: wk_bench_answers::Asked,
+    times: u64,
+) -> Result<u64, Refusal> {
+    let keeper = MemKeeper::new(wk_bench_answers::store(alloc, pages)?);
+    match answered(alloc, keeper, question, times) {
+        Ok(bytes) => Ok(bytes),
+        Err(refusal) => Err(Refusal::Answers(refusal)),
+    }
 }
 
 /// The name of the task and of what it counts.
@@ -30,7 +69,7 @@ fn counted(task: Task) -> &'static str {
 }
 
 /// Does what is asked. The name of the case and of what it counts, and the count.
-pub fn done(alloc: Global, asked: Asked) -> Result<(&'static str, u64), WorkRefusal> {
+pub fn done(alloc: Global, asked: Asked) -> Result<(&'static str, u64), Refusal> {
     let Asked {
         case,
         pages,
@@ -42,6 +81,10 @@ pub fn done(alloc: Global, asked: Asked) -> Result<(&'static str, u64), WorkRefu
         Case::Wiki(task) => {
             let work = Work { task, edits, times };
             Ok((counted(task), worked_in_memory(alloc, pages, work)?))
+        }
+        Case::Answers(question) => {
+            let bytes = answered_in_memory(alloc, pages, question, times)?;
+            Ok((asked_word(question), bytes))
         }
     }
 }
