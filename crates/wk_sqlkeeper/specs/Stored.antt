@@ -14,42 +14,42 @@ stored_moment seconds = if nat_lt seconds (2 ^ 63) then pos seconds else negsuc 
 abbrev pub stored_flag : Bool → ℤ
 stored_flag flag = if flag then pos 1 else pos 0
 
-pub record IsPage (row : List Value) (page : PageColumns) : Type 0 where
-  pub id : column row 0 ≡ Int (pos page.page_id)
-  pub namespace : column row 1 ≡ Int page.page_title.ns
-  pub title : column row 2 ≡ Text page.page_title.key
-  pub latest : column row 3 ≡ Int (pos page.page_latest)
-  pub len : column row 4 ≡ Int (pos page.page_len)
+pub record IsPage (values : List Value) (page : PageColumns) : Type 0 where
+  pub id : column values 0 ≡ Int (pos page.page_id)
+  pub namespace : column values 1 ≡ Int page.page_title.ns
+  pub title : column values 2 ≡ Text page.page_title.key
+  pub latest : column values 3 ≡ Int (pos page.page_latest)
+  pub len : column values 4 ≡ Int (pos page.page_len)
 
-pub record IsRevision (row : List Value) (revision : RevisionColumns) : Type 0 where
-  pub id : column row 0 ≡ Int (pos revision.rev_id)
-  pub page : column row 1 ≡ Int (pos revision.rev_page)
-  pub parent : column row 2 ≡ Int (pos revision.rev_parent_id)
-  pub timestamp : column row 3 ≡ Int (stored_moment revision.rev_timestamp)
-  pub len : column row 4 ≡ Int (pos revision.rev_len)
-  pub gone : column row 5 ≡ Int (stored_flag revision.rev_gone)
-  pub text : column row 6 ≡ Text revision.rev_text
+pub record IsRevision (values : List Value) (revision : RevisionColumns) : Type 0 where
+  pub id : column values 0 ≡ Int (pos revision.rev_id)
+  pub page : column values 1 ≡ Int (pos revision.rev_page)
+  pub parent : column values 2 ≡ Int (pos revision.rev_parent_id)
+  pub timestamp : column values 3 ≡ Int (stored_moment revision.rev_timestamp)
+  pub len : column values 4 ≡ Int (pos revision.rev_len)
+  pub gone : column values 5 ≡ Int (stored_flag revision.rev_gone)
+  pub text : column values 6 ≡ Text revision.rev_text
 
-pub record IsLink (row : List Value) (link : LinkColumns) : Type 0 where
-  pub from : column row 0 ≡ Int (pos link.from)
-  pub from_namespace : column row 1 ≡ Int link.from_namespace
-  pub namespace : column row 2 ≡ Int link.target.ns
-  pub title : column row 3 ≡ Text link.target.key
+pub record IsLink (values : List Value) (link : LinkColumns) : Type 0 where
+  pub from : column values 0 ≡ Int (pos link.from)
+  pub from_namespace : column values 1 ≡ Int link.from_namespace
+  pub namespace : column values 2 ≡ Int link.target.ns
+  pub title : column values 3 ≡ Text link.target.key
 
-pub record IsMember (row : List Value) (member : CategoryColumns) : Type 0 where
-  pub from : column row 0 ≡ Int (pos member.cl_from)
-  pub to : column row 1 ≡ Text member.cl_to
-  pub sortkey : column row 2 ≡ Text member.cl_sortkey
-  pub prefix : column row 3 ≡ Text member.cl_sortkey_prefix
+pub record IsMember (values : List Value) (member : CategoryColumns) : Type 0 where
+  pub from : column values 0 ≡ Int (pos member.cl_from)
+  pub to : column values 1 ≡ Text member.cl_to
+  pub sortkey : column values 2 ≡ Text member.cl_sortkey
+  pub prefix : column values 3 ≡ Text member.cl_sortkey_prefix
 
-pub record IsRedirect (row : List Value) (redirect : RedirectColumns) : Type 0 where
-  pub from : column row 0 ≡ Int (pos redirect.rd_from)
-  pub namespace : column row 1 ≡ Int redirect.rd_title.ns
-  pub title : column row 2 ≡ Text redirect.rd_title.key
+pub record IsRedirect (values : List Value) (redirect : RedirectColumns) : Type 0 where
+  pub from : column values 0 ≡ Int (pos redirect.rd_from)
+  pub namespace : column values 1 ≡ Int redirect.rd_title.ns
+  pub title : column values 2 ≡ Text redirect.rd_title.key
 
-pub record IsJob (row : List Value) (job : JobColumns) : Type 0 where
-  pub id : column row 0 ≡ Int (pos job.job_id)
-  pub cmd : column row 1 ≡ Text job.job_cmd
-  pub namespace : column row 2 ≡ Int job.job_title.ns
-  pub title : column row 3 ≡ Text job.job_title.key
-  pub params : column row 4 ≡ Text job.job_params
+pub record IsJob (values : List Value) (job : JobColumns) : Type 0 where
+  pub id : column values 0 ≡ Int (pos job.job_id)
+  pub cmd : column values 1 ≡ Text job.job_cmd
+  pub namespace : column values 2 ≡ Int job.job_title.ns
+  pub title : column values 3 ≡ Text job.job_title.key
+  pub params : column values 4 ≡ Text job.job_params
