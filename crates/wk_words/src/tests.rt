@@ -1,7 +1,6 @@
 //! What word lists come to. The table is made by a program that follows the rules of a command line, in another language.
 use crate::{CommandLine, Refusal, read, refusal_text};
 use std::alloc::{AllocError, Global};
-use std::process::Abort;
 use std::test::Fail;
 
 /// Word lists, with blanks between the words, and what they come to.
@@ -202,21 +201,21 @@ fn told(alloc: Global, words: &[String]) -> Result<String, AllocError> {
     }
 }
 
-/// One row of the table: what the words come to, and whether there is a text for standard error.
-fn try_case(rt: &impl Abort, alloc: Global, line: &str, expected: &str) -> Result<(), Fail> {
+/// What the words of a line come to, and whether there is a text for standard error.
+fn shown(alloc: Global, line: &str) -> Result<(String, bool), Fail> {
     let words = words_of(alloc, line)?;
     let told = told(alloc, words.as_slice())?;
-    assert_eq!(rt; told.as_str(), expected, "at {line:?}");
     let text = refusal_text(alloc, words.as_slice())?;
-    assert_eq!(rt; text.is_some(), expected == "Refused", "at {line:?}");
-    Ok(())
+    Ok((told, text.is_some()))
 }
 
 #[test]
 fn words_ask_for_what_they_say(rt: HostRuntime) -> Result<(), Fail> {
     let alloc = rt.alloc();
     for (line, expected) in &CASES {
-        try_case(&rt, alloc, line, expected)?;
+        let (told, has_text) = shown(alloc, line)?;
+        assert_eq!(rt; told.as_str(), *expected, "at {line:?}");
+        assert_eq!(rt; has_text, *expected == "Refused", "at {line:?}");
     }
     Ok(())
 }
@@ -250,18 +249,12 @@ fn text_at(alloc: Global, line: &str) -> Result<String, Fail> {
     }
 }
 
-/// Whether the text that words come to has a part.
-fn try_text(rt: &impl Abort, alloc: Global, line: &str, part: &str) -> Result<(), Fail> {
-    let text = text_at(alloc, line)?;
-    assert!(rt; text.as_str().contains(part), "{part:?} in {text:?}");
-    Ok(())
-}
-
 #[test]
 fn help_shows_each_command_and_option(rt: HostRuntime) -> Result<(), Fail> {
     let alloc = rt.alloc();
     for part in &HELP {
-        try_text(&rt, alloc, "wiki --help", part)?;
+        let text = text_at(alloc, "wiki --help")?;
+        assert!(rt; text.as_str().contains(*part), "{part:?} in {text:?}");
     }
     Ok(())
 }
@@ -289,7 +282,8 @@ const TEXTS: [(&str, &str); 6] = [
 fn texts_say_what_is_wrong(rt: HostRuntime) -> Result<(), Fail> {
     let alloc = rt.alloc();
     for (line, part) in &TEXTS {
-        try_text(&rt, alloc, line, part)?;
+        let text = text_at(alloc, line)?;
+        assert!(rt; text.as_str().contains(*part), "{part:?} in {text:?}");
     }
     Ok(())
 }
