@@ -1,4 +1,1 @@
-pub mod EditLines
-pub mod Reading
-pub mod Refusals
-pub mod RunSteps
+pub mod Statuses

@@ -1,5 +1,3 @@
 pub mod Command
-pub mod Lines
-pub mod Refusals
-pub mod Runs
-pub mod Shown
+pub mod Finished
+pub mod Vault

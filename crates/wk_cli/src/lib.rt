@@ -1,13 +1,8 @@
-//! The top call of the program, and the script's loop.
+//! The top call of the program `wiki`, and the vault of its stores.
 #![tactic(auto)]
 
-mod edit_line;
-mod replies;
-mod run;
-mod script;
+mod file_vault;
 mod top;
 
+pub use file_vault::FileVault;
 pub use top::{Finish, wiki_main};
-
-#[cfg(test)]
-mod tests;
