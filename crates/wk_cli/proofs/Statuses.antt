@@ -1,13 +1,11 @@
 -- The statuses of ends and causes.
-use Rattle.std.proofs.Common.{◌≡◌, ◌≢◌, ℕ, Bool, true, List, [], ◌∷◌, refl, sym, ap, ◌∙◌, subst, arith}
+use Rattle.std.proofs.Common.{◌≡◌, ◌≢◌, ◌==◌, ℕ, true, refl, sym, subst, arith}
 use Rattle.std.specs.List.{list_any}
-use Rattle.std.specs.Prelude.{◌==◌}
 use Rattle.wk_core.specs.declared.outcomes.LoadCause.{LoadCause}
 use Rattle.wk_core.specs.declared.outcomes.LoadCause.TheVariants as cause
 use Rattle.wk_script.specs.declared.script.ScriptEnd.{ScriptEnd}
 use Rattle.wk_script.specs.declared.script.ScriptEnd.TheVariants as end
-use Rattle.wk_cli.specs.Command.{statuses}
-use Rattle.wk_cli.specs.Finished.{status_of_cause, status_of_end}
+use Rattle.wk_cli.specs.Statuses.{status_of_cause, status_of_end, statuses}
 
 abbrev pub IsKnown : ℕ → Type 0
 IsKnown status = list_any (λ s. status == s) statuses ≡ true
@@ -60,17 +58,27 @@ is-write-fault end.StoreFault is = absurd (omega (arith, is))
 is-write-fault (end.BadStore bad) is = absurd (omega (arith, is))
 is-write-fault end.Bound is = absurd (omega (arith, is))
 
-pub no-end-two : (how : ScriptEnd) → status_of_end how ≢ 2
-no-end-two end.Done is = absurd (omega (arith, is))
-no-end-two end.Memory is = absurd (omega (arith, is))
-no-end-two end.ReadFault is = absurd (omega (arith, is))
-no-end-two end.WriteFault is = absurd (omega (arith, is))
-no-end-two end.StoreFault is = absurd (omega (arith, is))
-no-end-two (end.BadStore bad) is = absurd (omega (arith, is))
-no-end-two end.Bound is = absurd (omega (arith, is))
+pub no-end-two : (how : ScriptEnd) → status_of_end how ≡ 2 → ⊥
+no-end-two end.Done is = omega (arith, is)
+no-end-two end.Memory is = omega (arith, is)
+no-end-two end.ReadFault is = omega (arith, is)
+no-end-two end.WriteFault is = omega (arith, is)
+no-end-two end.StoreFault is = omega (arith, is)
+no-end-two (end.BadStore bad) is = omega (arith, is)
+no-end-two end.Bound is = omega (arith, is)
 
 -- no cause has one of these
-pub cause-is : (why : LoadCause) (n : ℕ) → status_of_cause why ≡ n → (n ≡ 1 → ⊥) → (n ≡ 5 → ⊥) → (n ≡ 7 → ⊥) → ⊥
-cause-is cause.Memory n is one five seven = one (sym is)
-cause-is cause.StoreFault n is one five seven = five (sym is)
-cause-is (cause.BadStore bad) n is one five seven = seven (sym is)
+pub no-cause-two : (why : LoadCause) → status_of_cause why ≡ 2 → ⊥
+no-cause-two cause.Memory is = omega (arith, is)
+no-cause-two cause.StoreFault is = omega (arith, is)
+no-cause-two (cause.BadStore bad) is = omega (arith, is)
+
+pub no-cause-three : (why : LoadCause) → status_of_cause why ≡ 3 → ⊥
+no-cause-three cause.Memory is = omega (arith, is)
+no-cause-three cause.StoreFault is = omega (arith, is)
+no-cause-three (cause.BadStore bad) is = omega (arith, is)
+
+pub no-cause-four : (why : LoadCause) → status_of_cause why ≡ 4 → ⊥
+no-cause-four cause.Memory is = omega (arith, is)
+no-cause-four cause.StoreFault is = omega (arith, is)
+no-cause-four (cause.BadStore bad) is = omega (arith, is)

@@ -1,3 +1,5 @@
 pub mod Command
 pub mod Finished
+pub mod Scripted
+pub mod Statuses
 pub mod Vault

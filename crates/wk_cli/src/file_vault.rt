@@ -1,6 +1,7 @@
 //! The vault of the program's stores.
-ghost use Rattle.std.specs.Prelude.{◌≡◌, ◌≤◌, true, false, Err, Some, IfOk, IfSome, OnOk};
+ghost use Rattle.std.specs.Prelude.{◌≡◌, ◌≤◌, true, false, Err, None, Some, IfOk, IfSome, OnOk};
 ghost use Rattle.wk_base.specs.Faults.{Rose, one_more};
+ghost use Rattle.wk_keeper.specs.CallCounts.{CountsOne};
 ghost use Rattle.wk_cli.specs.Vault.{names_memory, opened_tables, vault_faults};
 
 use std::alloc::Global;
@@ -43,6 +44,9 @@ impl Vault for FileVault {
         ensures never_falls { vault_faults self.old ≤ vault_faults self.new }
         ensures no_fault { OnOk result (vault_faults self.new ≡ vault_faults self.old) }
         ensures cause { result ≡ Err OpenRefusal.Failed → Rose (vault_faults self.old) (vault_faults self.new) }
+        ensures one_call { OnOk result (CountsOne None None) }
+        ensures failed_call { result ≡ Err OpenRefusal.Failed → CountsOne None None }
+        ensures no_call { result ≡ Err OpenRefusal.Memory → None ≡ None }
 
         ensures named { names_memory name.now ≡ false → result ≡ Err OpenRefusal.Failed }
         ensures counted { names_memory name.now ≡ false → vault_faults self.new ≡ one_more (vault_faults self.old) }

@@ -1,8 +1,11 @@
 //! The top call of the program `wiki`, and the vault of its stores.
 #![tactic(auto)]
 
+mod ends;
 mod file_vault;
+mod scripts;
 mod top;
 
+pub use ends::Finish;
 pub use file_vault::FileVault;
-pub use top::{Finish, wiki_main};
+pub use top::wiki_main;
