@@ -16,7 +16,7 @@ fn text(alloc: Global, bytes: &'static str) -> Result<Text, Memory> {
 }
 
 /// A vault whose store of the empty name has these tables, and of which these calls fail: of its own, and of the store.
-fn vault(
+pub fn vault(
     alloc: Global,
     tables: Tables,
     fail: &[u64],
@@ -84,37 +84,54 @@ fn ran_over(alloc: Global, vault: MemVault, lines: &str) -> Result<Ran, Memory> 
 #[test]
 fn a_store_of_version_one_is_migrated(rt: HostRuntime) -> Result<(), Fail> {
     let alloc = rt.alloc();
-    let ran = ran_over(alloc, vault(alloc, old_tables(alloc)?, &[], &[])?, "restart\n")?;
+    let ran = ran_over(
+        alloc,
+        vault(alloc, old_tables(alloc)?, &[], &[])?,
+        "restart\n",
+    )?;
     assert_eq!(rt; ran.status, 0);
     let want = "{\"point\":0,\"restart\":{\"jobs\":1,\"pages\":1}}\n";
     assert_eq!(rt; ran.written.as_slice(), want.as_bytes());
+    assert_eq!(rt; ran.version, 2);
     Ok(())
 }
 
 #[test]
 fn a_migration_that_fails_ends_the_program(rt: HostRuntime) -> Result<(), Fail> {
     let alloc = rt.alloc();
-    let ran = ran_over(alloc, vault(alloc, old_tables(alloc)?, &[], &[2])?, "restart\n")?;
+    let ran = ran_over(
+        alloc,
+        vault(alloc, old_tables(alloc)?, &[], &[2])?,
+        "restart\n",
+    )?;
     assert_eq!(rt; ran.status, 5);
     assert_eq!(rt; ran.written.len(), 0);
-    assert!(rt; ran.has_store);
+    assert_eq!(rt; ran.version, 1);
     Ok(())
 }
 
 #[test]
 fn a_vault_that_fails_ends_the_program(rt: HostRuntime) -> Result<(), Fail> {
     let alloc = rt.alloc();
-    let ran = ran_over(alloc, vault(alloc, Tables::new(alloc), &[1], &[])?, "claim\n")?;
+    let ran = ran_over(
+        alloc,
+        vault(alloc, Tables::new(alloc), &[1], &[])?,
+        "claim\n",
+    )?;
     assert_eq!(rt; ran.status, 5);
     assert_eq!(rt; ran.written.len(), 0);
-    assert!(rt; !ran.has_store);
+    assert_eq!(rt; ran.version, 0);
     Ok(())
 }
 
 #[test]
 fn a_bad_store_is_told(rt: HostRuntime) -> Result<(), Fail> {
     let alloc = rt.alloc();
-    let ran = ran_over(alloc, vault(alloc, bad_tables(alloc)?, &[], &[])?, "claim\n")?;
+    let ran = ran_over(
+        alloc,
+        vault(alloc, bad_tables(alloc)?, &[], &[])?,
+        "claim\n",
+    )?;
     assert_eq!(rt; ran.status, 7);
     assert_eq!(rt; ran.bad, Some(BadStore { rule: 2, row: 2 }));
     assert_eq!(rt; ran.written.len(), 0);
@@ -129,7 +146,8 @@ fn a_save_that_the_store_refuses_is_told(rt: HostRuntime) -> Result<(), Fail> {
         api action=edit&title=B&text=x&token=%2B%5C\n";
     let ran = ran_over(alloc, vault(alloc, Tables::new(alloc), &[], &[3])?, lines)?;
     assert_eq!(rt; ran.status, 0);
-    let want = r#"{"edit":{"new":true,"newrevid":1,"oldrevid":0,"pageid":1,"result":"Success","title":"A"},"point":1}
+    let want =
+        r#"{"edit":{"new":true,"newrevid":1,"oldrevid":0,"pageid":1,"result":"Success","title":"A"},"point":1}
 {"error":{"code":"storefault","info":"The store failed."},"point":1}
 {"edit":{"new":true,"newrevid":2,"oldrevid":0,"pageid":2,"result":"Success","title":"B"},"point":2}
 "#;

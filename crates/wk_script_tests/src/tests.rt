@@ -1,28 +1,40 @@
 // What no clause says: that memory which is there is used, and that each line is answered in the text that a user sees.
-use crate::rows::{Row, ROWS};
-use crate::runs::{Ran, SOUND, run, script};
+use crate::cases::{Case, case_of};
+use crate::rows::{RACE, ROWS};
+use crate::runs::{SOUND, is_answered, run, script};
 use std::alloc::Global;
 use std::test::Fail;
 use wk_cli::FileVault;
 use wk_memory::Memory;
 
-/// A run of this script over an empty store.
-fn ran(alloc: Global, lines: &[u8]) -> Result<Ran, Memory> {
-    let mut vault = FileVault::new(alloc);
-    script(alloc, &mut vault, lines, SOUND)
+/// Whether a script over an empty store is answered so.
+fn answers(alloc: Global, case: &Case) -> Result<bool, Memory> {
+    is_answered(alloc, &mut FileVault::new(alloc), case)
 }
 
-fn is_answered(alloc: Global, row: &Row) -> Result<bool, Memory> {
-    let ran = ran(alloc, row.lines.as_bytes())?;
-    Ok(ran.status == 0 && ran.written.as_slice() == row.replies.as_bytes())
+#[test]
+fn an_empty_script_has_no_reply(rt: HostRuntime) -> Result<(), Fail> {
+    let alloc = rt.alloc();
+    assert!(rt; answers(alloc, &Case::new(alloc))?);
+    Ok(())
 }
 
 #[test]
 fn each_script_is_answered(rt: HostRuntime) -> Result<(), Fail> {
     let alloc = rt.alloc();
-    for row in &ROWS {
-        assert!(rt; is_answered(alloc, row)?, "{}", row.name);
+    for row in ROWS.split("=== ") {
+        let (name, text) = row.split_once('\n').unwrap_or(("", ""));
+        let case = case_of(alloc, text)?;
+        assert!(rt; answers(alloc, &case)?, "{name}");
     }
+    Ok(())
+}
+
+#[test]
+fn the_race_is_answered(rt: HostRuntime) -> Result<(), Fail> {
+    let alloc = rt.alloc();
+    let case = case_of(alloc, RACE)?;
+    assert!(rt; answers(alloc, &case)?);
     Ok(())
 }
 
@@ -35,7 +47,7 @@ fn other_words_touch_nothing(rt: HostRuntime) -> Result<(), Fail> {
         assert_eq!(rt; ran.status, 2, "{words}");
         assert_eq!(rt; ran.written.len(), 0, "{words}");
         assert_eq!(rt; ran.points.len(), 0, "{words}");
-        assert!(rt; !ran.has_store, "{words}");
+        assert_eq!(rt; ran.version, 0, "{words}");
     }
     Ok(())
 }
@@ -44,8 +56,8 @@ fn other_words_touch_nothing(rt: HostRuntime) -> Result<(), Fail> {
 fn points_stand_in_order(rt: HostRuntime) -> Result<(), Fail> {
     let alloc = rt.alloc();
     let lines = "api action=edit&title=A&text=x&token=%2B%5C\nclaim\n\nrestart\nclaim\n";
-    let ran = ran(alloc, lines.as_bytes())?;
+    let ran = script(alloc, &mut FileVault::new(alloc), lines.as_bytes(), SOUND)?;
     assert_eq!(rt; ran.points.as_slice(), [1, 2, 0, 1].as_slice());
-    assert!(rt; ran.has_store);
+    assert_eq!(rt; ran.version, 2);
     Ok(())
 }
