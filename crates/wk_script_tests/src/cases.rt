@@ -27,6 +27,29 @@ impl Case {
         Ok(())
     }
 
+    /// Appends a line that stands behind `> `, or the reply to one.
+    fn add_either(&mut self, text: &str) -> Result<(), Memory> {
+        match text.strip_prefix("> ") {
+            Some(line) => {
+                self.lines.push_str(line)?;
+                self.lines.push('\n')?;
+            }
+            None => {
+                self.replies.push_str(text)?;
+                self.replies.push('\n')?;
+            }
+        }
+        Ok(())
+    }
+
+    /// Appends the lines of a text, each of which stands behind `> `, and their replies, which stand below them.
+    pub fn add_all(&mut self, text: &str) -> Result<(), Memory> {
+        'lines: for line in text.lines() {
+            self.add_either(line)?;
+        }
+        Ok(())
+    }
+
     /// Appends the save of a new page, where so many were saved before that this is the number of the page, of its revision
     /// and of the point.
     pub fn make(
@@ -47,17 +70,9 @@ impl Case {
     }
 }
 
-/// A script of a text in which each line stands behind `> `, and its reply below it.
+/// The script of such a text.
 pub fn case_of(alloc: Global, text: &str) -> Result<Case, Memory> {
     let mut case = Case::new(alloc);
-    'lines: for line in text.lines() {
-        let into = if line.starts_with("> ") {
-            &mut case.lines
-        } else {
-            &mut case.replies
-        };
-        into.push_str(line.strip_prefix("> ").unwrap_or(line))?;
-        into.push('\n')?;
-    }
+    case.add_all(text)?;
     Ok(case)
 }

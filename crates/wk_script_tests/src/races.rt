@@ -35,6 +35,11 @@ fn are_first(case: &Case, written: &[u8], replies: u64) -> bool {
     whole && lines_in(written) == replies && case.replies.as_bytes().starts_with(written)
 }
 
+/// Whether the run ended with this status, and wrote so many replies.
+fn stops(case: &Case, ran: &Ran, status: u8, replies: u64) -> bool {
+    ran.status == status && are_first(case, &ran.written, replies)
+}
+
 fn ran(alloc: Global, case: &Case, outside: Outside) -> Result<Ran, Memory> {
     script(
         alloc,
@@ -61,11 +66,7 @@ fn each_read_fails_in_turn(rt: HostRuntime) -> Result<(), Fail> {
             ..SOUND
         };
         let ran = ran(alloc, &case, outside)?;
-        assert_eq!(rt; ran.status, status, "read {failed_read}");
-        assert!(rt;
-            are_first(&case, &ran.written, replies),
-            "read {failed_read}"
-        );
+        assert!(rt; stops(&case, &ran, status, replies), "read {failed_read}");
     }
     Ok(())
 }
@@ -82,11 +83,7 @@ fn each_write_fails_in_turn(rt: HostRuntime) -> Result<(), Fail> {
         };
         let ran = ran(alloc, &case, outside)?;
         let status = if replies < REPLIES { 4 } else { 0 };
-        assert_eq!(rt; ran.status, status, "write {failed_write}");
-        assert!(rt;
-            are_first(&case, &ran.written, replies),
-            "write {failed_write}"
-        );
+        assert!(rt; stops(&case, &ran, status, replies), "write {failed_write}");
     }
     Ok(())
 }
@@ -98,8 +95,7 @@ fn each_load_fails_in_turn(rt: HostRuntime) -> Result<(), Fail> {
     // (seven calls between them change the store)
     for (failed, status, replies) in [(1, 5, 0), (9, 5, 22), (10, 0, REPLIES)] {
         let ran = ran_over(alloc, &case, failed)?;
-        assert_eq!(rt; ran.status, status, "call {failed}");
-        assert!(rt; are_first(&case, &ran.written, replies), "call {failed}");
+        assert!(rt; stops(&case, &ran, status, replies), "call {failed}");
     }
     Ok(())
 }
@@ -122,6 +118,12 @@ fn replies_before_the_fault(case: &Case, written: &[u8]) -> Option<u64> {
     Some(replies)
 }
 
+/// Whether the run went to its end, and told of one fault of the store, behind so many replies.
+fn goes_on(case: &Case, ran: &Ran, replies: u64) -> bool {
+    let whole = ran.status == 0 && lines_in(&ran.written) == REPLIES;
+    whole && replies_before_the_fault(case, &ran.written) == Some(replies)
+}
+
 #[test]
 fn each_change_fails_in_turn(rt: HostRuntime) -> Result<(), Fail> {
     let alloc = rt.alloc();
@@ -129,13 +131,7 @@ fn each_change_fails_in_turn(rt: HostRuntime) -> Result<(), Fail> {
     // (four saves, and three refreshes that are done)
     for (failed, replies) in [(2, 0), (3, 1), (4, 2), (5, 6), (6, 11), (7, 14), (8, 19)] {
         let ran = ran_over(alloc, &case, failed)?;
-        assert_eq!(rt; ran.status, 0, "call {failed}");
-        assert_eq!(rt; lines_in(&ran.written), REPLIES, "call {failed}");
-        assert_eq!(rt;
-            replies_before_the_fault(&case, &ran.written),
-            Some(replies),
-            "call {failed}"
-        );
+        assert!(rt; goes_on(&case, &ran, replies), "call {failed}");
     }
     Ok(())
 }

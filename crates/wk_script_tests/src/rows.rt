@@ -349,3 +349,53 @@ pub const ONE_PAGE: &str = r##"> api action=edit&title=A&text=x&token=%2B%5C
 > api action=edit&title=A&text=y&token=%2B%5C
 {"edit":{"newrevid":2,"oldrevid":1,"pageid":1,"result":"Success","title":"A"},"point":2}
 "##;
+
+/// What a text expands to that includes forty templates within each other, and one that includes one more.
+pub const FORTY_DEEP: &str = r##"> api action=expandtemplates&text={{T2}}
+{"expandtemplates":{"wikitext":"x"},"point":41}
+> api action=expandtemplates&text={{T1}}
+{"expandtemplates":{"wikitext":"<span class=\"error\">Template depth limit exceeded: Template:T41</span>"},"point":41}
+"##;
+
+/// The refresh of a page that includes a long template twice. The second one is a link.
+pub const LINKED: &str = r##"> claim
+{"claim":{"ticket":3,"title":"Template:Big"},"point":3}
+> giveback 3
+{"giveback":"Template:Big","point":4}
+> claim
+{"claim":{"ticket":5,"title":"P"},"point":5}
+> read 5
+{"point":5,"read":{"kind":"view","mark":2,"title":"P"}}
+> read 5
+{"point":5,"read":{"kind":"include","mark":1,"title":"Template:Big"}}
+> finish 5
+{"finish":"done","point":6}
+> api action=query&list=backlinks&bltitle=Template:Big
+{"point":6,"query":{"backlinks":[{"ns":0,"pageid":2,"title":"P"}]}}
+"##;
+
+/// Template:T, which 301 pages include, is made, and changes once more before each of them is served.
+pub const MANY_USERS: &str = r##"> api action=edit&title=Template:T&text=1&token=%2B%5C
+{"edit":{"new":true,"newrevid":302,"oldrevid":0,"pageid":302,"result":"Success","title":"Template:T"},"point":904}
+> fan
+{"fan":{"queued":300,"served":300,"title":"Template:T"},"point":905}
+> api action=edit&title=Template:T&text=2&token=%2B%5C
+{"edit":{"newrevid":303,"oldrevid":302,"pageid":302,"result":"Success","title":"Template:T"},"point":906}
+> fan
+{"fan":{"queued":0,"served":300,"title":"Template:T"},"point":907}
+> fan
+{"fan":{"queued":1,"served":1,"title":"Template:T"},"point":908}
+> fan
+{"fan":null,"point":908}
+> restart
+{"point":0,"restart":{"jobs":302,"pages":302}}
+"##;
+
+/// A store whose second change fails: that save is refused, and is made when it is asked for again.
+pub const REFUSED_ONCE: &str = r##"> api action=edit&title=A&text=x&token=%2B%5C
+{"edit":{"new":true,"newrevid":1,"oldrevid":0,"pageid":1,"result":"Success","title":"A"},"point":1}
+> api action=edit&title=B&text=x&token=%2B%5C
+{"error":{"code":"storefault","info":"The store failed."},"point":1}
+> api action=edit&title=B&text=x&token=%2B%5C
+{"edit":{"new":true,"newrevid":2,"oldrevid":0,"pageid":2,"result":"Success","title":"B"},"point":2}
+"##;

@@ -36,6 +36,14 @@ pub struct Ran {
     pub written: Vec<u8>,
 }
 
+impl Ran {
+    /// Whether the run ended with this status, handed back a store of this version, 0 for none, and wrote this.
+    pub fn ends(&self, status: u8, version: u64, written: &str) -> bool {
+        let told = self.written.as_slice() == written.as_bytes();
+        self.status == status && self.version == version && told
+    }
+}
+
 /// The words of this text.
 fn words(alloc: Global, text: &str) -> Result<Vec<String>, Memory> {
     let mut words = Vec::new(alloc);
@@ -90,8 +98,8 @@ pub fn script<V: Vault>(
     run(alloc, "wiki script", vault, input, outside)
 }
 
-/// Whether a run of the script goes to its end and writes just the replies.
+/// Whether a run of the script goes to its end, writes just the replies and hands back a store of version 2.
 pub fn is_answered<V: Vault>(alloc: Global, vault: &mut V, case: &Case) -> Result<bool, Memory> {
     let ran = script(alloc, vault, case.lines.as_bytes(), SOUND)?;
-    Ok(ran.status == 0 && ran.written.as_slice() == case.replies.as_bytes())
+    Ok(ran.ends(0, 2, &case.replies))
 }
