@@ -1,4 +1,3 @@
-pub mod EditLines
-pub mod Reading
-pub mod Refusals
-pub mod RunSteps
+pub mod Ended
+pub mod Over
+pub mod Statuses

@@ -1,5 +1,5 @@
 pub mod Command
-pub mod Lines
-pub mod Refusals
-pub mod Runs
-pub mod Shown
+pub mod Finished
+pub mod Scripted
+pub mod Statuses
+pub mod Vault

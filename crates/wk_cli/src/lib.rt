@@ -1,13 +1,11 @@
-//! The top call of the program, and the script's loop.
+//! The top call of the program `wiki`, and the vault of its stores.
 #![tactic(auto)]
 
-mod edit_line;
-mod replies;
-mod run;
-mod script;
+mod ends;
+mod file_vault;
+mod scripts;
 mod top;
 
-pub use top::{Finish, wiki_main};
-
-#[cfg(test)]
-mod tests;
+pub use ends::Finish;
+pub use file_vault::FileVault;
+pub use top::wiki_main;

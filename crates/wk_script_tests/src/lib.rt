@@ -1,0 +1,13 @@
+//! Tests of the program's top call on scripts, and nothing else.
+#![tactic(auto)]
+
+#[cfg(test)]
+mod faults;
+#[cfg(test)]
+mod rows;
+#[cfg(test)]
+mod runs;
+#[cfg(test)]
+mod stores;
+#[cfg(test)]
+mod tests;
