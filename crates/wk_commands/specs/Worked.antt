@@ -1,5 +1,5 @@
 -- What a command does over the store of a keeper (own).
-use Rattle.std.specs.Prelude.{◌≡◌, ◌≤◌, ℕ, Bool, true, List, Option, Some, None, Result, Ok, Err, IfSome, is_some}
+use Rattle.std.specs.Prelude.{◌≡◌, ℕ, Bool, List, Option, None, Result, Ok, Err, IfSome}
 use Rattle.wk_base.specs.Faults.{Rose}
 use Rattle.wk_page_rules.specs.Verdict.{MostHeld, full_limits}
 use Rattle.wk_table_rules.specs.GoodStore.{first_broken}
@@ -10,7 +10,6 @@ use Rattle.wk_tool_rules.specs.Checks.{check_text}
 use Rattle.wk_tool_rules.specs.Generator.{generated}
 use Rattle.wk_core.specs.Loads.{HasOpened, bad_store_of}
 use Rattle.wk_core.specs.Seen.{IsTold, WikiSeen}
-use Rattle.wk_core.specs.Steps.{KeeperGoesOn}
 use Rattle.wk_core.specs.declared.outcomes.LoadCause.{LoadCause}
 use Rattle.wk_core.specs.declared.outcomes.LoadCause.TheVariants as cause
 use Rattle.wk_commands.specs.Checked.{IsCompared}

@@ -12,4 +12,4 @@ pub use checks::check_pages;
 pub use drains::drain_jobs;
 pub use ends::CommandEnd;
 pub use generates::generate_pages;
-pub use works::{Work, Worked, work_over};
+pub use works::{Work, Worked, limits_with_journal, work_over};

@@ -1,5 +1,5 @@
 //! The commands over the store of a keeper.
-ghost use Rattle.std.specs.Prelude.{◌≡◌, ◌≢◌, ◌≤◌, Ok};
+ghost use Rattle.std.specs.Prelude.{◌≡◌, ◌≢◌, ◌≤◌, true, Ok, is_some};
 ghost use Rattle.wk_base.specs.Faults.{Rose};
 ghost use Rattle.wk_page_rules.specs.Verdict.{max_journal};
 ghost use Rattle.wk_revs.specs.Edit.{most_held};
@@ -66,8 +66,8 @@ fn do_work<K: Keeper, O: Sink, C: Clock>(
     }
 }
 
-/// The full limits, but for the journal's.
-fn limits_with_journal(journal: u64) -> Limits
+/// The full limits, but for the journal's, which is at most the full one.
+pub fn limits_with_journal(journal: u64) -> Limits
     requires { journal ≤ max_journal }
     ensures limits { most_held result ≡ limits_with_journal journal }
     ensures within { AreWithinFull (most_held result) }
@@ -92,6 +92,9 @@ pub fn work_over<K: Keeper, O: Sink, C: Clock>(
     requires journal { journal ≤ max_journal }
     ensures worked { IsWorkedOn K.told K.faults K.is_whole work journal keeper result.keeper
         (C.left clock.old) (C.left clock.new) (O.taken output.old) (O.taken output.new) result.end }
+    ensures tells { is_some (K.told result.keeper) ≡ is_some (K.told keeper) }
+    ensures keeper_never_falls { K.faults keeper ≤ K.faults result.keeper }
+    ensures whole { K.is_whole keeper ≡ true → K.faults result.keeper ≡ K.faults keeper }
     ensures never_falls { O.faults output.old ≤ O.faults output.new }
     ensures no_write_fault { result.end ≢ Ok CommandEnd.WriteFault → O.faults output.new ≡ O.faults output.old }
     ensures write_fault { result.end ≡ Ok CommandEnd.WriteFault → Rose (O.faults output.old) (O.faults output.new) }
