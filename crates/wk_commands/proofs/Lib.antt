@@ -1,1 +1,4 @@
 pub mod Lives
+pub mod Ends
+pub mod Drained
+pub mod Generated

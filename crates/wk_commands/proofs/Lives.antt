@@ -21,8 +21,8 @@ use Rattle.wk_commands.specs.Lived.{HasLivedOn, LivesOn}
 lives-of-store : (state last : State) (journals : List (List Event)) → opened (tables_of state) ≡ state → LivesOn state journals last → LivesOfStore (tables_of state) journals last
 lives-of-store state last [] is same = ap (λ s. Some s) (is ∙ sym same)
 lives-of-store state last (journal ∷ later) is lives =
-    let first : replay (opened (tables_of state)) journal ≡ Some lives.0 = ap (λ s. replay s journal) is ∙ lives.1.0 in
-    ap (option_and_then (λ ended. last_state ended later)) first ∙ lives.1.1
+    let first : replay (opened (tables_of state)) journal ≡ Some lives.0 = ap (λ s. replay s journal) is ∙ lives.1 in
+    ap (option_and_then (λ ended. last_state ended later)) first ∙ lives.2
 
 module _ {K : Type 0} where
   module _ (old : WikiSeen K) (opening : HasOpened old old.start.limits) where
@@ -39,12 +39,12 @@ module _ {K : Type 0} where
         ap (λ s. replay s events) (sym opening.start) ∙ ap (λ (j : List Event). replay old.start.state (j ++ events)) (sym opening.journal)
 
     pub lived-on : (new : WikiSeen K) → HasLived old new → HasLivedOn old.state new.state
-    lived-on new lived = record { journals = lived.added ∷ lived.later; lives = (lived.ended, (from-start lived.added ∙ lived.goes_on, lived.lives)) }
+    lived-on new lived = record { journals = lived.added ∷ lived.later; lives = (lived.ended, from-start lived.added ∙ lived.goes_on, lived.lives) }
 
     pub made-on : (new : WikiSeen K) (events : List Event) → HasMadeEach old new events → HasLivedOn old.state new.state
     made-on new events made =
         let none : 0 ≡ length old.journal = ap length (sym opening.journal) in
-        record { journals = events ∷ []; lives = (new.state, (ap (λ n. replay_from fan_pages old.state n events) none ∙ made.replayed, refl)) }
+        record { journals = events ∷ []; lives = (new.state, ap (λ n. replay_from fan_pages old.state n events) none ∙ made.replayed, refl) }
 
     pub made-then-lived : (middle new : WikiSeen K) (events : List Event) → HasMadeEach old middle events → HasLived middle new → HasLivedOn old.state new.state
     made-then-lived middle new events made lived =
@@ -53,7 +53,7 @@ module _ {K : Type 0} where
         from-start (events ++ lived.added)
         ∙ (ap (replay old.start.state) joined ∙ (ap (λ (s : Start). replay s.state (middle.journal ++ lived.added)) (sym made.start) ∙ lived.goes_on))
         in
-        record { journals = (events ++ lived.added) ∷ lived.later; lives = (lived.ended, (first, lived.lives)) }
+        record { journals = (events ++ lived.added) ∷ lived.later; lives = (lived.ended, first, lived.lives) }
 
     pub same-on : HasLivedOn old.state old.state
     same-on = record { journals = []; lives = refl }

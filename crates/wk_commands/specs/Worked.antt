@@ -1,5 +1,5 @@
 -- What a command does over the store of a keeper (own).
-use Rattle.std.specs.Prelude.{◌≡◌, ℕ, Bool, List, Option, None, Result, Ok, Err, IfSome}
+use Rattle.std.specs.Prelude.{◌≡◌, ℕ, Bool, List, Option, None, Some, Result, Ok, Err, IfSome}
 use Rattle.wk_base.specs.Faults.{Rose}
 use Rattle.wk_page_rules.specs.Verdict.{MostHeld, full_limits}
 use Rattle.wk_table_rules.specs.GoodStore.{first_broken}

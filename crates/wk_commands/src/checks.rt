@@ -29,5 +29,6 @@ pub fn check_pages<K: Keeper, O: Sink>(wiki: &Wiki<K>, output: &mut O) -> Comman
     let Ok(text) = check_text(wiki.allocator(), &titles, pages) else {
         return CommandEnd::Memory;
     };
-    write_text(output, &text, titles.is_empty())
+    let is_same = titles.is_empty();
+    write_text(output, &text, is_same)
 }

@@ -41,7 +41,8 @@ fn compare<K: Keeper, O: Sink>(wiki: &Wiki<K>, output: &mut O) -> CommandEnd
     let Ok(text) = gen_text(wiki.allocator(), pages, revisions, titles.len()) else {
         return CommandEnd::Memory;
     };
-    write_text(output, &text, titles.is_empty())
+    let is_same = titles.is_empty();
+    write_text(output, &text, is_same)
 }
 
 /// Does the jobs until none is left, compares the pages, and writes the counts.
