@@ -1,10 +1,8 @@
 -- What follows from how the program ended.
-use Rattle.std.proofs.Common.{◌≡◌, ℕ, Bool, true, false, Option, refl, sym, ◌∙◌, subst, arith}
-use Rattle.std.proofs.lemmas.Bool.{false≢true}
+use Rattle.std.proofs.Common.{◌≡◌, ℕ, Bool, Option, refl, sym, ◌∙◌, subst, arith}
 use Rattle.wk_table_rules.specs.Rows.{StoreTables}
 use Rattle.wk_script_runs.specs.Outside.{Outside}
-use Rattle.wk_cli.specs.Finished.{IsFinished, no_command, scripted}
-use Rattle.wk_cli.specs.Scripted.{HasNoStore, IsOver, IsScripted, VaultStore, no_memory, not_loaded, not_opened, over_a_store, ran}
+use Rattle.wk_cli.specs.Scripted.{IsOver, IsScripted, VaultStore, no_memory, not_loaded, not_opened, over_a_store, ran}
 use Rattle.wk_cli.specs.declared.ends.Finish.{Finish}
 use Rattle.wk_cli.proofs.Statuses.{IsKnown, known-cause, known-end, no-cause-two, no-end-two}
 

@@ -4,7 +4,6 @@ use Rattle.wk_base.specs.Faults.{Rose}
 use Rattle.wk_page_rules.specs.Verdict.{MostHeld, full_limits}
 use Rattle.wk_table_rules.specs.GoodStore.{first_broken}
 use Rattle.wk_table_rules.specs.Rows.{StoreTables}
-use Rattle.wk_table_rules.specs.declared.BadStore.{BadStore}
 use Rattle.wk_state_rules.specs.Lives.{opened}
 use Rattle.wk_core.specs.Limits.{AreWithinFull}
 use Rattle.wk_core.specs.Loads.{HasOpened, bad_store_of}

@@ -1,5 +1,5 @@
 -- How the command `script` ended (own).
-use Rattle.std.specs.Prelude.{◌≡◌, ◌≤◌, ℕ, Bool, true, List, [], Option, Some, None, Result, IfSome, is_some, ◌⊎◌}
+use Rattle.std.specs.Prelude.{◌≡◌, ◌≤◌, ℕ, Bool, true, [], Option, Some, None, Result, IfSome, is_some}
 use Rattle.wk_base.specs.Faults.{Rose}
 use Rattle.wk_table_rules.specs.GoodStore.{first_broken}
 use Rattle.wk_table_rules.specs.Rows.{StoreTables}

@@ -1,8 +1,8 @@
 //! The vault of the program's stores.
-ghost use Rattle.std.specs.Prelude.{◌≡◌, ◌≤◌, true, false, Err, None, Some, IfOk, IfSome, OnOk};
+ghost use Rattle.std.specs.Prelude.{◌≡◌, ◌≤◌, true, false, Err, Some, IfOk, IfSome, OnOk};
 ghost use Rattle.wk_base.specs.Faults.{Rose, one_more};
 ghost use Rattle.wk_keeper.specs.CallCounts.{CountsOne};
-ghost use Rattle.wk_cli.specs.Vault.{names_memory, opened_tables, vault_faults};
+ghost use Rattle.wk_cli.specs.Vault.{names_memory, store_faults, store_is_whole, vault_calls, vault_faults, vault_tables, vault_whole};
 
 use std::alloc::Global;
 use wk_keeper::{MemKeeper, OpenRefusal, Vault};
@@ -28,25 +28,27 @@ impl FileVault {
 impl Vault for FileVault {
     type Store = MemKeeper;
 
-    ghost told = { λ _ name. opened_tables name };
+    ghost told = { vault_tables };
 
-    ghost opens_whole = { λ _ name. names_memory name };
+    ghost opens_whole = { vault_whole };
 
     ghost faults = { vault_faults };
 
+    ghost calls = { vault_calls };
+
     /// An empty store in memory for the empty name. Each other name is `Failed`.
     fn open(&mut self, name: &str) -> Result<MemKeeper, OpenRefusal>
-        ensures given { IfOk result (λ store. IfSome (opened_tables name.now) (λ kept. Some store ≡ Some kept)) }
-        ensures whole { IfOk result (λ _. names_memory name.now ≡ true → true ≡ true) }
-        ensures no_faults { IfOk result (λ _. 0 ≡ 0) }
-        ensures tells { (λ name. opened_tables name) ≡ (λ name. opened_tables name) }
-        ensures tells_whole { (λ name. names_memory name) ≡ (λ name. names_memory name) }
+        ensures given { IfOk result (λ store. IfSome (vault_tables self.old name.now) (λ kept. Some store ≡ Some kept)) }
+        ensures whole { IfOk result (λ store. vault_whole self.old name.now ≡ true → store_is_whole store ≡ true) }
+        ensures no_faults { IfOk result (λ store. store_faults store ≡ 0) }
+        ensures tells { vault_tables self.new ≡ vault_tables self.old }
+        ensures tells_whole { vault_whole self.new ≡ vault_whole self.old }
         ensures never_falls { vault_faults self.old ≤ vault_faults self.new }
         ensures no_fault { OnOk result (vault_faults self.new ≡ vault_faults self.old) }
         ensures cause { result ≡ Err OpenRefusal.Failed → Rose (vault_faults self.old) (vault_faults self.new) }
-        ensures one_call { OnOk result (CountsOne None None) }
-        ensures failed_call { result ≡ Err OpenRefusal.Failed → CountsOne None None }
-        ensures no_call { result ≡ Err OpenRefusal.Memory → None ≡ None }
+        ensures one_call { OnOk result (CountsOne (vault_calls self.old) (vault_calls self.new)) }
+        ensures failed_call { result ≡ Err OpenRefusal.Failed → CountsOne (vault_calls self.old) (vault_calls self.new) }
+        ensures no_call { result ≡ Err OpenRefusal.Memory → vault_calls self.new ≡ vault_calls self.old }
 
         ensures named { names_memory name.now ≡ false → result ≡ Err OpenRefusal.Failed }
         ensures counted { names_memory name.now ≡ false → vault_faults self.new ≡ one_more (vault_faults self.old) }

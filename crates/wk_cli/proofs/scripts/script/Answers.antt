@@ -1,4 +1,4 @@
-use Rattle.std.proofs.Common.{refl, arith}
+use Rattle.std.proofs.Common.{Err, ap, arith, refl}
 use Rattle.wk_cli.specs.Scripted.{no_memory, not_opened, over_a_store}
 use Rattle.wk_cli.proofs.scripts.script.Goals as goal
 
@@ -20,7 +20,7 @@ returns-in-Ok g c = record {
 -- it wasn't
 pub returns-in-Err-Failed : goal.returns-in-Err-Failed
 returns-in-Err-Failed g c = record {
-  scripted = not_opened c.unopened.ensures.status c.in-Err-Failed.ensures.cause
+  scripted = not_opened c.unopened.ensures.status (c.in-Err-Failed.ensures.cause (ap Err c.in-Err-Failed.field-0-is))
       (record { untouched = record { same = refl; nothing = c.unopened.ensures.points }; not_bad = c.unopened.ensures.bad; no_store = c.unopened.ensures.store });
   reads_never_fall = omega arith;
   no_read_fault = λ is. refl;

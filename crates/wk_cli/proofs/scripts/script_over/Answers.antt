@@ -4,7 +4,7 @@ use Rattle.wk_cli.proofs.Statuses.{is-done, is-read-fault, is-write-fault, no-ca
 use Rattle.wk_cli.proofs.scripts.script_over.Goals as goal
 
 pub load-requires : goal.load-requires
-load-requires g c = within-full _ refl
+load-requires g c = record { within = within-full _ refl }
 
 pub run_script-requires : goal.run_script-requires
 run_script-requires g c = record {
