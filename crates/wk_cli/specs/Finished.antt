@@ -1,9 +1,10 @@
 -- How the program ended (own).
-use Rattle.std.specs.Prelude.{◌≡◌, ◌⊎◌, ℕ, Bool, List, [], Option, None}
+use Rattle.std.specs.Prelude.{◌≡◌, ◌⊎◌, ℕ, Bool, List, [], Option, None, Some}
 use Rattle.std.specs.Io.KnownBytes.{Appends}
 use Rattle.wk_base.specs.Writing.{AppendsPrefix}
 use Rattle.wk_table_rules.specs.Rows.{StoreTables}
 use Rattle.wk_script_runs.specs.Outside.{Outside}
+use Rattle.wk_commands.specs.declared.works.Work.{Work}
 use Rattle.wk_commands.specs.declared.works.Work.TheVariants as work
 use Rattle.wk_words.specs.Verdicts.{Verdict, Wanted, refused, runs, shows_help, shows_version}
 use Rattle.wk_words.specs.declared.commands.Command.{Command}
@@ -30,16 +31,21 @@ pub record IsShown {K : Type 0} (text : List ℕ) (before after : Outside) (fini
   pub not_bad : finish.bad ≡ None
   pub no_store : finish.store ≡ None
 
+-- the work that a command is, where it is none on the lines of the input
+abbrev pub work_of : Command → ℕ → ℕ → Option Work
+work_of Script pages number = None
+work_of Jobs pages number = Some work.Jobs
+work_of Check pages number = Some work.Check
+work_of Generate pages number = Some (work.Generate pages number)
+
 -- the command was carried out over the store of the name that is wanted, with a journal of at most so many events
-abbrev pub IsCarriedOut : {K : Type 0} → (K → Option StoreTables) → (K → ℕ) → (K → Bool) → Wanted → VaultStore → ℕ → ℕ → Outside → Outside → Finish K → Command → Type 0
-IsCarriedOut told faults is_whole wanted kept opens later before after finish Script =
-    IsScripted told faults is_whole wanted.journal_limit kept opens later before after finish
-IsCarriedOut told faults is_whole wanted kept opens later before after finish Jobs =
-    IsWorkedAt told faults is_whole work.Jobs wanted.journal_limit kept opens later before after finish
-IsCarriedOut told faults is_whole wanted kept opens later before after finish Check =
-    IsWorkedAt told faults is_whole work.Check wanted.journal_limit kept opens later before after finish
-IsCarriedOut told faults is_whole wanted kept opens later before after finish Generate =
-    IsWorkedAt told faults is_whole (work.Generate wanted.pages wanted.number) wanted.journal_limit kept opens later before after finish
+pub data IsCarriedOut {K : Type 0} (told : K → Option StoreTables) (faults : K → ℕ) (is_whole : K → Bool) (wanted : Wanted) (kept : VaultStore)
+    (opens later : ℕ) (before after : Outside) (finish : Finish K) : Type 0 where
+  scripted : wanted.command ≡ Script → IsScripted told faults is_whole wanted.journal_limit kept opens later before after finish →
+      IsCarriedOut told faults is_whole wanted kept opens later before after finish
+  worked : (asked : Work) → work_of wanted.command wanted.pages wanted.number ≡ Some asked →
+      IsWorkedAt told faults is_whole asked wanted.journal_limit kept opens later before after finish →
+      IsCarriedOut told faults is_whole wanted kept opens later before after finish
 
 -- Memory ran out for the words; or they were refused, and nothing was touched; or they asked for help or the version, which
 -- was written; or for a command, which was carried out.
@@ -51,5 +57,5 @@ pub data IsFinished {K : Type 0} (told : K → Option StoreTables) (faults : K �
       IsFinished told faults is_whole verdict vault opens later before after finish
   shown : (text : List ℕ) → (verdict ≡ shows_help) ⊎ (verdict ≡ shows_version) → later ≡ opens → IsShown text before after finish →
       IsFinished told faults is_whole verdict vault opens later before after finish
-  carried_out : (wanted : Wanted) → verdict ≡ runs wanted → IsCarriedOut told faults is_whole wanted (store_named vault wanted.store) opens later before after finish wanted.command →
+  carried_out : (wanted : Wanted) → verdict ≡ runs wanted → IsCarriedOut told faults is_whole wanted (store_named vault wanted.store) opens later before after finish →
       IsFinished told faults is_whole verdict vault opens later before after finish

@@ -5,7 +5,7 @@ ghost use Rattle.wk_cli.specs.Finished.{IsShown};
 
 use crate::ends::{Finish, unopened};
 use std::alloc::Global;
-use wk_base::{Failed, Sink, write_all};
+use wk_base::{Sink, write_all};
 
 /// Writes a text that was asked for. The status is 0, and 4 where a write failed.
 pub(crate) fn show<S, O: Sink>(alloc: Global, text: &str, output: &mut O) -> Finish<S>
@@ -18,6 +18,6 @@ pub(crate) fn show<S, O: Sink>(alloc: Global, text: &str, output: &mut O) -> Fin
 {
     match write_all(output, text.as_bytes()) {
         Ok(()) => unopened(alloc, 0),
-        Err(Failed) => unopened(alloc, 4),
+        Err(_) => unopened(alloc, 4),
     }
 }

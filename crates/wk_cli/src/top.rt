@@ -30,7 +30,7 @@ fn carry_out<V: Vault, I: Source, O: Sink, C: Clock>(
     ensures carried_out { IsCarriedOut V.Store.told V.Store.faults V.Store.is_whole (wanted_of line.now)
         (store_named (record { tables = V.told vault.old; whole = V.opens_whole vault.old }) (wanted_of line.now).store) (V.faults vault.old) (V.faults vault.new)
         (record { rest = I.rest input.old; moments = C.left clock.old; taken = O.taken output.old })
-        (record { rest = I.rest input.new; moments = C.left clock.new; taken = O.taken output.new }) result line.now.command }
+        (record { rest = I.rest input.new; moments = C.left clock.new; taken = O.taken output.new }) result }
     ensures reads_never_fall { I.faults input.old ≤ I.faults input.new }
     ensures no_read_fault { result.status ≡ 0 → I.faults input.new ≡ I.faults input.old }
     ensures read_fault { result.status ≡ 3 → Rose (I.faults input.old) (I.faults input.new) }
@@ -105,7 +105,8 @@ pub fn wiki_main<V: Vault, I: Source, O: Sink, C: Clock>(
     match read(alloc, words) {
         Ok(line) => carry_out(alloc, &line, vault, input, output, clock),
         Err(Refusal::Words(_)) => unopened(alloc, 2),
-        Err(Refusal::Help(text) | Refusal::Version(text)) => show(alloc, &text, output),
+        Err(Refusal::Help(text)) => show(alloc, &text, output),
+        Err(Refusal::Version(text)) => show(alloc, &text, output),
         Err(Refusal::Memory) => unopened(alloc, 1),
     }
 }

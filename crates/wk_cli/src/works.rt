@@ -47,7 +47,7 @@ fn bad_of_work(end: Result<CommandEnd, LoadCause>) -> Option<BadStore>
 }
 
 /// The end of a command over a store.
-fn worked<K>(alloc: Global, worked: Worked<K>) -> Finish<K>
+fn ended<K>(alloc: Global, worked: Worked<K>) -> Finish<K>
     ensures status { result.status ≡ status_of_work worked.end }
     ensures points { result.points.items ≡ [] }
     ensures bad { result.bad ≡ bad_of_work worked.end }
@@ -84,7 +84,7 @@ pub(crate) fn work<V: Vault, O: Sink, C: Clock>(
     ensures opens_never_fall { V.faults vault.old ≤ V.faults vault.new }
 {
     match vault.open(name) {
-        Ok(store) => worked(alloc, work_over(alloc, store, journal, work, output, clock)),
+        Ok(store) => ended(alloc, work_over(alloc, store, journal, work, output, clock)),
         Err(OpenRefusal::Failed) => unopened(alloc, 5),
         Err(OpenRefusal::Memory) => unopened(alloc, 1),
     }

@@ -15,7 +15,7 @@ use Rattle.wk_commands.specs.Drained.{IsDrained}
 use Rattle.wk_commands.specs.Written.{HasWritten}
 use Rattle.wk_commands.specs.declared.ends.CommandEnd.{CommandEnd}
 use Rattle.wk_commands.specs.declared.ends.CommandEnd.TheVariants.{Done, Differs, Full, StoreFault, WriteFault, Memory}
-use Rattle.wk_commands.proofs.Ends.{IsAt, differs-at, no-fault, not-full}
+use Rattle.wk_commands.proofs.Comparing.{IsAt, differs-at, no-fault, not-full}
 use Rattle.wk_commands.proofs.Lives.{lived-on, sound-on}
 
 module _ {K : Type 0} (told : K → Option StoreTables) (faults : K → ℕ) (old new : WikiSeen K) (opening : HasOpened old old.start.limits) (run : IsRun old.start old.journal old.state)

@@ -1,7 +1,7 @@
 -- How a command ends that has written its text.
-use Rattle.std.proofs.Common.{◌≡◌, ◌≢◌, ℕ, Bool, true, false, List, [], Option, refl, sym, ◌∙◌, inl, inr}
-use Rattle.std.specs.Prelude.{◌⊎◌, ◌↔◌, IsTrue}
-use Rattle.wk_text_rules.specs.Titles.{PageTitle}
+use Rattle.std.proofs.Common.{◌≡◌, ◌≢◌, ◌==◌, ℕ, Bool, true, false, List, [], ◌∷◌, length, Option, refl, sym, ap, ◌∙◌, subst, arith}
+use Rattle.std.proofs.KnownBytes.{Keeps-refl}
+use Rattle.std.proofs.lemmas.Bool.{false≢true}
 use Rattle.wk_state_rules.specs.States.{State}
 use Rattle.wk_tool_rules.specs.Checks.{differing}
 use Rattle.wk_commands.specs.Checked.{IsCompared}
@@ -47,20 +47,28 @@ differs-at end true is differs =
 
 -- ---- a comparison
 
-pub compared : (state : State) (text : List ℕ) (before after : Option (List ℕ)) (end : CommandEnd) (same : Bool) (titles : List PageTitle) → titles ≡ differing state → (IsTrue same ↔ (titles ≡ []))
-    → HasWritten end text before after → IsAt (end_of_comparison same) end → IsCompared state text before after end
-compared state text before after end same titles found empty written is = record {
-  written = written;
-  same = λ done. sym found ∙ empty.0 (same-at end same is done);
-  differs = λ differs none. let e : false ≡ true = sym (differs-at end same is differs) ∙ empty.1 (found ∙ none) in cc;
+none-of : {A : Type 0} (xs : List A) → (length xs == 0) ≡ true → xs ≡ []
+none-of [] is = refl
+none-of (x ∷ xs) is = absurd (false≢true is)
+
+some-of : {A : Type 0} (xs : List A) → (length xs == 0) ≡ false → xs ≢ []
+some-of [] is = λ _. let e : true ≡ false = is in cc
+some-of (x ∷ xs) is = λ none. let e : length (x ∷ xs) ≡ 0 = ap length none in omega (arith, e)
+
+pub compared : (state : State) (text told : List ℕ) (before after : Option (List ℕ)) (end : CommandEnd) (same : Bool) → text ≡ told → same ≡ (length (differing state) == 0)
+    → HasWritten end text before after → IsAt (end_of_comparison same) end → IsCompared state told before after end
+compared state text told before after end same is_told is_same written is = record {
+  written = subst (λ t. HasWritten end t before after) is_told written;
+  same = λ done. none-of (differing state) (sym is_same ∙ same-at end same is done);
+  differs = λ differs. some-of (differing state) (sym is_same ∙ differs-at end same is differs);
   not_full = not-full end same is;
   no_fault = no-fault end same is;
 }
 
 -- want of memory, before anything is written
-pub uncompared : (state : State) (text : List ℕ) (before : Option (List ℕ)) → HasWritten Memory text before before → IsCompared state text before before Memory
-uncompared state text before written = record {
-  written = written;
+pub uncompared : (state : State) (text : List ℕ) (before : Option (List ℕ)) → IsCompared state text before before Memory
+uncompared state text before = record {
+  written = Keeps-refl before;
   same = λ (e : Memory ≡ Done). absurd cc;
   differs = λ (e : Memory ≡ Differs). absurd cc;
   not_full = λ e. cc;

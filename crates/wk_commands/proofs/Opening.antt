@@ -1,0 +1,42 @@
+-- A wiki that was opened over a keeper, and what is left of it.
+use Rattle.std.proofs.Common.{◌≡◌, ◌≤◌, ℕ, Bool, true, Option, is_some, Result, Ok, Err, refl, sym, ap, ◌∙◌, subst, arith}
+use Rattle.wk_page_rules.specs.Verdict.{MostHeld}
+use Rattle.wk_table_rules.specs.Rows.{StoreTables}
+use Rattle.wk_core.specs.declared.outcomes.LoadCause.{LoadCause}
+use Rattle.wk_core.specs.Loads.{HasOpened}
+use Rattle.wk_core.specs.Seen.{WikiSeen}
+use Rattle.wk_core.specs.Steps.{GoesOn}
+use Rattle.wk_commands.specs.declared.ends.CommandEnd.{CommandEnd}
+
+module _ {K : Type 0} where
+  pub opened-as : (wiki : WikiSeen K) (most limits : MostHeld) → most ≡ limits → HasOpened wiki most → HasOpened wiki limits
+  opened-as wiki most limits is opening = subst (HasOpened wiki) is opening
+
+  -- by its own limits
+  pub opened-own : (wiki : WikiSeen K) (most : MostHeld) → HasOpened wiki most → HasOpened wiki wiki.start.limits
+  opened-own wiki most opening = opened-as wiki most wiki.start.limits (sym opening.limits) opening
+
+  module _ (told : K → Option StoreTables) (faults : K → ℕ) where
+    pub goes-on-as-it-is : (wiki : WikiSeen K) → GoesOn told faults wiki wiki
+    goes-on-as-it-is wiki = record { tells = refl; never_falls = omega arith; whole = λ _. refl }
+
+    module _ (is_whole : K → Bool) (keeper left : K) (first last : WikiSeen K) (left_is : left ≡ last.keeper) (goes : GoesOn told faults first last) where
+      pub left-tells : is_some (told first.keeper) ≡ is_some (told keeper) → is_some (told left) ≡ is_some (told keeper)
+      left-tells tells = ap (λ k. is_some (told k)) left_is ∙ (goes.tells ∙ tells)
+
+      pub left-never-falls : faults first.keeper ≡ faults keeper → faults keeper ≤ faults left
+      left-never-falls same =
+          let is : faults left ≡ faults last.keeper = ap faults left_is in
+          let never = goes.never_falls in
+          omega (arith, is, same, never)
+
+      pub left-whole : faults first.keeper ≡ faults keeper → first.start.whole ≡ is_whole keeper → is_whole keeper ≡ true → faults left ≡ faults keeper
+      left-whole same whole is = ap faults left_is ∙ (goes.whole (whole ∙ is) ∙ same)
+
+-- ---- an end or a cause
+
+pub ok-is : (a b : CommandEnd) → ◌≡◌ {A = Result CommandEnd LoadCause} (Ok a) (Ok b) → a ≡ b
+ok-is a b is = cc
+
+pub err-is-not : (why : LoadCause) (b : CommandEnd) → ◌≡◌ {A = Result CommandEnd LoadCause} (Err why) (Ok b) → ⊥
+err-is-not why b is = cc

@@ -1,0 +1,9 @@
+use Rattle.wk_tool_rules.specs.Checks.{gen_text}
+use Rattle.wk_commands.proofs.Comparing.{compared, uncompared}
+use Rattle.wk_commands.proofs.generates.compare.Goals as goal
+
+pub returns-in-Ok-clause-compared : goal.returns-in-Ok-clause-compared
+returns-in-Ok-clause-compared g c = ?
+
+pub returns-in-Err-clause-compared : goal.returns-in-Err-clause-compared
+returns-in-Err-clause-compared g c = uncompared c.args.wiki.now.state (gen_text c.args.wiki.now.state) (g.O.Sink.taken c.args.output.now)
