@@ -1,7 +1,7 @@
 -- How a command ends that has written its text.
-use Rattle.std.proofs.Common.{◌≡◌, ◌≢◌, ◌==◌, ℕ, Bool, true, false, List, [], ◌∷◌, length, Option, refl, sym, ap, ◌∙◌, subst, arith}
+use Rattle.std.proofs.Common.{◌≡◌, ◌≢◌, ◌==◌, ℕ, Bool, true, false, eqb, List, [], ◌∷◌, length, Option, refl, sym, ap, ◌∙◌, subst, arith}
 use Rattle.std.proofs.KnownBytes.{Keeps-refl}
-use Rattle.std.proofs.lemmas.Bool.{false≢true}
+use Rattle.std.proofs.lemmas.Bool.{false≢true, ne_eqb}
 use Rattle.wk_state_rules.specs.States.{State}
 use Rattle.wk_tool_rules.specs.Checks.{differing}
 use Rattle.wk_commands.specs.Checked.{IsCompared}
@@ -49,7 +49,9 @@ differs-at end true is differs =
 
 none-of : {A : Type 0} (xs : List A) → (length xs == 0) ≡ true → xs ≡ []
 none-of [] is = refl
-none-of (x ∷ xs) is = absurd (false≢true is)
+none-of (x ∷ xs) is =
+    let some : eqb (length (x ∷ xs)) 0 ≡ false = ne_eqb (length (x ∷ xs)) 0 (λ e. omega (arith, e)) in
+    absurd (false≢true (sym some ∙ is))
 
 some-of : {A : Type 0} (xs : List A) → (length xs == 0) ≡ false → xs ≢ []
 some-of [] is = λ _. let e : true ≡ false = is in cc

@@ -1,5 +1,5 @@
 //! The commands over the store of a keeper.
-ghost use Rattle.std.specs.Prelude.{◌≡◌, ◌≢◌, ◌≤◌, true, Ok, is_some};
+ghost use Rattle.std.specs.Prelude.{◌≡◌, ◌≢◌, ◌≤◌, true, Ok, Err, is_some};
 ghost use Rattle.wk_base.specs.Faults.{Rose};
 ghost use Rattle.wk_page_rules.specs.Verdict.{max_journal};
 ghost use Rattle.wk_revs.specs.Edit.{most_held};
@@ -78,6 +78,18 @@ pub fn limits_with_journal(journal: u64) -> Limits
     }
 }
 
+/// What is left where a store isn't opened for this refusal.
+fn unopened<K>(refusal: LoadRefusal<K>) -> Worked<K>
+    ensures keeper { result.keeper ≡ refusal.keeper }
+    ensures end { result.end ≡ Err refusal.cause }
+{
+    let LoadRefusal { keeper, cause } = refusal;
+    Worked {
+        keeper,
+        end: Err(cause),
+    }
+}
+
 /// Opens a wiki over the tables of a keeper, with a journal of at most so many events, and does what is asked of it. The
 /// keeper comes back: at a refusal of the load with the tables that it had, else with those of the state in which the work
 /// ended.
@@ -109,9 +121,6 @@ pub fn work_over<K: Keeper, O: Sink, C: Clock>(
                 end: Ok(end),
             }
         }
-        Err(LoadRefusal { keeper, cause }) => Worked {
-            keeper,
-            end: Err(cause),
-        },
+        Err(refusal) => unopened(refusal),
     }
 }

@@ -21,7 +21,7 @@ returns-in-Ok g c = record {
 pub returns-in-Err : goal.returns-in-Err
 returns-in-Err g c = record {
   shown = λ rest moments. record {
-    written = inr (c.unopened-in-Err.ensures.status, c.in-Err.ensures.err);
+    written = inr (c.unopened-in-Err.ensures.status, subst (AppendsPrefix (g.O.Sink.taken c.args.output.now) (g.O.Sink.taken c.write_all.new.output)) c.as_bytes.ensures.value c.in-Err.ensures.err);
     nothing_read = refl;
     no_moment = refl;
     no_point = c.unopened-in-Err.ensures.points;
