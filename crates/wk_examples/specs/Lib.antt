@@ -5,8 +5,6 @@ pub mod Spelled
 pub mod Stores
 pub mod Wikis
 pub mod Saves
-pub mod Answers
-pub mod Edits
 pub mod Listings
 pub mod Scripts
 pub mod Cached

@@ -1,3 +1,0 @@
-pub mod EditLine
-pub mod Replies
-pub mod Script
