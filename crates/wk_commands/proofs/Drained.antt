@@ -1,7 +1,5 @@
 -- What a drain does as a command.
 use Rattle.std.proofs.Common.{◌≡◌, ◌≢◌, ℕ, true, List, Option, inl, inr}
-use Rattle.std.specs.Prelude.{◌⊎◌}
-use Rattle.std.specs.Io.KnownBytes.{Keeps}
 use Rattle.wk_base.specs.Faults.{Rose}
 use Rattle.wk_table_rules.specs.Rows.{StoreTables}
 use Rattle.wk_tool_rules.specs.Checks.{jobs_text}
@@ -14,7 +12,7 @@ use Rattle.wk_tools.specs.Lived.{HasLived}
 use Rattle.wk_commands.specs.Drained.{IsDrained}
 use Rattle.wk_commands.specs.Written.{HasWritten}
 use Rattle.wk_commands.specs.declared.ends.CommandEnd.{CommandEnd}
-use Rattle.wk_commands.specs.declared.ends.CommandEnd.TheVariants.{Done, Differs, Full, StoreFault, WriteFault, Memory}
+use Rattle.wk_commands.specs.declared.ends.CommandEnd.TheVariants.{Done, Differs, Full, StoreFault, WriteFault}
 use Rattle.wk_commands.proofs.Comparing.{IsAt, differs-at, no-fault, not-full}
 use Rattle.wk_commands.proofs.Lives.{lived-on, sound-on}
 

@@ -3,7 +3,6 @@ use Rattle.std.specs.Prelude.{◌≡◌, ◌≢◌, ◌⊎◌, ℕ, List, [], Op
 use Rattle.std.specs.Io.KnownBytes.{Keeps}
 use Rattle.wk_base.specs.Faults.{Rose}
 use Rattle.wk_page_rules.specs.Verdict.{EditAsked}
-use Rattle.wk_table_rules.specs.Rows.{StoreTables}
 use Rattle.wk_tool_rules.specs.Checks.{differing, gen_text}
 use Rattle.wk_core.specs.Seen.{WikiSeen}
 use Rattle.wk_revs.specs.declared.verdict.SaveRefusal.{SaveRefusal}

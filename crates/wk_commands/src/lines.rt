@@ -40,7 +40,12 @@ pub fn check_text(alloc: Global, titles: &[Title], pages: usize) -> Result<Strin
 }
 
 /// What `gen` prints where so many pages exist, so many revisions were made, and so many pages differ.
-pub fn gen_text(alloc: Global, pages: usize, revisions: u64, differ: usize) -> Result<String, Memory>
+pub fn gen_text(
+    alloc: Global,
+    pages: usize,
+    revisions: u64,
+    differ: usize,
+) -> Result<String, Memory>
     ensures { IfOk result (λ text. string_bytes text ≡ gen_counts pages revisions differ) }
 {
     Ok(format!(in alloc; "pages {pages} revisions {revisions} jobs 0 differ {differ}\n")?)

@@ -1,4 +1,4 @@
-use Rattle.std.proofs.Common.{refl, sym, subst, arith}
+use Rattle.std.proofs.Common.{refl, sym, subst}
 use Rattle.wk_commands.specs.Worked.{IsWorked}
 use Rattle.wk_commands.specs.declared.works.Work.{Work}
 use Rattle.wk_commands.proofs.Lives.{same-on}
