@@ -5,7 +5,7 @@ use std::process::ExitCode;
 use std::rt::Env;
 use std::{env, io};
 use wk_base::{ReadSource, SystemClock, WriteSink};
-use wk_cli::{FileVault, Finish, wiki_main};
+use wk_cli::{FileVault, Finish, refusal_text, wiki_main};
 use wk_core::BadStore;
 use wk_keeper::MemKeeper;
 
@@ -18,18 +18,39 @@ fn words(rt: &(impl Env + AllocGlobal)) -> io::Result<Vec<String>> {
     Ok(words)
 }
 
-/// Tells a status that isn't 0, and the bad row, if any, on the standard error.
-fn tell(rt: &HostRuntime, finish: &Finish<MemKeeper>) -> io::Result<()> {
+/// What a status that isn't 0 means.
+fn meaning(status: u8) -> &'static str {
+    match status {
+        1 => "memory ran out",
+        2 => "the words aren't a legal command; wiki --help shows those that are",
+        3 => "a read of the standard input failed",
+        4 => "a write of the standard output failed",
+        5 => "the store couldn't be opened, or failed",
+        7 => "the store is bad: a row breaks a rule",
+        8 => "the link rows of a page aren't those of a new expansion",
+        9 => "2^40 bytes were read",
+        10 => "the journal or the wiki is full",
+        _ => "the program ended early",
+    }
+}
+
+/// Tells a status that isn't 0 on the standard error: what is wrong with the words, if anything; the status with the bad
+/// row, if any; and what the status means.
+fn tell(rt: &HostRuntime, words: &[String], finish: &Finish<MemKeeper>) -> io::Result<()> {
     let status = finish.status;
     if status == 0 {
         return Ok(());
     }
+    if let Ok(Some(text)) = refusal_text(rt.alloc(), words) {
+        eprint!(rt; "{text}")?;
+    }
     match finish.bad {
         Some(BadStore { rule, row }) => {
-            eprintln!(rt; "wiki: status {status} rule {rule} row {row}")
+            eprintln!(rt; "wiki: status {status} rule {rule} row {row}")?
         }
-        None => eprintln!(rt; "wiki: status {status}"),
+        None => eprintln!(rt; "wiki: status {status}")?,
     }
+    eprintln!(rt; "{}", meaning(status))
 }
 
 fn main(rt: HostRuntime) -> io::Result<ExitCode> {
@@ -46,6 +67,6 @@ fn main(rt: HostRuntime) -> io::Result<ExitCode> {
         &mut output,
         &mut clock,
     );
-    tell(&rt, &finish)?;
+    tell(&rt, &words, &finish)?;
     Ok(ExitCode::from(finish.status))
 }

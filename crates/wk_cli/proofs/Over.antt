@@ -1,10 +1,11 @@
 -- A script over the store that was opened.
 use Rattle.std.proofs.Common.{◌≡◌, ◌≤◌, ℕ, Bool, true, List, [], Option, Some, None, Result, IfSome, is_some, refl, sym, ◌∙◌, subst, arith}
 use Rattle.wk_base.specs.Faults.{Rose}
-use Rattle.wk_page_rules.specs.Verdict.{MostHeld, full_limits}
+use Rattle.wk_page_rules.specs.Verdict.{MostHeld}
 use Rattle.wk_table_rules.specs.GoodStore.{first_broken}
 use Rattle.wk_table_rules.specs.Rows.{StoreTables}
 use Rattle.wk_state_rules.specs.Lives.{opened}
+use Rattle.wk_commands.specs.Worked.{limits_with_journal}
 use Rattle.wk_core.specs.Limits.{AreWithinFull}
 use Rattle.wk_core.specs.Loads.{HasOpened, bad_store_of}
 use Rattle.wk_core.specs.Seen.{WikiSeen}
@@ -18,14 +19,17 @@ use Rattle.wk_cli.specs.Scripted.{IsOver, not_loaded, ran}
 use Rattle.wk_cli.specs.Statuses.{status_of_cause, status_of_end}
 use Rattle.wk_cli.specs.declared.ends.Finish.{Finish}
 
--- the full limits are within themselves
-pub within-full : (most : MostHeld) → most ≡ full_limits → AreWithinFull most
-within-full most is = subst AreWithinFull (sym is) (record { pages = omega arith; revisions = omega arith; text = omega arith; journal = omega arith })
+-- limits that are those of others within the full ones
+pub within-as : (most limits : MostHeld) → most ≡ limits → AreWithinFull limits → AreWithinFull most
+within-as most limits is within = subst AreWithinFull (sym is) within
 
-module _ {K : Type 0} (told : K → Option StoreTables) (faults : K → ℕ) (is_whole : K → Bool) (keeper : K) (before after : Outside) (finish : Finish K) where
+pub opened-as : {K : Type 0} (wiki : WikiSeen K) (most limits : MostHeld) → most ≡ limits → HasOpened wiki most → HasOpened wiki limits
+opened-as wiki most limits is opening = subst (HasOpened wiki) is opening
+
+module _ {K : Type 0} (told : K → Option StoreTables) (faults : K → ℕ) (is_whole : K → Bool) (journal : ℕ) (keeper : K) (before after : Outside) (finish : Finish K) where
   -- the wiki was opened, and the script ran
   pub run-over : (wiki : WikiSeen K) (how : ScriptEnd) (points : List ℕ) (handed : Result (WikiSeen K) K)
-      → HasOpened wiki full_limits
+      → HasOpened wiki (limits_with_journal journal)
       → IfSome (told keeper) (λ tables. (first_broken tables ≡ None) × (wiki.state ≡ opened tables))
       → is_some (told wiki.keeper) ≡ is_some (told keeper)
       → is_whole wiki.keeper ≡ wiki.start.whole → is_whole wiki.keeper ≡ is_whole keeper
@@ -33,7 +37,7 @@ module _ {K : Type 0} (told : K → Option StoreTables) (faults : K → ℕ) (is
       → IsRunTo told faults wiki before after how points handed → IsHandedAt how handed
       → (is_some (told wiki.keeper) ≡ true → bad_of how ≡ None)
       → finish.status ≡ status_of_end how → finish.points.items ≡ points → finish.bad ≡ bad_of how → finish.store ≡ Some (keeper_left handed)
-      → IsOver told faults is_whole keeper before after finish
+      → IsOver told faults is_whole journal keeper before after finish
   run-over wiki how points handed opened_is state tells as_start whole no_fault run handed_at not_bad status_is points_are bad_is store_is = ran (record {
     wiki = wiki;
     opened_is = opened_is;
@@ -52,14 +56,14 @@ module _ {K : Type 0} (told : K → Option StoreTables) (faults : K → ℕ) (is
   })
 
 -- it wasn't opened
-module _ {K : Type 0} (told : K → Option StoreTables) (faults : K → ℕ) (is_whole : K → Bool) (keeper : K) (before : Outside) (finish : Finish K) where
+module _ {K : Type 0} (told : K → Option StoreTables) (faults : K → ℕ) (is_whole : K → Bool) (journal : ℕ) (keeper : K) (before : Outside) (finish : Finish K) where
   pub unloaded-over : (why : LoadCause) (left : K)
       → IfSome (bad_store_of why) (λ row. IfSome (told keeper) (λ tables. first_broken tables ≡ Some row))
       → told left ≡ told keeper
       → (why ≡ cause.StoreFault → Rose (faults keeper) (faults left)) → faults keeper ≤ faults left
       → (is_whole keeper ≡ true → faults left ≡ faults keeper)
       → finish.status ≡ status_of_cause why → finish.points.items ≡ [] → finish.bad ≡ bad_store_of why → finish.store ≡ Some left
-      → IsOver told faults is_whole keeper before before finish
+      → IsOver told faults is_whole journal keeper before before finish
   unloaded-over why left broken tables fault never_falls whole status_is points_are bad_is store_is = not_loaded (record {
     why = why;
     left = left;

@@ -1,11 +1,13 @@
 -- The statuses of ends and causes.
-use Rattle.std.proofs.Common.{◌≡◌, ◌==◌, ℕ, true, refl, sym, subst, arith}
+use Rattle.std.proofs.Common.{◌≡◌, ◌==◌, ℕ, true, Result, Ok, Err, refl, sym, ap, subst, arith}
 use Rattle.std.specs.List.{list_any}
+use Rattle.wk_commands.specs.declared.ends.CommandEnd.{CommandEnd}
+use Rattle.wk_commands.specs.declared.ends.CommandEnd.TheVariants as command
 use Rattle.wk_core.specs.declared.outcomes.LoadCause.{LoadCause}
 use Rattle.wk_core.specs.declared.outcomes.LoadCause.TheVariants as cause
 use Rattle.wk_script.specs.declared.script.ScriptEnd.{ScriptEnd}
 use Rattle.wk_script.specs.declared.script.ScriptEnd.TheVariants as end
-use Rattle.wk_cli.specs.Statuses.{status_of_cause, status_of_end, statuses}
+use Rattle.wk_cli.specs.Statuses.{status_of_cause, status_of_command, status_of_end, status_of_work, statuses}
 
 abbrev pub IsKnown : ℕ → Type 0
 IsKnown status = list_any (λ s. status == s) statuses ≡ true
@@ -82,3 +84,56 @@ pub no-cause-four : (why : LoadCause) → status_of_cause why ≡ 4 → ⊥
 no-cause-four cause.Memory is = omega (arith, is)
 no-cause-four cause.StoreFault is = omega (arith, is)
 no-cause-four (cause.BadStore bad) is = omega (arith, is)
+
+-- ---- commands over a store
+
+known-command : (how : CommandEnd) → IsKnown (status_of_command how)
+known-command command.Done = refl
+known-command command.Memory = refl
+known-command command.WriteFault = refl
+known-command command.StoreFault = refl
+known-command command.Differs = refl
+known-command command.Full = refl
+
+pub known-work : (status : ℕ) (end : Result CommandEnd LoadCause) → status ≡ status_of_work end → IsKnown status
+known-work status (Ok how) is = subst IsKnown (sym is) (known-command how)
+known-work status (Err why) is = known-cause status why is
+
+no-command-two : (how : CommandEnd) → status_of_command how ≡ 2 → ⊥
+no-command-two command.Done is = omega (arith, is)
+no-command-two command.Memory is = omega (arith, is)
+no-command-two command.WriteFault is = omega (arith, is)
+no-command-two command.StoreFault is = omega (arith, is)
+no-command-two command.Differs is = omega (arith, is)
+no-command-two command.Full is = omega (arith, is)
+
+pub no-work-two : (end : Result CommandEnd LoadCause) → status_of_work end ≡ 2 → ⊥
+no-work-two (Ok how) is = no-command-two how is
+no-work-two (Err why) is = no-cause-two why is
+
+no-command-three : (how : CommandEnd) → status_of_command how ≡ 3 → ⊥
+no-command-three command.Done is = omega (arith, is)
+no-command-three command.Memory is = omega (arith, is)
+no-command-three command.WriteFault is = omega (arith, is)
+no-command-three command.StoreFault is = omega (arith, is)
+no-command-three command.Differs is = omega (arith, is)
+no-command-three command.Full is = omega (arith, is)
+
+pub no-work-three : (end : Result CommandEnd LoadCause) → status_of_work end ≡ 3 → ⊥
+no-work-three (Ok how) is = no-command-three how is
+no-work-three (Err why) is = no-cause-three why is
+
+command-is-write-fault : (how : CommandEnd) → status_of_command how ≡ 4 → how ≡ command.WriteFault
+command-is-write-fault command.Done is = absurd (omega (arith, is))
+command-is-write-fault command.Memory is = absurd (omega (arith, is))
+command-is-write-fault command.WriteFault is = refl
+command-is-write-fault command.StoreFault is = absurd (omega (arith, is))
+command-is-write-fault command.Differs is = absurd (omega (arith, is))
+command-is-write-fault command.Full is = absurd (omega (arith, is))
+
+pub work-is-write-fault : (end : Result CommandEnd LoadCause) → status_of_work end ≡ 4 → end ≡ Ok command.WriteFault
+work-is-write-fault (Ok how) is = ap (λ (h : CommandEnd). Ok h) (command-is-write-fault how is)
+work-is-write-fault (Err why) is = absurd (no-cause-four why is)
+
+pub work-without-write-fault : (end : Result CommandEnd LoadCause) → status_of_work end ≡ 0 → end ≡ Ok command.WriteFault → ⊥
+work-without-write-fault end done is = let four : status_of_work end ≡ 4 = ap status_of_work is in omega (arith, done, four)

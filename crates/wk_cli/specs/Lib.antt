@@ -1,5 +1,5 @@
-pub mod Command
 pub mod Finished
 pub mod Scripted
+pub mod Works
 pub mod Statuses
 pub mod Vault

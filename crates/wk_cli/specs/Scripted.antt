@@ -1,7 +1,6 @@
 -- How the command `script` ended (own).
 use Rattle.std.specs.Prelude.{◌≡◌, ◌≤◌, ℕ, Bool, true, [], Option, Some, None, Result, IfSome, is_some}
 use Rattle.wk_base.specs.Faults.{Rose}
-use Rattle.wk_page_rules.specs.Verdict.{full_limits}
 use Rattle.wk_table_rules.specs.GoodStore.{first_broken}
 use Rattle.wk_table_rules.specs.Rows.{StoreTables}
 use Rattle.wk_state_rules.specs.Lives.{opened}
@@ -9,6 +8,7 @@ use Rattle.wk_core.specs.Loads.{HasOpened, bad_store_of}
 use Rattle.wk_core.specs.Seen.{WikiSeen}
 use Rattle.wk_core.specs.declared.outcomes.LoadCause.{LoadCause}
 use Rattle.wk_core.specs.declared.outcomes.LoadCause.TheVariants as cause
+use Rattle.wk_commands.specs.Worked.{limits_with_journal}
 use Rattle.wk_script_runs.specs.Ends.{keeper_left}
 use Rattle.wk_script_runs.specs.Outside.{Outside}
 use Rattle.wk_script.specs.Report.{IsHandedAt, IsRunTo, bad_of}
@@ -43,10 +43,10 @@ pub record IsNotLoaded {K : Type 0} (told : K → Option StoreTables) (faults : 
   pub whole : is_whole keeper ≡ true → faults left ≡ faults keeper
 
 -- The wiki of a keeper was opened, by the tables that the keeper tells, and the script ran over it.
-pub record IsRun {K : Type 0} (told : K → Option StoreTables) (faults : K → ℕ) (is_whole : K → Bool) (keeper : K) (before after : Outside)
+pub record IsRun {K : Type 0} (told : K → Option StoreTables) (faults : K → ℕ) (is_whole : K → Bool) (journal : ℕ) (keeper : K) (before after : Outside)
     (finish : Finish K) : Type 0 where
   pub wiki : WikiSeen K
-  pub opened_is : HasOpened wiki full_limits
+  pub opened_is : HasOpened wiki (limits_with_journal journal)
   pub state : IfSome (told keeper) (λ tables. (first_broken tables ≡ None) × (wiki.state ≡ opened tables))
   pub tells : is_some (told wiki.keeper) ≡ is_some (told keeper)
   pub whole : wiki.start.whole ≡ is_whole keeper
@@ -60,10 +60,10 @@ pub record IsRun {K : Type 0} (told : K → Option StoreTables) (faults : K → 
   pub bad_is : finish.bad ≡ bad_of how
   pub store_is : finish.store ≡ Some (keeper_left handed)
 
-pub data IsOver {K : Type 0} (told : K → Option StoreTables) (faults : K → ℕ) (is_whole : K → Bool) (keeper : K) (before after : Outside)
+pub data IsOver {K : Type 0} (told : K → Option StoreTables) (faults : K → ℕ) (is_whole : K → Bool) (journal : ℕ) (keeper : K) (before after : Outside)
     (finish : Finish K) : Type 0 where
-  not_loaded : IsNotLoaded told faults is_whole keeper before after finish → IsOver told faults is_whole keeper before after finish
-  ran : IsRun told faults is_whole keeper before after finish → IsOver told faults is_whole keeper before after finish
+  not_loaded : IsNotLoaded told faults is_whole keeper before after finish → IsOver told faults is_whole journal keeper before after finish
+  ran : IsRun told faults is_whole journal keeper before after finish → IsOver told faults is_whole journal keeper before after finish
 
 -- What a vault has under a name: the tables that it tells, and whether the store is whole.
 pub record VaultStore : Type 0 where
@@ -78,9 +78,9 @@ pub record IsOpened {K : Type 0} (told : K → Option StoreTables) (faults : K �
 
 -- The vault opened no store, for want of memory, or at status 5 since its count of faults rose; or it opened one, over which
 -- the script ran.
-pub data IsScripted {K : Type 0} (told : K → Option StoreTables) (faults : K → ℕ) (is_whole : K → Bool) (kept : VaultStore) (opens later : ℕ)
+pub data IsScripted {K : Type 0} (told : K → Option StoreTables) (faults : K → ℕ) (is_whole : K → Bool) (journal : ℕ) (kept : VaultStore) (opens later : ℕ)
     (before after : Outside) (finish : Finish K) : Type 0 where
-  no_memory : finish.status ≡ 1 → HasNoStore before after finish → IsScripted told faults is_whole kept opens later before after finish
-  not_opened : finish.status ≡ 5 → Rose opens later → HasNoStore before after finish → IsScripted told faults is_whole kept opens later before after finish
-  over_a_store : (keeper : K) → IsOpened told faults is_whole kept keeper → later ≡ opens → IsOver told faults is_whole keeper before after finish →
-      IsScripted told faults is_whole kept opens later before after finish
+  no_memory : finish.status ≡ 1 → HasNoStore before after finish → IsScripted told faults is_whole journal kept opens later before after finish
+  not_opened : finish.status ≡ 5 → Rose opens later → HasNoStore before after finish → IsScripted told faults is_whole journal kept opens later before after finish
+  over_a_store : (keeper : K) → IsOpened told faults is_whole kept keeper → later ≡ opens → IsOver told faults is_whole journal keeper before after finish →
+      IsScripted told faults is_whole journal kept opens later before after finish

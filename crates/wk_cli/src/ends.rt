@@ -37,7 +37,7 @@ pub(crate) fn unopened<S>(alloc: Global, status: u8) -> Finish<S>
 }
 
 /// The status with which the program ends where a store isn't opened for this cause.
-fn status_of_cause(cause: LoadCause) -> u8
+pub(crate) fn status_of_cause(cause: LoadCause) -> u8
     ensures { result ≡ status_of_cause cause }
 {
     match cause {
@@ -48,7 +48,7 @@ fn status_of_cause(cause: LoadCause) -> u8
 }
 
 /// The bad row, where that is the cause.
-fn bad_of_cause(cause: LoadCause) -> Option<BadStore>
+pub(crate) fn bad_of_cause(cause: LoadCause) -> Option<BadStore>
     ensures { result ≡ bad_store_of cause }
 {
     match cause {

@@ -1,6 +1,7 @@
 //! The command `script`.
-ghost use Rattle.std.specs.Prelude.{◌≡◌, ◌≤◌, [], Some};
+ghost use Rattle.std.specs.Prelude.{◌≡◌, ◌≤◌, Some};
 ghost use Rattle.wk_base.specs.Faults.{Rose};
+ghost use Rattle.wk_page_rules.specs.Verdict.{max_journal};
 ghost use Rattle.wk_script_runs.specs.Ends.{keeper_left};
 ghost use Rattle.wk_script.specs.Report.{bad_of};
 ghost use Rattle.wk_cli.specs.Scripted.{IsOver, IsScripted};
@@ -9,7 +10,8 @@ ghost use Rattle.wk_cli.specs.Statuses.{status_of_end};
 use crate::ends::{Finish, keeper_of, unloaded, unopened};
 use std::alloc::Global;
 use wk_base::{Clock, Sink, Source};
-use wk_core::{BadStore, Limits, Wiki};
+use wk_commands::limits_with_journal;
+use wk_core::{BadStore, Wiki};
 use wk_keeper::{Keeper, OpenRefusal, Vault};
 use wk_script::{ScriptEnd, ScriptReport, run_script};
 
@@ -58,11 +60,13 @@ fn reported<K: Keeper>(report: ScriptReport<K>) -> Finish<K>
 fn script_over<K: Keeper, I: Source, O: Sink, C: Clock>(
     alloc: Global,
     keeper: K,
+    journal: u64,
     input: &mut I,
     output: &mut O,
     clock: &mut C,
 ) -> Finish<K>
-    ensures over { IsOver K.told K.faults K.is_whole keeper
+    requires journal { journal ≤ max_journal }
+    ensures over { IsOver K.told K.faults K.is_whole journal keeper
         (record { rest = I.rest input.old; moments = C.left clock.old; taken = O.taken output.old })
         (record { rest = I.rest input.new; moments = C.left clock.new; taken = O.taken output.new }) result }
     ensures reads_never_fall { I.faults input.old ≤ I.faults input.new }
@@ -72,7 +76,7 @@ fn script_over<K: Keeper, I: Source, O: Sink, C: Clock>(
     ensures no_write_fault { result.status ≡ 0 → O.faults output.new ≡ O.faults output.old }
     ensures write_fault { result.status ≡ 4 → Rose (O.faults output.old) (O.faults output.new) }
 {
-    match Wiki::load(alloc, keeper, Limits::FULL) {
+    match Wiki::load(alloc, keeper, limits_with_journal(journal)) {
         Ok(wiki) => {
             wiki.facts();
             reported(run_script(wiki, input, output, clock))
@@ -81,16 +85,20 @@ fn script_over<K: Keeper, I: Source, O: Sink, C: Clock>(
     }
 }
 
-/// Opens the store of the empty name and runs the lines of the input over its wiki ([`run_script`]).
+/// Opens the store of a name and runs the lines of the input over its wiki ([`run_script`]), whose journal takes at most so
+/// many events.
 pub(crate) fn script<V: Vault, I: Source, O: Sink, C: Clock>(
     alloc: Global,
     vault: &mut V,
+    name: &str,
+    journal: u64,
     input: &mut I,
     output: &mut O,
     clock: &mut C,
 ) -> Finish<V::Store>
-    ensures scripted { IsScripted V.Store.told V.Store.faults V.Store.is_whole
-        (record { tables = V.told vault.old []; whole = V.opens_whole vault.old [] }) (V.faults vault.old) (V.faults vault.new)
+    requires journal { journal ≤ max_journal }
+    ensures scripted { IsScripted V.Store.told V.Store.faults V.Store.is_whole journal
+        (record { tables = V.told vault.old name.now; whole = V.opens_whole vault.old name.now }) (V.faults vault.old) (V.faults vault.new)
         (record { rest = I.rest input.old; moments = C.left clock.old; taken = O.taken output.old })
         (record { rest = I.rest input.new; moments = C.left clock.new; taken = O.taken output.new }) result }
     ensures reads_never_fall { I.faults input.old ≤ I.faults input.new }
@@ -101,8 +109,8 @@ pub(crate) fn script<V: Vault, I: Source, O: Sink, C: Clock>(
     ensures write_fault { result.status ≡ 4 → Rose (O.faults output.old) (O.faults output.new) }
     ensures opens_never_fall { V.faults vault.old ≤ V.faults vault.new }
 {
-    match vault.open("") {
-        Ok(store) => script_over(alloc, store, input, output, clock),
+    match vault.open(name) {
+        Ok(store) => script_over(alloc, store, journal, input, output, clock),
         Err(OpenRefusal::Failed) => unopened(alloc, 5),
         Err(OpenRefusal::Memory) => unopened(alloc, 1),
     }

@@ -1,42 +1,79 @@
 //! The top call of the program.
-ghost use Rattle.std.specs.Prelude.{◌≡◌, ◌↔◌, ◌≤◌, ◌==◌, [], true, false};
+ghost use Rattle.std.specs.Prelude.{◌≡◌, ◌≤◌, ◌⊎◌, ◌==◌, true};
 ghost use Rattle.std.specs.List.{list_any};
 ghost use Rattle.wk_base.specs.Faults.{Rose};
-ghost use Rattle.wk_cli.specs.Command.{is_script_command};
-ghost use Rattle.wk_cli.specs.Finished.{IsFinished};
+ghost use Rattle.wk_words.specs.Answers.{IsInRange, texts, wanted_of};
+ghost use Rattle.wk_words.specs.Verdicts.{is_refused, verdict};
+ghost use Rattle.wk_cli.specs.Finished.{IsCarriedOut, IsFinished, store_named};
 ghost use Rattle.wk_cli.specs.Statuses.{statuses};
 
 use crate::ends::{Finish, unopened};
+use crate::helps::show;
 use crate::scripts::script;
+use crate::works::work;
 use std::alloc::Global;
 use wk_base::{Clock, Sink, Source};
+use wk_commands::Work;
 use wk_keeper::Vault;
+use wk_words::{Command, CommandLine, Refusal, read};
 
-/// Whether the words, of which the first is the program's name, are the command `script` alone.
-fn is_script(words: &[String]) -> bool
-    ensures { result ≡ is_script_command words.now }
+/// Does what a legal command line asks for, over the store of its name.
+fn carry_out<V: Vault, I: Source, O: Sink, C: Clock>(
+    alloc: Global,
+    line: &CommandLine<'_>,
+    vault: &mut V,
+    input: &mut I,
+    output: &mut O,
+    clock: &mut C,
+) -> Finish<V::Store>
+    requires within { IsInRange line.now }
+    ensures carried_out { IsCarriedOut V.Store.told V.Store.faults V.Store.is_whole (wanted_of line.now)
+        (store_named (record { tables = V.told vault.old; whole = V.opens_whole vault.old }) (wanted_of line.now).store) (V.faults vault.old) (V.faults vault.new)
+        (record { rest = I.rest input.old; moments = C.left clock.old; taken = O.taken output.old })
+        (record { rest = I.rest input.new; moments = C.left clock.new; taken = O.taken output.new }) result }
+    ensures reads_never_fall { I.faults input.old ≤ I.faults input.new }
+    ensures no_read_fault { result.status ≡ 0 → I.faults input.new ≡ I.faults input.old }
+    ensures read_fault { result.status ≡ 3 → Rose (I.faults input.old) (I.faults input.new) }
+    ensures writes_never_fall { O.faults output.old ≤ O.faults output.new }
+    ensures no_write_fault { result.status ≡ 0 → O.faults output.new ≡ O.faults output.old }
+    ensures write_fault { result.status ≡ 4 → Rose (O.faults output.old) (O.faults output.new) }
+    ensures opens_never_fall { V.faults vault.old ≤ V.faults vault.new }
 {
-    match words {
-        [_, command] => command.as_str() == "script",
-        _ => false,
+    let (name, limit) = (line.store, line.journal_limit);
+    match line.command {
+        Command::Script => script(alloc, vault, name, limit, input, output, clock),
+        Command::Jobs => work(alloc, vault, name, limit, Work::Jobs, output, clock),
+        Command::Check => work(alloc, vault, name, limit, Work::Check, output, clock),
+        Command::Generate => {
+            let pages = Work::Generate {
+                pages: line.pages,
+                number: line.number,
+            };
+            work(alloc, vault, name, limit, pages, output, clock)
+        }
     }
 }
 
-/// Runs the program on its words, a vault, an input, an output and a clock. The only command yet is `script`, which opens
-/// the store of the empty name and runs the lines of the input over its wiki.
+/// Runs the program on its words, a vault, an input, an output and a clock. Help and the version are written to the output.
+/// `script` runs the lines of the input over the wiki of the store that is named ([`run_script`](wk_script::run_script)),
+/// and `jobs`, `check` and `gen` do their work over it ([`work_over`](wk_commands::work_over)), each with a journal of at most
+/// as many events as the line says.
 ///
 /// The status is
-/// - 0: all lines of the input were answered, to its end;
+/// - 0: all was done: all lines of the input were answered, to its end, or no job is left and no page differs, where pages
+///   were compared;
 /// - 1: memory ran out;
-/// - 2: the words aren't a legal command, and nothing was touched;
+/// - 2: the words aren't a legal command line ([`read`]), and nothing was touched;
 /// - 3: a read of the input failed;
 /// - 4: a write of the output failed;
-/// - 5: the store couldn't be opened, or failed when it was loaded;
+/// - 5: the store couldn't be opened, or failed when it was loaded, or in `jobs` and `gen` when it was changed;
 /// - 7: the tables that were loaded break a rule of a good store;
-/// - 9: 2^40 bytes were read.
+/// - 8: `check` or `gen` found a page that differs;
+/// - 9: 2^40 bytes were read;
+/// - 10: a save of `gen` met a full journal or a limit of the wiki, or a drain met a full journal in a life without events.
 ///
-/// At every other status than 0 what was written is a prefix of the replies to the whole lines that were read; at 3 and 9 it
-/// is all of them.
+/// At 0 and 8 all is written, at every other status a prefix of it: in `script` of the replies to the whole lines that were
+/// read, at 3 and 9 all of them.
 pub fn wiki_main<V: Vault, I: Source, O: Sink, C: Clock>(
     alloc: Global,
     words: &[String],
@@ -46,11 +83,13 @@ pub fn wiki_main<V: Vault, I: Source, O: Sink, C: Clock>(
     clock: &mut C,
 ) -> Finish<V::Store>
     ensures known { list_any (λ status. result.status == status) statuses ≡ true }
-    ensures words { (result.status ≡ 2) ↔ (is_script_command words.now ≡ false) }
+    // The words are refused at status 2 alone, and then for what they are; want of memory may come before they are read.
+    ensures refused { result.status ≡ 2 → is_refused (verdict (texts words.now)) ≡ true }
+    ensures only_so { is_refused (verdict (texts words.now)) ≡ true → (result.status ≡ 2) ⊎ (result.status ≡ 1) }
     // What was opened and done, by the end: what is written is what the rules say of what is read, of the store and of the
     // moments, and the store that is handed back tells the tables of the last state.
-    ensures finished { IsFinished V.Store.told V.Store.faults V.Store.is_whole (is_script_command words.now)
-        (record { tables = V.told vault.old []; whole = V.opens_whole vault.old [] }) (V.faults vault.old) (V.faults vault.new)
+    ensures finished { IsFinished V.Store.told V.Store.faults V.Store.is_whole (verdict (texts words.now))
+        (record { tables = V.told vault.old; whole = V.opens_whole vault.old }) (V.faults vault.old) (V.faults vault.new)
         (record { rest = I.rest input.old; moments = C.left clock.old; taken = O.taken output.old })
         (record { rest = I.rest input.new; moments = C.left clock.new; taken = O.taken output.new }) result }
 
@@ -63,9 +102,11 @@ pub fn wiki_main<V: Vault, I: Source, O: Sink, C: Clock>(
     ensures opens_never_fall { V.faults vault.old ≤ V.faults vault.new }
     ensures no_open_fault { result.status ≡ 0 → V.faults vault.new ≡ V.faults vault.old }
 {
-    if is_script(words) {
-        script(alloc, vault, input, output, clock)
-    } else {
-        unopened(alloc, 2)
+    match read(alloc, words) {
+        Ok(line) => carry_out(alloc, &line, vault, input, output, clock),
+        Err(Refusal::Words(_)) => unopened(alloc, 2),
+        Err(Refusal::Help(text)) => show(alloc, &text, output),
+        Err(Refusal::Version(text)) => show(alloc, &text, output),
+        Err(Refusal::Memory) => unopened(alloc, 1),
     }
 }

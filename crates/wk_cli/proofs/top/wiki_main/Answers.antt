@@ -1,32 +1,35 @@
-use Rattle.std.proofs.Common.{refl, sym, ◌∙◌, subst, arith}
-use Rattle.std.proofs.lemmas.Bool.{false≢true}
-use Rattle.wk_cli.specs.Finished.{no_command, scripted}
-use Rattle.wk_cli.proofs.Ended.{script-known, script-not-two, script-opens}
+use Rattle.std.proofs.Common.{◌≡◌, true, refl, sym, subst, inl, inr, arith}
+use Rattle.wk_words.specs.Verdicts.{is_refused, runs, shows_help, shows_version, verdict}
+use Rattle.wk_words.specs.Answers.{Tells, texts, wanted_of}
+use Rattle.wk_cli.specs.Finished.{carried_out, no_memory, not_taken, shown}
+use Rattle.wk_cli.proofs.Ended.{carried-known, carried-not-two, carried-opens, not-refused, shown-known, shown-not-three, shown-not-two}
 use Rattle.wk_cli.proofs.Statuses.{IsKnown}
 use Rattle.wk_cli.proofs.top.wiki_main.Goals as goal
 
--- the command `script`
-pub returns-then-is_script : goal.returns-then-is_script
-returns-then-is_script g c = record {
-  known = script-known c.script.ensures.scripted;
-  words = (λ is. absurd (script-not-two c.script.ensures.scripted is), λ is. absurd (false≢true (sym is ∙ sym c.is_script.ensures ∙ c.if-is_script.true)));
-  finished = scripted (sym c.is_script.ensures ∙ c.if-is_script.true) c.script.ensures.scripted;
-  reads_never_fall = c.script.ensures.reads_never_fall;
-  no_read_fault = c.script.ensures.no_read_fault;
-  read_fault = c.script.ensures.read_fault;
-  writes_never_fall = c.script.ensures.writes_never_fall;
-  no_write_fault = c.script.ensures.no_write_fault;
-  write_fault = c.script.ensures.write_fault;
-  opens_never_fall = c.script.ensures.opens_never_fall;
-  no_open_fault = script-opens c.script.ensures.scripted;
+-- a command
+pub returns-in-Ok : goal.returns-in-Ok
+returns-in-Ok g c = record {
+  known = carried-known c.carry_out.ensures.carried_out;
+  refused = λ is. absurd (carried-not-two c.carry_out.ensures.carried_out is);
+  only_so = λ is. absurd (not-refused _ (runs (wanted_of c.in-Ok.line)) c.in-Ok.ensures.asked refl is);
+  finished = carried_out (wanted_of c.in-Ok.line) c.in-Ok.ensures.asked c.carry_out.ensures.carried_out;
+  reads_never_fall = c.carry_out.ensures.reads_never_fall;
+  no_read_fault = c.carry_out.ensures.no_read_fault;
+  read_fault = c.carry_out.ensures.read_fault;
+  writes_never_fall = c.carry_out.ensures.writes_never_fall;
+  no_write_fault = c.carry_out.ensures.no_write_fault;
+  write_fault = c.carry_out.ensures.write_fault;
+  opens_never_fall = c.carry_out.ensures.opens_never_fall;
+  no_open_fault = carried-opens c.carry_out.ensures.carried_out;
 }
 
--- other words
-pub returns-else-is_script : goal.returns-else-is_script
-returns-else-is_script g c = record {
+-- words that are refused
+pub returns-in-Err-Words : goal.returns-in-Err-Words
+returns-in-Err-Words g c = record {
   known = subst IsKnown (sym c.unopened.ensures.status) refl;
-  words = (λ is. sym c.is_script.ensures ∙ c.if-is_script.false, λ is. c.unopened.ensures.status);
-  finished = no_command (sym c.is_script.ensures ∙ c.if-is_script.false) c.unopened.ensures.status refl
+  refused = λ _. subst (λ v. is_refused v ≡ true) (sym (subst (Tells (verdict (texts c.args.words.now))) c.in-Err-Words.field-0-is c.in-Err-Words.ensures.refused)) refl;
+  only_so = λ _. inl c.unopened.ensures.status;
+  finished = not_taken (subst (Tells (verdict (texts c.args.words.now))) c.in-Err-Words.field-0-is c.in-Err-Words.ensures.refused) c.unopened.ensures.status refl
       (record { untouched = record { same = refl; nothing = c.unopened.ensures.points }; not_bad = c.unopened.ensures.bad; no_store = c.unopened.ensures.store });
   reads_never_fall = omega arith;
   no_read_fault = λ is. refl;
@@ -34,6 +37,58 @@ returns-else-is_script g c = record {
   writes_never_fall = omega arith;
   no_write_fault = λ is. refl;
   write_fault = λ is. absurd (omega (arith, c.unopened.ensures.status, is));
+  opens_never_fall = omega arith;
+  no_open_fault = λ is. refl;
+}
+
+-- help
+pub returns-in-Err-Help : goal.returns-in-Err-Help
+returns-in-Err-Help g c = record {
+  known = shown-known (c.show.ensures.shown (g.I.Source.rest c.args.input.now) (g.C.Clock.left c.args.clock.now));
+  refused = λ is. absurd (shown-not-two (c.show.ensures.shown (g.I.Source.rest c.args.input.now) (g.C.Clock.left c.args.clock.now)) is);
+  only_so = λ is. absurd (not-refused _ shows_help (subst (Tells (verdict (texts c.args.words.now))) c.in-Err-Help.field-0-is c.in-Err-Help.ensures.refused) refl is);
+  finished = shown _ (inl (subst (Tells (verdict (texts c.args.words.now))) c.in-Err-Help.field-0-is c.in-Err-Help.ensures.refused)) refl (c.show.ensures.shown (g.I.Source.rest c.args.input.now) (g.C.Clock.left c.args.clock.now));
+  reads_never_fall = omega arith;
+  no_read_fault = λ is. refl;
+  read_fault = λ is. absurd (shown-not-three (c.show.ensures.shown (g.I.Source.rest c.args.input.now) (g.C.Clock.left c.args.clock.now)) is);
+  writes_never_fall = c.show.ensures.writes_never_fall;
+  no_write_fault = c.show.ensures.no_write_fault;
+  write_fault = c.show.ensures.write_fault;
+  opens_never_fall = omega arith;
+  no_open_fault = λ is. refl;
+}
+
+-- the version
+pub returns-in-Err-Version : goal.returns-in-Err-Version
+returns-in-Err-Version g c = record {
+  known = shown-known (c.show-in-Err-Version.ensures.shown (g.I.Source.rest c.args.input.now) (g.C.Clock.left c.args.clock.now));
+  refused = λ is. absurd (shown-not-two (c.show-in-Err-Version.ensures.shown (g.I.Source.rest c.args.input.now) (g.C.Clock.left c.args.clock.now)) is);
+  only_so = λ is. absurd (not-refused _ shows_version (subst (Tells (verdict (texts c.args.words.now))) c.in-Err-Version.field-0-is c.in-Err-Version.ensures.refused) refl is);
+  finished = shown _ (inr (subst (Tells (verdict (texts c.args.words.now))) c.in-Err-Version.field-0-is c.in-Err-Version.ensures.refused)) refl (c.show-in-Err-Version.ensures.shown (g.I.Source.rest c.args.input.now) (g.C.Clock.left c.args.clock.now));
+  reads_never_fall = omega arith;
+  no_read_fault = λ is. refl;
+  read_fault = λ is. absurd (shown-not-three (c.show-in-Err-Version.ensures.shown (g.I.Source.rest c.args.input.now) (g.C.Clock.left c.args.clock.now)) is);
+  writes_never_fall = c.show-in-Err-Version.ensures.writes_never_fall;
+  no_write_fault = c.show-in-Err-Version.ensures.no_write_fault;
+  write_fault = c.show-in-Err-Version.ensures.write_fault;
+  opens_never_fall = omega arith;
+  no_open_fault = λ is. refl;
+}
+
+-- memory ran out
+pub returns : goal.returns
+returns g c = record {
+  known = subst IsKnown (sym c.unopened-in-Err-Memory.ensures.status) refl;
+  refused = λ is. absurd (omega (arith, c.unopened-in-Err-Memory.ensures.status, is));
+  only_so = λ _. inr c.unopened-in-Err-Memory.ensures.status;
+  finished = no_memory c.unopened-in-Err-Memory.ensures.status refl
+      (record { untouched = record { same = refl; nothing = c.unopened-in-Err-Memory.ensures.points }; not_bad = c.unopened-in-Err-Memory.ensures.bad; no_store = c.unopened-in-Err-Memory.ensures.store });
+  reads_never_fall = omega arith;
+  no_read_fault = λ is. refl;
+  read_fault = λ is. absurd (omega (arith, c.unopened-in-Err-Memory.ensures.status, is));
+  writes_never_fall = omega arith;
+  no_write_fault = λ is. refl;
+  write_fault = λ is. absurd (omega (arith, c.unopened-in-Err-Memory.ensures.status, is));
   opens_never_fall = omega arith;
   no_open_fault = λ is. refl;
 }

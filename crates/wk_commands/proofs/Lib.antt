@@ -1,0 +1,5 @@
+pub mod Lives
+pub mod Comparing
+pub mod Drained
+pub mod Generated
+pub mod Opening

@@ -1,0 +1,12 @@
+-- The lines of counts (own).
+use Rattle.std.specs.Prelude.{ℕ, List, [], ◌∷◌, ◌++◌, codes}
+use Rattle.std.specs.Fmt.{decimal}
+
+-- so many pages exist, and so many differ
+abbrev pub check_counts : ℕ → ℕ → List ℕ
+check_counts pages differ = codes "pages " ++ (decimal pages ++ (codes " differ " ++ (decimal differ ++ 10 ∷ [])))
+
+-- so many pages exist, so many revisions were made, no job is left, and so many pages differ
+abbrev pub gen_counts : ℕ → ℕ → ℕ → List ℕ
+gen_counts pages revisions differ =
+    codes "pages " ++ (decimal pages ++ (codes " revisions " ++ (decimal revisions ++ (codes " jobs 0 differ " ++ (decimal differ ++ 10 ∷ [])))))
