@@ -21,3 +21,14 @@ names_memory (b ∷ bytes) = false
 abbrev pub opened_tables : List ℕ → Option StoreTables
 opened_tables [] = Some no_tables
 opened_tables (b ∷ bytes) = None
+
+-- what it tells of the stores, which no call changes
+abbrev pub vault_told : FileVault → List ℕ → Option StoreTables
+vault_told vault = opened_tables
+
+abbrev pub vault_opens_whole : FileVault → List ℕ → Bool
+vault_opens_whole vault = names_memory
+
+-- it doesn't tell how many calls were made
+abbrev pub vault_calls : FileVault → Option ℕ
+vault_calls vault = None

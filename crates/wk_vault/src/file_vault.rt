@@ -3,12 +3,11 @@ ghost use Rattle.std.specs.Prelude.{◌≡◌, ◌↔◌, ◌≤◌, true, None,
 ghost use Rattle.wk_base.specs.Faults.{Rose, one_more};
 ghost use Rattle.wk_keeper.specs.CallCounts.{CountsOne};
 ghost use Rattle.wk_vault.specs.Stores.{stored_faults, stored_told, stored_whole};
-ghost use Rattle.wk_vault.specs.Vault.{names_memory, opened_tables, vault_cause, vault_faults};
+ghost use Rattle.wk_vault.specs.Vault.{names_memory, opened_tables, vault_calls, vault_cause, vault_faults, vault_opens_whole, vault_told};
 
 use crate::cause::{Refusal, StoreCause};
 use crate::opening::opened;
-use crate::stored::Stored;
-use sqlite::{File, FileStore};
+use crate::stored::{ProgramStore, Stored};
 use wk_keeper::{MemKeeper, OpenRefusal, Vault};
 use wk_tables::Tables;
 
@@ -56,6 +55,7 @@ fn answered<T: Drop>(
     opened: Result<T, Refusal>,
 ) -> Result<T, OpenRefusal>
     ensures given { IfOk result (λ store. opened ≡ Ok store) }
+    ensures kept { IsOk opened → IsOk result }
     ensures no_fault { OnOk result (faults.new ≡ faults.old) }
     ensures memory { result ≡ Err OpenRefusal.Memory → faults.new ≡ faults.old }
     ensures counted { result ≡ Err OpenRefusal.Failed → faults.new ≡ one_more faults.old }
@@ -64,15 +64,10 @@ fn answered<T: Drop>(
     ensures why { (result ≡ Err OpenRefusal.Failed) ↔ IsSome cause.new }
     ensures because { IfSome cause.new (λ why. opened ≡ Err (Refusal.Because why)) }
 {
+    *cause = None;
     match opened {
-        Ok(store) => {
-            *cause = None;
-            Ok(store)
-        }
-        Err(Refusal::Memory) => {
-            *cause = None;
-            Err(OpenRefusal::Memory)
-        }
+        Ok(store) => Ok(store),
+        Err(Refusal::Memory) => Err(OpenRefusal::Memory),
         Err(Refusal::Because(why)) => {
             *faults = faults.saturating_add(1);
             *cause = Some(why);
@@ -82,8 +77,8 @@ fn answered<T: Drop>(
 }
 
 /// The store of the name.
-fn opened_as_named(rt: &HostRuntime, name: &str) -> Result<Stored<FileStore<File>>, Refusal>
-    ensures given { IfOk result (λ store. IfSome (opened_tables name.now) (λ kept. stored_told store ≡ Some kept)) }
+fn opened_as_named(rt: &HostRuntime, name: &str) -> Result<ProgramStore, Refusal>
+    ensures tells { IfOk result (λ store. stored_told store ≡ opened_tables name.now) }
     ensures whole { IfOk result (λ store. names_memory name.now ≡ true → stored_whole store ≡ true) }
     ensures no_faults { IfOk result (λ store. stored_faults store ≡ 0) }
     ensures in_memory { names_memory name.now ≡ true → IsOk result }
@@ -95,31 +90,34 @@ fn opened_as_named(rt: &HostRuntime, name: &str) -> Result<Stored<FileStore<File
 }
 
 impl<'a> Vault for FileVault<'a> {
-    type Store = Stored<FileStore<File>>;
+    type Store = ProgramStore;
 
-    ghost told = { λ _ name. opened_tables name };
+    ghost told = { vault_told };
 
-    ghost opens_whole = { λ _ name. names_memory name };
+    ghost opens_whole = { vault_opens_whole };
 
     ghost faults = { vault_faults };
+
+    ghost calls = { vault_calls };
 
     /// The store of this name. For the empty name it is an empty one in memory, and the answer is `Ok`.
     ///
     /// `Failed` comes where the file is open elsewhere, where the system doesn't open or make it, where it has something
     /// else than a wiki's database, of which it keeps each byte, and where the disk fails or is full; `cause` tells which.
-    fn open(&mut self, name: &str) -> Result<Stored<FileStore<File>>, OpenRefusal>
-        ensures given { IfOk result (λ store. IfSome (opened_tables name.now) (λ kept. stored_told store ≡ Some kept)) }
-        ensures whole { IfOk result (λ store. names_memory name.now ≡ true → stored_whole store ≡ true) }
+    fn open(&mut self, name: &str) -> Result<ProgramStore, OpenRefusal>
+        ensures given { IfOk result (λ store. IfSome (vault_told self.old name.now) (λ kept. stored_told store ≡ Some kept)) }
+        ensures whole { IfOk result (λ store. vault_opens_whole self.old name.now ≡ true → stored_whole store ≡ true) }
         ensures no_faults { IfOk result (λ store. stored_faults store ≡ 0) }
-        ensures tells { (λ name. opened_tables name) ≡ (λ name. opened_tables name) }
-        ensures tells_whole { (λ name. names_memory name) ≡ (λ name. names_memory name) }
+        ensures tells { vault_told self.new ≡ vault_told self.old }
+        ensures tells_whole { vault_opens_whole self.new ≡ vault_opens_whole self.old }
         ensures never_falls { vault_faults self.old ≤ vault_faults self.new }
         ensures no_fault { OnOk result (vault_faults self.new ≡ vault_faults self.old) }
         ensures cause { result ≡ Err OpenRefusal.Failed → Rose (vault_faults self.old) (vault_faults self.new) }
-        ensures one_call { OnOk result (CountsOne None None) }
-        ensures failed_call { result ≡ Err OpenRefusal.Failed → CountsOne None None }
-        ensures no_call { result ≡ Err OpenRefusal.Memory → None ≡ None }
+        ensures one_call { OnOk result (CountsOne (vault_calls self.old) (vault_calls self.new)) }
+        ensures failed_call { result ≡ Err OpenRefusal.Failed → CountsOne (vault_calls self.old) (vault_calls self.new) }
+        ensures no_call { result ≡ Err OpenRefusal.Memory → vault_calls self.new ≡ vault_calls self.old }
 
+        ensures told_tables { IfOk result (λ store. stored_told store ≡ opened_tables name.now) }
         ensures in_memory { names_memory name.now ≡ true → IsOk result }
         ensures memory { result ≡ Err OpenRefusal.Memory → vault_faults self.new ≡ vault_faults self.old }
         ensures counted { result ≡ Err OpenRefusal.Failed → vault_faults self.new ≡ one_more (vault_faults self.old) }

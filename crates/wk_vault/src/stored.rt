@@ -1,8 +1,8 @@
 //! A store of the program, as one keeper.
-ghost use Rattle.std.specs.Prelude.{◌≡◌};
+ghost use Rattle.std.specs.Prelude.{◌≡◌, IsErr, None};
 ghost use Rattle.wk_vault.specs.Stores.{stored_faults, stored_told, stored_whole};
 
-use sqlite::{Alter, FileStore};
+use sqlite::{Alter, File, FileStore};
 use sqlite_disk::Disk;
 use wk_base::Failed;
 use wk_keeper::{Keeper, KeeperRefusal, MemKeeper};
@@ -15,6 +15,9 @@ pub enum Stored<S: Alter> {
     Memory(MemKeeper),
     File(SqlKeeper<S>),
 }
+
+/// A store of the program: in memory, or in a file of the system.
+pub type ProgramStore = Stored<FileStore<File>>;
 
 impl<S: Alter + Drop> Keeper for Stored<S> {
     ghost told = { stored_told };
@@ -43,7 +46,9 @@ impl<S: Alter + Drop> Keeper for Stored<S> {
 impl<D: Disk + Drop> Stored<FileStore<D>> {
     /// Ends the store: what stands in the log of a file is copied into the file. `Failed` comes where that fails; then
     /// nothing is lost, and the file and its log belong together.
-    pub fn close(self) -> Result<(), Failed> {
+    pub fn close(self) -> Result<(), Failed>
+        ensures { IsErr result → stored_told self ≡ None }
+    {
         match self {
             Stored::Memory(_) => Ok(()),
             Stored::File(keeper) => keeper.release().close().map_err(|_| Failed),

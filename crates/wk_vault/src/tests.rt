@@ -2,16 +2,14 @@
 ghost use Rattle.std.specs.Prelude.{◌≡◌, ◌∷◌, [], IfOk};
 ghost use Rattle.wk_table_rules.specs.Changes.{set_version};
 
-use crate::{FileVault, StoreCause, Stored};
-use sqlite::{Connection, File, FileStore};
+use crate::{FileVault, ProgramStore, StoreCause};
+use sqlite::Connection;
 use std::alloc::Global;
 use std::fs;
 use std::test::Fail;
 use wk_keeper::{Keeper, OpenRefusal, Vault};
 use wk_memory::Memory;
 use wk_tables::{Change, RowEdit};
-
-type FileStored = Stored<FileStore<File>>;
 
 const FOLDER: &str = "wk_vault_tests";
 
@@ -49,13 +47,13 @@ fn change(alloc: Global, number: u64) -> Result<Change, Memory>
 }
 
 /// Gives the tables this version.
-fn set_version(alloc: Global, store: &mut FileStored, number: u64) -> Result<(), Fail> {
+fn set_version(alloc: Global, store: &mut ProgramStore, number: u64) -> Result<(), Fail> {
     store.apply(&change(alloc, number)?)?;
     Ok(())
 }
 
 /// The version of the store's tables.
-fn version(store: &mut FileStored) -> Result<u64, Fail> {
+fn version(store: &mut ProgramStore) -> Result<u64, Fail> {
     Ok(store.load()?.version())
 }
 
