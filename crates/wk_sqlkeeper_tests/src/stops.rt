@@ -244,40 +244,61 @@ fn new_files(alloc: Global) -> Disks {
     }
 }
 
-/// The files of a store of version 1 with a page.
-fn older_files(alloc: Global) -> Result<Disks, Fail> {
+/// The keeper of a new store with a page.
+fn keeper_of_a_page(alloc: Global) -> Result<SqlKeeper<FileStore<Fuse<Memory>>>, Fail> {
     let Ok(mut keeper) = opened(alloc, new_files(alloc)) else {
         return Err(Fail::from("a new store is refused"));
     };
-    let number = made(alloc, &mut keeper, &OLD_SAVES)?;
-    if number < 1 {
+    if made(alloc, &mut keeper, &OLD_SAVES)? < 1 {
         return Err(Fail::from("a save is refused"));
     }
-    let mut connection = keeper.release();
+    Ok(keeper)
+}
+
+/// The files of a store of version 1 with that page.
+fn older_files(alloc: Global) -> Result<Disks, Fail> {
+    let mut connection = keeper_of_a_page(alloc)?.release();
     connection.execute_batch(OLDER)?;
     Ok(connection.into_store().close())
 }
 
+/// How many stops the log's file and the database's have where the changes are made over these files.
+fn both_stops(
+    alloc: Global,
+    start: &Disks,
+    changes: &[&'static [Step]],
+    want: &[TableRows],
+) -> Result<(u64, u64), Fail> {
+    let log = all_stops(alloc, start, true, changes, want)?;
+    let db = all_stops(alloc, start, false, changes, want)?;
+    Ok((log, db))
+}
+
+/// The stops of saves from an empty file on.
+fn stops_of_saves(alloc: Global) -> Result<(u64, u64), Fail> {
+    let want = rows_behind(alloc, &[], &SAVES)?;
+    both_stops(alloc, &new_files(alloc), &SAVES, &want)
+}
+
+/// The stops of the migration of a store of version 1.
+fn stops_of_a_migration(alloc: Global) -> Result<(u64, u64), Fail> {
+    let want = rows_behind(alloc, &OLD_SAVES, &MIGRATION)?;
+    let start = older_files(alloc)?;
+    both_stops(alloc, &start, &MIGRATION, &want)
+}
+
 #[test]
 fn a_store_that_stops_has_the_rows_before_or_behind_a_change(rt: HostRuntime) -> Result<(), Fail> {
-    let alloc = rt.alloc();
-    let start = new_files(alloc);
-    let want = rows_behind(alloc, &[], &SAVES)?;
-    for in_log in [true, false] {
-        let stops = all_stops(alloc, &start, in_log, &SAVES, &want)?;
-        assert!(rt; 20 < stops, "{stops} stops");
-    }
+    let (log, db) = stops_of_saves(rt.alloc())?;
+    assert!(rt; 20 < log);
+    assert!(rt; 20 < db);
     Ok(())
 }
 
 #[test]
 fn a_migration_that_stops_is_made_or_not(rt: HostRuntime) -> Result<(), Fail> {
-    let alloc = rt.alloc();
-    let start = older_files(alloc)?;
-    let want = rows_behind(alloc, &OLD_SAVES, &MIGRATION)?;
-    for in_log in [true, false] {
-        let stops = all_stops(alloc, &start, in_log, &MIGRATION, &want)?;
-        assert!(rt; 4 < stops, "{stops} stops");
-    }
+    let (log, db) = stops_of_a_migration(rt.alloc())?;
+    assert!(rt; 4 < log);
+    assert!(rt; 4 < db);
     Ok(())
 }

@@ -7,7 +7,7 @@ ghost use Rattle.wk_vault.specs.Vault.{names_memory, opened_tables, vault_calls,
 
 use crate::cause::{Refusal, StoreCause};
 use crate::opening::opened;
-use crate::stored::{ProgramStore, Stored};
+use crate::stored::Stored;
 use wk_keeper::{MemKeeper, OpenRefusal, Vault};
 use wk_tables::Tables;
 
@@ -77,7 +77,7 @@ fn answered<T: Drop>(
 }
 
 /// The store of the name.
-fn opened_as_named(rt: &HostRuntime, name: &str) -> Result<ProgramStore, Refusal>
+fn opened_as_named(rt: &HostRuntime, name: &str) -> Result<Stored, Refusal>
     ensures tells { IfOk result (λ store. stored_told store ≡ opened_tables name.now) }
     ensures whole { IfOk result (λ store. names_memory name.now ≡ true → stored_whole store ≡ true) }
     ensures no_faults { IfOk result (λ store. stored_faults store ≡ 0) }
@@ -90,7 +90,7 @@ fn opened_as_named(rt: &HostRuntime, name: &str) -> Result<ProgramStore, Refusal
 }
 
 impl<'a> Vault for FileVault<'a> {
-    type Store = ProgramStore;
+    type Store = Stored;
 
     ghost told = { vault_told };
 
@@ -104,7 +104,7 @@ impl<'a> Vault for FileVault<'a> {
     ///
     /// `Failed` comes where the file is open elsewhere, where the system doesn't open or make it, where it has something
     /// else than a wiki's database, of which it keeps each byte, and where the disk fails or is full; `cause` tells which.
-    fn open(&mut self, name: &str) -> Result<ProgramStore, OpenRefusal>
+    fn open(&mut self, name: &str) -> Result<Stored, OpenRefusal>
         ensures given { IfOk result (λ store. IfSome (vault_told self.old name.now) (λ kept. stored_told store ≡ Some kept)) }
         ensures whole { IfOk result (λ store. vault_opens_whole self.old name.now ≡ true → stored_whole store ≡ true) }
         ensures no_faults { IfOk result (λ store. stored_faults store ≡ 0) }

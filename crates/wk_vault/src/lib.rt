@@ -9,7 +9,7 @@ mod stored;
 
 pub use cause::StoreCause;
 pub use file_vault::FileVault;
-pub use stored::{ProgramStore, Stored};
+pub use stored::Stored;
 
 #[cfg(test)]
 mod tests;

@@ -2,24 +2,29 @@
 ghost use Rattle.std.specs.Prelude.{◌≡◌, IsErr, None};
 ghost use Rattle.wk_vault.specs.Stores.{stored_faults, stored_told, stored_whole};
 
-use sqlite::{Alter, File, FileStore};
-use sqlite_disk::Disk;
+use sqlite::{File, FileStore};
 use wk_base::Failed;
 use wk_keeper::{Keeper, KeeperRefusal, MemKeeper};
 use wk_sqlkeeper::SqlKeeper;
 use wk_tables::{Change, Tables};
 
-/// A store: in memory, where it tells its tables and is whole, or in a database, where it tells none and isn't.
-#[derive(Drop)]
-pub enum Stored<S: Alter> {
+/// A store of the program: in memory, where it tells its tables and is whole, or in a file, where it tells none and isn't.
+pub enum Stored {
     Memory(MemKeeper),
-    File(SqlKeeper<S>),
+    File(SqlKeeper<FileStore<File>>),
 }
 
-/// A store of the program: in memory, or in a file of the system.
-pub type ProgramStore = Stored<FileStore<File>>;
+// It is written out, so that a caller does not prove again how a database in a file is dropped.
+impl Drop for Stored {
+    fn drop(self) {
+        match self {
+            Stored::Memory(_) => {}
+            Stored::File(_) => {}
+        }
+    }
+}
 
-impl<S: Alter + Drop> Keeper for Stored<S> {
+impl Keeper for Stored {
     ghost told = { stored_told };
 
     ghost faults = { stored_faults };
@@ -43,7 +48,7 @@ impl<S: Alter + Drop> Keeper for Stored<S> {
     }
 }
 
-impl<D: Disk + Drop> Stored<FileStore<D>> {
+impl Stored {
     /// Ends the store: what stands in the log of a file is copied into the file. `Failed` comes where that fails; then
     /// nothing is lost, and the file and its log belong together.
     pub fn close(self) -> Result<(), Failed>

@@ -2,7 +2,7 @@
 ghost use Rattle.std.specs.Prelude.{◌≡◌, ◌∷◌, [], IfOk};
 ghost use Rattle.wk_table_rules.specs.Changes.{set_version};
 
-use crate::{FileVault, ProgramStore, StoreCause};
+use crate::{FileVault, StoreCause, Stored};
 use sqlite::Connection;
 use std::alloc::Global;
 use std::fs;
@@ -47,13 +47,13 @@ fn change(alloc: Global, number: u64) -> Result<Change, Memory>
 }
 
 /// Gives the tables this version.
-fn set_version(alloc: Global, store: &mut ProgramStore, number: u64) -> Result<(), Fail> {
+fn set_version(alloc: Global, store: &mut Stored, number: u64) -> Result<(), Fail> {
     store.apply(&change(alloc, number)?)?;
     Ok(())
 }
 
 /// The version of the store's tables.
-fn version(store: &mut ProgramStore) -> Result<u64, Fail> {
+fn version(store: &mut Stored) -> Result<u64, Fail> {
     Ok(store.load()?.version())
 }
 
@@ -125,7 +125,7 @@ fn other_files_are_refused_and_kept(rt: HostRuntime) -> Result<(), Fail> {
             "at {bytes:?}"
         );
     }
-    let path = no_file(&rt, "missing/folder")?;
+    let (path, _) = names(&rt, "missing/file")?;
     assert_eq!(rt;
         cause_of(&mut vault, path.as_str()),
         Some(StoreCause::CannotOpen)
