@@ -1,14 +1,14 @@
 // What no clause says: that memory which is there is used, and that each line is answered in the text that a user sees.
-use crate::rows::{Row, ROWS};
+use crate::rows::{ROWS, Row};
 use crate::runs::{Ran, SOUND, run, script};
 use std::alloc::Global;
 use std::test::Fail;
-use wk_cli::FileVault;
+use wk_keeper::ListVault;
 use wk_memory::Memory;
 
 /// A run of this script over an empty store.
 fn ran(alloc: Global, lines: &[u8]) -> Result<Ran, Memory> {
-    let mut vault = FileVault::new(alloc);
+    let mut vault = ListVault::new(Vec::new(alloc));
     script(alloc, &mut vault, lines, SOUND)
 }
 
@@ -30,7 +30,7 @@ fn each_script_is_answered(rt: HostRuntime) -> Result<(), Fail> {
 fn other_words_touch_nothing(rt: HostRuntime) -> Result<(), Fail> {
     let alloc = rt.alloc();
     for words in ["wiki dance", "wiki", "wiki script script", ""] {
-        let mut vault = FileVault::new(alloc);
+        let mut vault = ListVault::new(Vec::new(alloc));
         let ran = run(alloc, words, &mut vault, b"claim\n", SOUND)?;
         assert_eq!(rt; ran.status, 2, "{words}");
         assert_eq!(rt; ran.written.len(), 0, "{words}");
