@@ -244,20 +244,23 @@ fn new_files(alloc: Global) -> Disks {
     }
 }
 
-/// The keeper of a new store with a page.
-fn keeper_of_a_page(alloc: Global) -> Result<SqlKeeper<FileStore<Fuse<Memory>>>, Fail> {
-    let Ok(mut keeper) = opened(alloc, new_files(alloc)) else {
+/// The connection to a new store with the page of the older one.
+fn made_older<D: Disk + Drop>(
+    alloc: Global,
+    files: Files<D>,
+) -> Result<Connection<FileStore<D>>, Fail> {
+    let Ok(mut keeper) = opened(alloc, files) else {
         return Err(Fail::from("a new store is refused"));
     };
     if made(alloc, &mut keeper, &OLD_SAVES)? < 1 {
         return Err(Fail::from("a save is refused"));
     }
-    Ok(keeper)
+    Ok(keeper.release())
 }
 
 /// The files of a store of version 1 with that page.
-fn older_files(alloc: Global) -> Result<Disks, Fail> {
-    let mut connection = keeper_of_a_page(alloc)?.release();
+fn older<D: Disk + Drop>(alloc: Global, files: Files<D>) -> Result<Files<D>, Fail> {
+    let mut connection = made_older(alloc, files)?;
     connection.execute_batch(OLDER)?;
     Ok(connection.into_store().close())
 }
@@ -277,13 +280,14 @@ fn both_stops(
 /// The stops of saves from an empty file on.
 fn stops_of_saves(alloc: Global) -> Result<(u64, u64), Fail> {
     let want = rows_behind(alloc, &[], &SAVES)?;
-    both_stops(alloc, &new_files(alloc), &SAVES, &want)
+    let start = new_files(alloc);
+    both_stops(alloc, &start, &SAVES, &want)
 }
 
 /// The stops of the migration of a store of version 1.
 fn stops_of_a_migration(alloc: Global) -> Result<(u64, u64), Fail> {
     let want = rows_behind(alloc, &OLD_SAVES, &MIGRATION)?;
-    let start = older_files(alloc)?;
+    let start = older(alloc, new_files(alloc))?;
     both_stops(alloc, &start, &MIGRATION, &want)
 }
 
