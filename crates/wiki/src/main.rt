@@ -4,10 +4,10 @@
 use std::process::ExitCode;
 use std::rt::Env;
 use std::{env, io};
-use wk_base::{ReadSource, SystemClock, WriteSink};
-use wk_cli::{FileVault, Finish, refusal_text, wiki_main};
+use wk_base::{Failed, ReadSource, SystemClock, WriteSink};
+use wk_cli::{Finish, refusal_text, wiki_main};
 use wk_core::BadStore;
-use wk_keeper::MemKeeper;
+use wk_vault::{FileVault, Stored};
 
 /// The words of the command line, the program's name first.
 fn words(rt: &(impl Env + AllocGlobal)) -> io::Result<Vec<String>> {
@@ -34,17 +34,24 @@ fn meaning(status: u8) -> &'static str {
     }
 }
 
+/// Tells why the vault opened no store, if it didn't.
+fn tell_cause(rt: &HostRuntime, vault: &FileVault<'_>) -> io::Result<()> {
+    match vault.cause() {
+        Some(cause) => eprintln!(rt; "wiki: {cause}"),
+        None => Ok(()),
+    }
+}
+
 /// Tells a status that isn't 0 on the standard error: what is wrong with the words, if anything; the status with the bad
 /// row, if any; and what the status means.
-fn tell(rt: &HostRuntime, words: &[String], finish: &Finish<MemKeeper>) -> io::Result<()> {
-    let status = finish.status;
+fn tell(rt: &HostRuntime, words: &[String], status: u8, bad: Option<BadStore>) -> io::Result<()> {
     if status == 0 {
         return Ok(());
     }
     if let Ok(Some(text)) = refusal_text(rt.alloc(), words) {
         eprint!(rt; "{text}")?;
     }
-    match finish.bad {
+    match bad {
         Some(BadStore { rule, row }) => {
             eprintln!(rt; "wiki: status {status} rule {rule} row {row}")?
         }
@@ -53,9 +60,27 @@ fn tell(rt: &HostRuntime, words: &[String], finish: &Finish<MemKeeper>) -> io::R
     eprintln!(rt; "{}", meaning(status))
 }
 
+/// Ends the store, if one was opened.
+fn close(store: Option<Stored>) -> Result<(), Failed> {
+    match store {
+        Some(store) => store.close(),
+        None => Ok(()),
+    }
+}
+
+/// Tells where the log of the store wasn't copied into its file.
+fn tell_log(rt: &HostRuntime, closed: Result<(), Failed>) -> io::Result<()> {
+    match closed {
+        Ok(()) => Ok(()),
+        Err(Failed) => eprintln!(rt;
+            "wiki: the store's log couldn't be copied into its file; nothing is lost: keep both"
+        ),
+    }
+}
+
 fn main(rt: HostRuntime) -> io::Result<ExitCode> {
     let words = words(&rt)?;
-    let mut vault = FileVault::new(rt.alloc());
+    let mut vault = FileVault::new(&rt);
     let mut input = ReadSource::new(rt.reader());
     let mut output = WriteSink::new(io::writer(&rt));
     let mut clock = SystemClock::new(&rt);
@@ -67,6 +92,15 @@ fn main(rt: HostRuntime) -> io::Result<ExitCode> {
         &mut output,
         &mut clock,
     );
-    tell(&rt, &words, &finish)?;
-    Ok(ExitCode::from(finish.status))
+    let Finish {
+        status,
+        points: _,
+        bad,
+        store,
+    } = finish;
+    let closed = close(store);
+    tell_cause(&rt, &vault)?;
+    tell(&rt, &words, status, bad)?;
+    tell_log(&rt, closed)?;
+    Ok(ExitCode::from(status))
 }

@@ -2,4 +2,3 @@ pub mod Finished
 pub mod Scripted
 pub mod Works
 pub mod Statuses
-pub mod Vault

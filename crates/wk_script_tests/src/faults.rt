@@ -2,7 +2,7 @@
 use crate::runs::{Outside, Ran, SOUND, script};
 use std::alloc::Global;
 use std::test::Fail;
-use wk_cli::FileVault;
+use wk_keeper::ListVault;
 use wk_memory::Memory;
 
 /// Three lines of 5,000 bytes each, so that a read of 8,192 bytes ends within the second, and the next read behind all.
@@ -28,7 +28,7 @@ const THREE_REPLIES: &str =
 
 /// A run of the three lines.
 fn ran(alloc: Global, outside: Outside) -> Result<Ran, Memory> {
-    let mut vault = FileVault::new(alloc);
+    let mut vault = ListVault::new(Vec::new(alloc));
     let lines = three_lines(alloc)?;
     script(alloc, &mut vault, lines.as_bytes(), outside)
 }
@@ -88,7 +88,7 @@ fn a_full_sink_ends_the_run(rt: HostRuntime) -> Result<(), Fail> {
 /// What is written for one line of so many bytes, which has no known form.
 fn written_for(alloc: Global, bytes: usize) -> Result<Vec<u8>, Memory> {
     let line = "a".repeat(alloc, bytes)?;
-    let mut vault = FileVault::new(alloc);
+    let mut vault = ListVault::new(Vec::new(alloc));
     let ran = script(alloc, &mut vault, line.as_bytes(), SOUND)?;
     Ok(ran.written)
 }

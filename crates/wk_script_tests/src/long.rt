@@ -4,14 +4,14 @@ use crate::rows::{FORTY_DEEP, LINKED, MANY_USERS};
 use crate::runs::is_answered;
 use std::alloc::Global;
 use std::test::Fail;
-use wk_cli::FileVault;
+use wk_keeper::ListVault;
 use wk_memory::Memory;
 
 /// Whether a script over an empty store is answered so, with the lines of this text behind it.
 fn answers(alloc: Global, case: Case, behind: &str) -> Result<bool, Memory> {
     let mut case = case;
     case.add_all(behind)?;
-    is_answered(alloc, &mut FileVault::new(alloc), &case)
+    is_answered(alloc, &mut ListVault::new(Vec::new(alloc)), &case)
 }
 
 /// Templates from T1 to T41, each of which includes the next, and the last of which is `x`.

@@ -5,8 +5,8 @@ use crate::runs::{Outside, Ran, SOUND, script};
 use crate::stores::vault;
 use std::alloc::Global;
 use std::test::Fail;
-use wk_cli::FileVault;
 use wk_core::Tables;
+use wk_keeper::ListVault;
 use wk_memory::Memory;
 
 /// How many replies the script has.
@@ -43,7 +43,7 @@ fn stops(case: &Case, ran: &Ran, status: u8, replies: u64) -> bool {
 fn ran(alloc: Global, case: &Case, outside: Outside) -> Result<Ran, Memory> {
     script(
         alloc,
-        &mut FileVault::new(alloc),
+        &mut ListVault::new(Vec::new(alloc)),
         case.lines.as_bytes(),
         outside,
     )

@@ -4,12 +4,16 @@ use crate::rows::{RACE, ROWS};
 use crate::runs::{SOUND, is_answered, run, script};
 use std::alloc::Global;
 use std::test::Fail;
-use wk_cli::FileVault;
+use wk_keeper::ListVault;
 use wk_memory::Memory;
 
 /// Whether the script of this text is answered so over an empty store.
 fn answers(alloc: Global, text: &str) -> Result<bool, Memory> {
-    is_answered(alloc, &mut FileVault::new(alloc), &case_of(alloc, text)?)
+    is_answered(
+        alloc,
+        &mut ListVault::new(Vec::new(alloc)),
+        &case_of(alloc, text)?,
+    )
 }
 
 #[test]
@@ -31,7 +35,13 @@ fn the_race_is_answered(rt: HostRuntime) -> Result<(), Fail> {
 
 /// Whether a run on these words ends with status 2, and nothing is opened or written.
 fn is_refused(alloc: Global, words: &str) -> Result<bool, Memory> {
-    let ran = run(alloc, words, &mut FileVault::new(alloc), b"claim\n", SOUND)?;
+    let ran = run(
+        alloc,
+        words,
+        &mut ListVault::new(Vec::new(alloc)),
+        b"claim\n",
+        SOUND,
+    )?;
     Ok(ran.ends(2, 0, "") && ran.points.is_empty())
 }
 
@@ -46,7 +56,12 @@ fn other_words_touch_nothing(rt: HostRuntime) -> Result<(), Fail> {
 
 /// The points of the replies to the lines over an empty store.
 fn points(alloc: Global, lines: &str) -> Result<Vec<u64>, Memory> {
-    let ran = script(alloc, &mut FileVault::new(alloc), lines.as_bytes(), SOUND)?;
+    let ran = script(
+        alloc,
+        &mut ListVault::new(Vec::new(alloc)),
+        lines.as_bytes(),
+        SOUND,
+    )?;
     Ok(ran.points)
 }
 

@@ -87,7 +87,7 @@ fn a_connection_in_a_transaction_is_refused(rt: HostRuntime) -> Result<(), Fail>
 }
 
 /// A store of version 1, which has no table redirect.
-static OLDER: &str = "DROP TABLE redirect; UPDATE site SET site_value = '1'";
+pub static OLDER: &str = "DROP TABLE redirect; UPDATE site SET site_value = '1'";
 
 #[test]
 fn the_table_redirect_is_made_where_it_is_missing(rt: HostRuntime) -> Result<(), Fail> {

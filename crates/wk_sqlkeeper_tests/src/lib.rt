@@ -11,3 +11,5 @@ mod fitting;
 mod same;
 #[cfg(test)]
 mod samples;
+#[cfg(test)]
+mod stops;

@@ -1,0 +1,138 @@
+//! Runs of the program one after the other over one file, each with a vault of its own. A store is let go between them, so
+//! its log stays beside its file.
+use sqlite::Connection;
+use std::alloc::Global;
+use std::fs;
+use std::test::Fail;
+use wk_base::{ListClock, MemSink, MemSource};
+use wk_cli::wiki_main;
+use wk_memory::Memory;
+use wk_vault::FileVault;
+
+/// A run: its words, its input, and the end of the output that is expected of it at status 0.
+type Run = (&'static str, &'static str, &'static str);
+
+/// The words of this text.
+fn words(alloc: Global, text: &str) -> Result<Vec<String>, Memory> {
+    let mut words = Vec::new(alloc);
+    for word in text.split_whitespace() {
+        words.push(String::from_str(alloc, word)?)?;
+    }
+    Ok(words)
+}
+
+/// The status and the output of a run on these words and this input.
+fn run(rt: &HostRuntime, text: &str, input: &str) -> Result<(u8, Vec<u8>), Memory> {
+    let alloc = rt.alloc();
+    let words = words(alloc, text)?;
+    let mut vault = FileVault::new(rt);
+    let mut source = MemSource::new(input.as_bytes().to_vec(alloc)?, Vec::new(alloc));
+    let mut sink = MemSink::new(alloc, 65_536, Vec::new(alloc))?;
+    let mut clock = ListClock::new([7].to_vec(alloc)?);
+    let finish = wiki_main(
+        alloc,
+        &words,
+        &mut vault,
+        &mut source,
+        &mut sink,
+        &mut clock,
+    );
+    Ok((finish.status, sink.bytes().to_vec(alloc)?))
+}
+
+/// Whether each of the runs, one after the other, ends as is expected.
+fn are_as_expected(rt: &HostRuntime, runs: &[Run]) -> Result<bool, Memory> {
+    for (words, input, written) in runs {
+        let (status, output) = run(rt, *words, *input)?;
+        if status != 0 || !output.as_slice().ends_with(written.as_bytes()) {
+            return Ok(false);
+        }
+    }
+    Ok(true)
+}
+
+/// Takes away the file of this name and its log, and makes their folder.
+fn begin_anew(rt: &HostRuntime, name: &str) -> Result<(), Fail> {
+    fs::create_dir_all(rt, "wk_store_tests")?;
+    let log = format!(in rt.alloc(); "{name}-wal")?;
+    for name in [name, log.as_str()] {
+        fs::write(rt, name, b"".as_slice())?;
+        fs::remove_file(rt, name)?;
+    }
+    Ok(())
+}
+
+/// Pages are generated, and compared by the next run.
+static GENERATED: [Run; 2] = [
+    (
+        "wiki gen --store wk_store_tests/gen",
+        "",
+        "pages 52 revisions 52 jobs 0 differ 0\n",
+    ),
+    (
+        "wiki check --store wk_store_tests/gen",
+        "",
+        "pages 52 differ 0\n",
+    ),
+];
+
+#[test]
+fn generated_pages_are_there_again(rt: HostRuntime) -> Result<(), Fail> {
+    begin_anew(&rt, "wk_store_tests/gen")?;
+    assert!(rt; are_as_expected(&rt, &GENERATED)?);
+    Ok(())
+}
+
+/// A page is saved; the next run finds it and its job. Once that is done, there is none.
+static SAVED: [Run; 4] = [
+    (
+        "wiki script --store wk_store_tests/saved",
+        "api action=edit&title=A&text=x&token=%2B%5C\n",
+        "{\"edit\":{\"new\":true,\"newrevid\":1,\"oldrevid\":0,\"pageid\":1,\"result\":\"Success\",\"title\":\"A\"},\"point\":1}\n",
+    ),
+    (
+        "wiki script --store wk_store_tests/saved",
+        "api action=query&meta=siteinfo\n",
+        "\"statistics\":{\"edits\":1,\"jobs\":1,\"pages\":1}}}\n",
+    ),
+    ("wiki jobs --store wk_store_tests/saved", "", "jobs 0\n"),
+    (
+        "wiki script --store wk_store_tests/saved",
+        "api action=query&meta=siteinfo\n",
+        "\"statistics\":{\"edits\":1,\"jobs\":0,\"pages\":1}}}\n",
+    ),
+];
+
+/// The same store, once it was made one of version 1: opened, it has a job for its page again.
+static MIGRATED: [Run; 2] = [
+    (
+        "wiki script --store wk_store_tests/saved",
+        "api action=query&meta=siteinfo\n",
+        "\"statistics\":{\"edits\":1,\"jobs\":1,\"pages\":1}}}\n",
+    ),
+    (
+        "wiki check --store wk_store_tests/saved",
+        "",
+        "pages 1 differ 0\n",
+    ),
+];
+
+/// What makes a store one of version 1.
+const OLDER: &str = "DROP TABLE redirect; UPDATE site SET site_value = '1'";
+
+/// Makes the store in the file one of version 1.
+fn make_older(rt: &HostRuntime, name: &str) -> Result<(), Fail> {
+    let mut connection = Connection::open(rt, name)?;
+    connection.execute_batch(OLDER)?;
+    connection.close()?;
+    Ok(())
+}
+
+#[test]
+fn a_saved_page_is_there_again(rt: HostRuntime) -> Result<(), Fail> {
+    begin_anew(&rt, "wk_store_tests/saved")?;
+    assert!(rt; are_as_expected(&rt, &SAVED)?);
+    make_older(&rt, "wk_store_tests/saved")?;
+    assert!(rt; are_as_expected(&rt, &MIGRATED)?);
+    Ok(())
+}

@@ -1,0 +1,15 @@
+//! The vault of the program's stores: a store in memory, or one in a SQLite file.
+#![tactic(auto)]
+
+mod cause;
+mod file_vault;
+mod opening;
+mod start;
+mod stored;
+
+pub use cause::StoreCause;
+pub use file_vault::FileVault;
+pub use stored::Stored;
+
+#[cfg(test)]
+mod tests;
