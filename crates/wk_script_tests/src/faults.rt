@@ -20,7 +20,8 @@ fn three_lines(alloc: Global) -> Result<String, Memory> {
 }
 
 /// Their replies, of 100 bytes each.
-const THREE_REPLIES: &str = r#"{"edit":{"new":true,"newrevid":1,"oldrevid":0,"pageid":1,"result":"Success","title":"A"},"point":1}
+const THREE_REPLIES: &str =
+    r#"{"edit":{"new":true,"newrevid":1,"oldrevid":0,"pageid":1,"result":"Success","title":"A"},"point":1}
 {"edit":{"new":true,"newrevid":2,"oldrevid":0,"pageid":2,"result":"Success","title":"B"},"point":2}
 {"edit":{"new":true,"newrevid":3,"oldrevid":0,"pageid":3,"result":"Success","title":"C"},"point":3}
 "#;
@@ -35,9 +36,11 @@ fn ran(alloc: Global, outside: Outside) -> Result<Ran, Memory> {
 /// Whether the run ends so, with so many bytes of the replies written.
 fn ends(alloc: Global, outside: Outside, status: u8, bytes: usize) -> Result<bool, Memory> {
     let ran = ran(alloc, outside)?;
-    Ok(ran.status == status
-        && ran.written.len() == bytes
-        && THREE_REPLIES.as_bytes().starts_with(&ran.written))
+    Ok(
+        ran.status == status
+            && ran.written.len() == bytes
+            && THREE_REPLIES.as_bytes().starts_with(&ran.written),
+    )
 }
 
 #[test]
@@ -61,7 +64,10 @@ fn a_write_that_fails_ends_the_run(rt: HostRuntime) -> Result<(), Fail> {
             failed_write,
             ..SOUND
         };
-        assert!(rt; ends(alloc, outside, status, bytes)?, "write {failed_write}");
+        assert!(rt;
+            ends(alloc, outside, status, bytes)?,
+            "write {failed_write}"
+        );
     }
     Ok(())
 }
@@ -71,7 +77,10 @@ fn a_full_sink_ends_the_run(rt: HostRuntime) -> Result<(), Fail> {
     let alloc = rt.alloc();
     for most in [0, 1, 99, 100, 101, 299, 300] {
         let status = if most < 300 { 4 } else { 0 };
-        assert!(rt; ends(alloc, Outside { most, ..SOUND }, status, most)?, "{most} bytes");
+        assert!(rt;
+            ends(alloc, Outside { most, ..SOUND }, status, most)?,
+            "{most} bytes"
+        );
     }
     Ok(())
 }
@@ -89,7 +98,8 @@ fn a_line_of_8_mebibytes_is_read(rt: HostRuntime) -> Result<(), Fail> {
     let alloc = rt.alloc();
     let bad = "{\"error\":{\"code\":\"badline\",\"info\":\"Unknown line.\"},\"point\":0}\n";
     assert_eq!(rt; written_for(alloc, 8_388_608)?.as_slice(), bad.as_bytes());
-    let long = "{\"error\":{\"code\":\"linetoolong\",\"info\":\"The line is longer than 8388608 bytes.\"},\"point\":0}\n";
+    let long =
+        "{\"error\":{\"code\":\"linetoolong\",\"info\":\"The line is longer than 8388608 bytes.\"},\"point\":0}\n";
     assert_eq!(rt; written_for(alloc, 8_388_609)?.as_slice(), long.as_bytes());
     Ok(())
 }

@@ -2,7 +2,15 @@
 #![tactic(auto)]
 
 #[cfg(test)]
+mod cases;
+#[cfg(test)]
 mod faults;
+#[cfg(test)]
+mod limits;
+#[cfg(test)]
+mod long;
+#[cfg(test)]
+mod races;
 #[cfg(test)]
 mod rows;
 #[cfg(test)]

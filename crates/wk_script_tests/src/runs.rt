@@ -1,9 +1,10 @@
-//! Runs of the program over streams in memory.
+//! Runs of the program over streams in memory. Nothing else here names what a run is made of, so that little is proved of it.
+use crate::cases::Case;
 use std::alloc::Global;
 use wk_base::{ListClock, MemSink, MemSource};
 use wk_cli::wiki_main;
 use wk_core::BadStore;
-use wk_keeper::Vault;
+use wk_keeper::{Keeper, Vault};
 use wk_memory::Memory;
 
 /// The calls that fail, by number from 1 on, and the bytes that the sink takes.
@@ -21,14 +22,26 @@ pub const SOUND: Outside = Outside {
     most: 4_194_304,
 };
 
+/// The moments that a run's clock gives, of which the last one stays.
+pub const MOMENTS: [u64; 3] = [5, 6, 7];
+
 /// What came of a run.
 #[derive(Drop)]
 pub struct Ran {
     pub status: u8,
     pub points: Vec<u64>,
     pub bad: Option<BadStore>,
-    pub has_store: bool,
+    /// The version of the store that was handed back; 0 where there is none.
+    pub version: u64,
     pub written: Vec<u8>,
+}
+
+impl Ran {
+    /// Whether the run ended with this status, handed back a store of this version, 0 for none, and wrote this.
+    pub fn ends(&self, status: u8, version: u64, written: &str) -> bool {
+        let told = self.written.as_slice() == written.as_bytes();
+        self.status == status && self.version == version && told
+    }
 }
 
 /// The words of this text.
@@ -38,6 +51,18 @@ fn words(alloc: Global, text: &str) -> Result<Vec<String>, Memory> {
         words.push(String::from_str(alloc, word)?)?;
     }
     Ok(words)
+}
+
+/// The version of the tables that a store gives; 0 where it gives none.
+fn version<K: Keeper>(store: Option<K>) -> u64 {
+    let Some(keeper) = store else {
+        return 0;
+    };
+    let mut keeper = keeper;
+    match keeper.load() {
+        Ok(tables) => tables.version(),
+        Err(_) => 0,
+    }
 }
 
 /// A run on these words.
@@ -52,13 +77,13 @@ pub fn run<V: Vault>(
     let mut source = MemSource::new(input.to_vec(alloc)?, [outside.failed_read].to_vec(alloc)?);
     let failed_writes = [outside.failed_write].to_vec(alloc)?;
     let mut sink = MemSink::new(alloc, outside.most, failed_writes)?;
-    let mut clock = ListClock::new(Vec::new(alloc));
+    let mut clock = ListClock::new(MOMENTS.to_vec(alloc)?);
     let finish = wiki_main(alloc, &words, vault, &mut source, &mut sink, &mut clock);
     Ok(Ran {
         status: finish.status,
         points: finish.points,
         bad: finish.bad,
-        has_store: finish.store.is_some(),
+        version: version(finish.store),
         written: sink.bytes().to_vec(alloc)?,
     })
 }
@@ -71,4 +96,10 @@ pub fn script<V: Vault>(
     outside: Outside,
 ) -> Result<Ran, Memory> {
     run(alloc, "wiki script", vault, input, outside)
+}
+
+/// Whether a run of the script goes to its end, writes just the replies and hands back a store of version 2.
+pub fn is_answered<V: Vault>(alloc: Global, vault: &mut V, case: &Case) -> Result<bool, Memory> {
+    let ran = script(alloc, vault, case.lines.as_bytes(), SOUND)?;
+    Ok(ran.ends(0, 2, &case.replies))
 }

@@ -1,51 +1,59 @@
 // What no clause says: that memory which is there is used, and that each line is answered in the text that a user sees.
-use crate::rows::{Row, ROWS};
-use crate::runs::{Ran, SOUND, run, script};
+use crate::cases::case_of;
+use crate::rows::{RACE, ROWS};
+use crate::runs::{SOUND, is_answered, run, script};
 use std::alloc::Global;
 use std::test::Fail;
 use wk_cli::FileVault;
 use wk_memory::Memory;
 
-/// A run of this script over an empty store.
-fn ran(alloc: Global, lines: &[u8]) -> Result<Ran, Memory> {
-    let mut vault = FileVault::new(alloc);
-    script(alloc, &mut vault, lines, SOUND)
-}
-
-fn is_answered(alloc: Global, row: &Row) -> Result<bool, Memory> {
-    let ran = ran(alloc, row.lines.as_bytes())?;
-    Ok(ran.status == 0 && ran.written.as_slice() == row.replies.as_bytes())
+/// Whether the script of this text is answered so over an empty store.
+fn answers(alloc: Global, text: &str) -> Result<bool, Memory> {
+    is_answered(alloc, &mut FileVault::new(alloc), &case_of(alloc, text)?)
 }
 
 #[test]
 fn each_script_is_answered(rt: HostRuntime) -> Result<(), Fail> {
     let alloc = rt.alloc();
-    for row in &ROWS {
-        assert!(rt; is_answered(alloc, row)?, "{}", row.name);
+    for row in ROWS.split("=== ") {
+        let (name, text) = row.split_once('\n').unwrap_or(("the empty script", ""));
+        assert!(rt; answers(alloc, text)?, "{name}");
     }
     Ok(())
+}
+
+#[test]
+fn the_race_is_answered(rt: HostRuntime) -> Result<(), Fail> {
+    let alloc = rt.alloc();
+    assert!(rt; answers(alloc, RACE)?);
+    Ok(())
+}
+
+/// Whether a run on these words ends with status 2, and nothing is opened or written.
+fn is_refused(alloc: Global, words: &str) -> Result<bool, Memory> {
+    let ran = run(alloc, words, &mut FileVault::new(alloc), b"claim\n", SOUND)?;
+    Ok(ran.ends(2, 0, "") && ran.points.is_empty())
 }
 
 #[test]
 fn other_words_touch_nothing(rt: HostRuntime) -> Result<(), Fail> {
     let alloc = rt.alloc();
     for words in ["wiki dance", "wiki", "wiki script script", ""] {
-        let mut vault = FileVault::new(alloc);
-        let ran = run(alloc, words, &mut vault, b"claim\n", SOUND)?;
-        assert_eq!(rt; ran.status, 2, "{words}");
-        assert_eq!(rt; ran.written.len(), 0, "{words}");
-        assert_eq!(rt; ran.points.len(), 0, "{words}");
-        assert!(rt; !ran.has_store, "{words}");
+        assert!(rt; is_refused(alloc, words)?, "{words}");
     }
     Ok(())
+}
+
+/// The points of the replies to the lines over an empty store.
+fn points(alloc: Global, lines: &str) -> Result<Vec<u64>, Memory> {
+    let ran = script(alloc, &mut FileVault::new(alloc), lines.as_bytes(), SOUND)?;
+    Ok(ran.points)
 }
 
 #[test]
 fn points_stand_in_order(rt: HostRuntime) -> Result<(), Fail> {
     let alloc = rt.alloc();
     let lines = "api action=edit&title=A&text=x&token=%2B%5C\nclaim\n\nrestart\nclaim\n";
-    let ran = ran(alloc, lines.as_bytes())?;
-    assert_eq!(rt; ran.points.as_slice(), [1, 2, 0, 1].as_slice());
-    assert!(rt; ran.has_store);
+    assert_eq!(rt; points(alloc, lines)?.as_slice(), [1, 2, 0, 1].as_slice());
     Ok(())
 }
