@@ -4,6 +4,8 @@
 mod cache;
 mod entries;
 mod kept;
+#[cfg(test)]
+mod tests;
 
 pub use cache::Cache;
 pub use kept::Kept;

@@ -20,5 +20,5 @@ returns-in-Some-clause-keyed c =
 pub returns-in_default-clause-entries : goal.returns-in_default-clause-entries
 returns-in_default-clause-entries c =
     let none : entry_of c.args.page.now (drafts c.args.kept.now.entries) ≡ None =
-        entry-found c.args.page.now c.args.kept.now.entries c.requires.keyed ∙ (sym c.get_mut.ensures.value ∙ ap option_copied_mut c.in_default.is) in
+    entry-found c.args.page.now c.args.kept.now.entries c.requires.keyed ∙ (sym c.get_mut.ensures.value ∙ ap option_copied_mut c.in_default.is) in
     sym (ap (λ o. option_map_or (λ k. marked_with c.args.point c.args.uses k ∷ without c.args.page.now (drafts c.args.kept.now.entries)) o (drafts c.args.kept.now.entries)) none)
