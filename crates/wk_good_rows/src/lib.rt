@@ -6,6 +6,7 @@ mod history;
 mod jobs;
 mod links;
 mod normal;
+mod normals;
 mod number;
 mod order;
 mod pages;

@@ -5,7 +5,7 @@ ghost use Rattle.wk_table_rules.specs.GoodStore.{first_bad, first_in_tables, has
 ghost use Rattle.wk_good_rows.specs.FromPage.{is_from_page};
 ghost use Rattle.wk_good_rows.specs.Order.{IsInOrder};
 
-use crate::normal::{is_normal, is_page_title};
+use crate::normals::Normals;
 use crate::number::{has_page, page_place, row_number};
 use crate::order::is_behind;
 use std::alloc::Global;
@@ -31,6 +31,7 @@ fn is_from_page(tables: &TableRows, row: &LinkRow) -> bool
 /// it stands behind all before it.
 fn is_good_link(
     alloc: Global,
+    normals: &mut Normals,
     tables: &TableRows,
     rows: &[LinkRow],
     place: usize,
@@ -44,12 +45,13 @@ fn is_good_link(
     if !is_from_page(tables, row) || !is_behind(rows, place) {
         return Ok(false);
     }
-    is_page_title(alloc, row.namespace, &row.title)
+    normals.is_page_title(alloc, row.namespace, &row.title)
 }
 
 /// Whether the row at this place is of a page, its category is a normal title, and it stands behind all before it.
 fn is_good_category(
     alloc: Global,
+    normals: &mut Normals,
     tables: &TableRows,
     rows: &[CategoryRow],
     place: usize,
@@ -63,13 +65,14 @@ fn is_good_category(
     if !has_page(&tables.pages, row.cl_from) || !is_behind(rows, place) {
         return Ok(false);
     }
-    is_normal(alloc, CATEGORY, &row.cl_to)
+    normals.is_normal(alloc, CATEGORY, &row.cl_to)
 }
 
 /// Whether the row at this place is of a page that is above those of all rows before it, and its target is a title that
 /// a page can have.
 fn is_good_redirect(
     alloc: Global,
+    normals: &mut Normals,
     tables: &TableRows,
     rows: &[RedirectRow],
     place: usize,
@@ -83,16 +86,21 @@ fn is_good_redirect(
     if !has_page(&tables.pages, row.rd_from) || !is_behind(rows, place) {
         return Ok(false);
     }
-    is_page_title(alloc, row.rd_namespace, &row.rd_title)
+    normals.is_page_title(alloc, row.rd_namespace, &row.rd_title)
 }
 
 /// The first row of a link table that isn't good.
-fn bad_link(alloc: Global, tables: &TableRows, rows: &[LinkRow]) -> Result<Option<u64>, Memory>
+fn bad_link(
+    alloc: Global,
+    normals: &mut Normals,
+    tables: &TableRows,
+    rows: &[LinkRow],
+) -> Result<Option<u64>, Memory>
     requires { first_bad has_good_id tables.now.pages ≡ None }
     ensures { IfOk result (λ bad. bad ≡ first_bad (is_good_link tables.now) rows.now) }
 {
     for i in 0..rows.len() {
-        if !is_good_link(alloc, tables, rows, i)? {
+        if !is_good_link(alloc, normals, tables, rows, i)? {
             return Ok(Some(row_number(i)));
         }
     }
@@ -102,6 +110,7 @@ fn bad_link(alloc: Global, tables: &TableRows, rows: &[LinkRow]) -> Result<Optio
 /// The first row of categorylinks that isn't good.
 fn bad_category(
     alloc: Global,
+    normals: &mut Normals,
     tables: &TableRows,
     rows: &[CategoryRow],
 ) -> Result<Option<u64>, Memory>
@@ -109,7 +118,7 @@ fn bad_category(
     ensures { IfOk result (λ bad. bad ≡ first_bad (is_good_category tables.now) rows.now) }
 {
     for i in 0..rows.len() {
-        if !is_good_category(alloc, tables, rows, i)? {
+        if !is_good_category(alloc, normals, tables, rows, i)? {
             return Ok(Some(row_number(i)));
         }
     }
@@ -119,6 +128,7 @@ fn bad_category(
 /// The first row of redirect that isn't good.
 fn bad_redirect(
     alloc: Global,
+    normals: &mut Normals,
     tables: &TableRows,
     rows: &[RedirectRow],
 ) -> Result<Option<u64>, Memory>
@@ -126,7 +136,7 @@ fn bad_redirect(
     ensures { IfOk result (λ bad. bad ≡ first_bad (is_good_redirect tables.now) rows.now) }
 {
     for i in 0..rows.len() {
-        if !is_good_redirect(alloc, tables, rows, i)? {
+        if !is_good_redirect(alloc, normals, tables, rows, i)? {
             return Ok(Some(row_number(i)));
         }
     }
@@ -169,11 +179,13 @@ pub fn bad_link_row(alloc: Global, tables: &TableRows) -> Result<Option<u64>, Me
     requires { first_bad has_good_id tables.now.pages ≡ None }
     ensures { IfOk result (λ bad. bad ≡ first_in_tables (judged_links tables.now)) }
 {
-    let pagelink = bad_link(alloc, tables, &tables.pagelinks)?;
-    let templatelink = bad_link(alloc, tables, &tables.templatelinks)?;
-    let existlink = bad_link(alloc, tables, &tables.existlinks)?;
-    let category = bad_category(alloc, tables, &tables.categorylinks)?;
-    let redirect = bad_redirect(alloc, tables, &tables.redirects)?;
+    let mut normals = Normals::new(alloc);
+    let normals = &mut normals;
+    let pagelink = bad_link(alloc, normals, tables, &tables.pagelinks)?;
+    let templatelink = bad_link(alloc, normals, tables, &tables.templatelinks)?;
+    let existlink = bad_link(alloc, normals, tables, &tables.existlinks)?;
+    let category = bad_category(alloc, normals, tables, &tables.categorylinks)?;
+    let redirect = bad_redirect(alloc, normals, tables, &tables.redirects)?;
     let judged = [
         (tables.pagelinks.len(), pagelink),
         (tables.templatelinks.len(), templatelink),

@@ -1,5 +1,5 @@
 //! Sets of titles.
-ghost use Rattle.std.specs.Prelude.{◌≡◌, [], ◌||◌, not, IfOk, OnOk};
+ghost use Rattle.std.specs.Prelude.{◌≡◌, [], ◌||◌, not, IfOk, OnErr, OnOk};
 ghost use Rattle.wk_text_rules.specs.Titles.{PageTitle, title_eq};
 ghost use Rattle.wk_good_rows.specs.Among.{is_among};
 
@@ -63,6 +63,7 @@ impl TitleSet {
     pub fn add(&mut self, ns: i64, key: &Text) -> Result<bool, Memory>
         ensures new { IfOk result (λ new. new ≡ not (is_among (record { ns = ns; key = key.now }) self.old)) }
         ensures titles { OnOk result ((other : PageTitle) → is_among other self.new ≡ (title_eq (record { ns = ns; key = key.now }) other || is_among other self.old)) }
+        ensures refused { OnErr result (self.new ≡ self.old) }
     {
         let key = key.share()?;
         Ok(self.titles.insert(RowTitle { ns, key })?)

@@ -1,5 +1,6 @@
 mod EntryLaws
 mod FindsLaws
+mod GatheredLaws
 mod LoadLaws
 mod MembersLaws
 mod NamedLaws

@@ -1,5 +1,6 @@
 pub mod Entries
 pub mod Found
+pub mod Gathered
 pub mod Held
 pub mod InOrder
 pub mod Loadable

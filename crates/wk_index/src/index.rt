@@ -9,23 +9,22 @@ ghost use Rattle.wk_job_rules.specs.Users.{some_page_names, users};
 ghost use Rattle.wk_listing_rules.specs.Links.{linking_pages};
 ghost use Rattle.wk_listing_rules.specs.Members.{members_behind};
 ghost use Rattle.wk_listing_rules.specs.Names.{AreAmong, admitted, with_rows_at};
+ghost use Rattle.wk_index.specs.Found.{FindsAll};
 ghost use Rattle.wk_index.specs.Held.{rows_of};
-ghost use Rattle.wk_index.specs.Loadable.{AreLoadable};
 ghost use Rattle.wk_index.specs.Named.{listed, rows_at};
 
 use crate::blanks::Blanks;
 use crate::found::Found;
-use crate::load::page_rows;
+use crate::loading::load_rows;
 use crate::members::{MemberPage, members};
 use crate::named::{Kind, kind_of, pages};
 use crate::pages::{joined_at, replace_rows, rows_at};
 use crate::shared_rows::SharedRows;
-use crate::title_map::TitleMap;
 use std::alloc::Global;
 use std::marker::Model;
 use wk_memory::Memory;
 use wk_row_rules::Reach;
-use wk_table_rows::{PageRows, TableRows, share_all};
+use wk_table_rows::{PageRows, share_all};
 use wk_tables::Tables;
 use wk_title::Title;
 
@@ -81,19 +80,21 @@ impl Index {
         ensures { IfOk result (λ index. index.stored ≡ stored_rows tables.now.tables) }
     {
         let rows = tables.rows()?;
-        of_rows(&rows)
+        load_rows(&rows)
     }
 
-    /// Adds a page with these rows.
-    fn push(&mut self, rows: PageRows) -> Result<(), Memory>
-        requires { length self.old.stored < max_pages }
-        ensures stored { OnOk result (self.new.stored ≡ self.old.stored ++ rows ∷ []) }
+    /// The index of these rows, which the pages are found by, and no room. Takes no memory.
+    pub(crate) fn found_by(alloc: Global, rows: Vec<SharedRows>, found: Found) -> Index
+        requires found { FindsAll rows.items found }
+        requires few { length rows.items ≤ max_pages }
+        ensures { result ≡ record { stored = rows.items; spare = 0 } }
     {
-        self.make_room(1)?;
-        self.found.add(&rows, self.rows.len() as u32 + 1)?;
-        self.rows.push_reserved(SharedRows::new(rows)?);
-        self.spare -= 1;
-        Ok(())
+        Index {
+            rows,
+            found,
+            blanks: Blanks::new(alloc),
+            spare: 0,
+        }
     }
 
     /// Makes room for this many pages more than there are. Room that was there before stays.
@@ -241,19 +242,4 @@ impl Index {
             most,
         )
     }
-}
-
-/// The rows of each page, in one walk over the pages. Rows that name one title share it.
-fn of_rows(rows: &TableRows) -> Result<Index, Memory>
-    requires { AreLoadable rows.now }
-    ensures { IfOk result (λ index. index.stored ≡ stored_rows rows.now) }
-{
-    let pages = rows.pages.as_slice();
-    let alloc = *rows.pages.allocator();
-    let mut made = TitleMap::new(alloc);
-    let mut index = Index::new(alloc);
-    for page in pages {
-        index.push(page_rows(alloc, &mut made, rows, page.page_id)?)?;
-    }
-    Ok(index)
 }

@@ -4,9 +4,11 @@
 mod blanks;
 mod entries;
 mod found;
+mod gathered;
 mod index;
 mod joined;
 mod load;
+mod loading;
 mod lookup;
 mod members;
 mod named;

@@ -3,5 +3,5 @@ use Rattle.wk_index.specs.Loadable.{AreLoadable}
 use Rattle.wk_index.proofs.LoadLaws.{AreLoadable-from_good}
 use Rattle.wk_index.proofs.index.Index.load.Goals as goal
 
-pub of_rows-requires : goal.of_rows-requires
-of_rows-requires c = subst AreLoadable (sym c.in_ok-rows.ensures) (AreLoadable-from_good c.args.tables.now.tables c.requires)
+pub load_rows-requires : goal.load_rows-requires
+load_rows-requires c = subst AreLoadable (sym c.in_ok-rows.ensures) (AreLoadable-from_good c.args.tables.now.tables c.requires)
