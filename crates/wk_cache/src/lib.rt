@@ -4,8 +4,6 @@
 mod cache;
 mod entries;
 mod kept;
-#[cfg(test)]
-mod tests;
 
 pub use cache::Cache;
 pub use kept::Kept;
