@@ -13,6 +13,9 @@ pub enum Case {
     Wiki(Task),
     /// A wiki is opened over a store of its own, and this is asked.
     Answers(wk_bench_answers::Asked),
+    /// A wiki is opened over an empty store, and so many threads share it. Each makes the edits, all of a page of its own,
+    /// and so many fetches behind each edit.
+    Shared { threads: u64 },
 }
 
 /// A case, how many pages the store has, how many of them are edited first, and how often it is done behind them.
@@ -27,10 +30,14 @@ pub struct Asked {
 /// The greatest number.
 const MOST: u64 = 1_000_000;
 
+/// The greatest number of threads.
+const MOST_THREADS: u64 = 64;
+
 pub const USAGE: &str = "wk_bench_wikis store|load PAGES, wk_bench_wikis edits PAGES EDITS, \
-wk_bench_wikis users PAGES TIMES, wk_bench_wikis claims|drafts|refreshes PAGES EDITS TIMES, or \
+wk_bench_wikis users PAGES TIMES, wk_bench_wikis claims|drafts|refreshes PAGES EDITS TIMES, \
+wk_bench_wikis shared THREADS EDITS TIMES, or \
 wk_bench_wikis answers parse|expand|backlinks|embedded|members|changes|revisions PAGES TIMES, \
-with PAGES, EDITS and TIMES from 1 to 1000000";
+with PAGES, EDITS and TIMES from 1 to 1000000, and THREADS from 1 to 64";
 
 /// The number, where the word is one from 1 to the greatest.
 fn number(word: &str) -> Option<u64>
@@ -106,6 +113,25 @@ fn with_both(case: Case, words: &[String]) -> Option<Asked> {
     })
 }
 
+/// Work on a shared wiki, of which the words tell the threads, the edits of each, and the fetches behind each edit.
+fn shared_asked(words: &[String]) -> Option<Asked> {
+    if words.len() != 3 {
+        return None;
+    }
+    let threads = number(&words[0])?;
+    if threads > MOST_THREADS {
+        return None;
+    }
+    let edits = number(&words[1])? as u32;
+    let times = number(&words[2])?;
+    Some(Asked {
+        case: Case::Shared { threads },
+        pages: 0,
+        edits,
+        times,
+    })
+}
+
 /// What a wiki is asked, of which the words tell the pages, and how often it is asked.
 fn answers_asked(words: &[String]) -> Option<Asked> {
     let (name, others) = words.split_first()?;
@@ -125,6 +151,7 @@ pub fn chosen(words: &[String]) -> Option<Asked> {
         "refreshes" => with_both(Case::Wiki(Task::Refreshes), others),
         "users" => with_times(Case::Wiki(Task::Users), others),
         "answers" => answers_asked(others),
+        "shared" => shared_asked(others),
         _ => None,
     }
 }

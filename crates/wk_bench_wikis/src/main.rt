@@ -1,6 +1,6 @@
 //! The program `wk_bench_wikis`, for whoever works on the engine: it makes a store in memory and does work on a wiki over
-//! it, and prints counts. Its words are a case, how many pages there are, and how often something is done. Without words
-//! it runs each case once at a small size. What one operation takes is the difference of two runs.
+//! it, and prints counts. Its words are a case, how many pages or threads there are, and how often something is done.
+//! Without words it runs each case once at a small size. What one operation takes is the difference of two runs.
 #![tactic(auto)]
 
 mod cases;
@@ -16,7 +16,7 @@ use wk_memory::Memory;
 use work::done;
 
 /// What is run without words: each of these with 20 pages, 8 edits and 5 times.
-const CASES: [Case; 14] = [
+const CASES: [Case; 15] = [
     Case::Store,
     Case::Wiki(Task::Load),
     Case::Wiki(Task::Edits),
@@ -31,6 +31,7 @@ const CASES: [Case; 14] = [
     Case::Answers(wk_bench_answers::Asked::Members),
     Case::Answers(wk_bench_answers::Asked::Changes),
     Case::Answers(wk_bench_answers::Asked::Revisions),
+    Case::Shared { threads: 4 },
 ];
 
 /// The case at a small size.
@@ -91,7 +92,7 @@ fn main(rt: HostRuntime) -> io::Result<ExitCode> {
         return Ok(ExitCode::from(2));
     };
     for asked in all {
-        match done(rt.alloc(), asked) {
+        match done(&rt, rt.alloc(), asked) {
             Ok((counted, count)) => println!(rt; "{counted} {count}")?,
             Err(refusal) => {
                 eprintln!(rt; "wk_bench_wikis: {refusal}")?;

@@ -2,11 +2,14 @@
 
 use crate::cases::{Asked, Case};
 use std::alloc::Global;
+use std::sync::Wait;
+use std::thread::Threads;
 use thiserror::Error;
 use wk_bench_answers::{AnswersRefusal, answered, asked_word};
 use wk_bench_core::{Task, Work, WorkRefusal, store, worked};
 use wk_keeper::MemKeeper;
 use wk_memory::Memory;
+use wk_tables::Tables;
 
 /// Why what is asked isn't done.
 #[derive(Debug, Drop, Error)]
@@ -56,6 +59,24 @@ fn answered_in_memory(
     }
 }
 
+/// Lets so many threads work on one wiki over an empty store, each on a page of its own. The revisions of the wiki behind it.
+fn shared_in_memory<R: Threads + Wait + Sync>(
+    rt: &R,
+    alloc: Global,
+    threads: u64,
+    edits: u32,
+    times: u64,
+) -> Result<u64, Memory> {
+    let work = wk_bench_shared::Work {
+        pages: threads.max(1),
+        saves: edits as u64,
+        fetches: times,
+    };
+    let keeper = MemKeeper::new(Tables::new(alloc));
+    let ended = wk_bench_shared::worked(rt, alloc, keeper, work, threads)?;
+    Ok(ended.wiki.revision_count())
+}
+
 /// The name of the task and of what it counts.
 fn counted(task: Task) -> &'static str {
     match task {
@@ -69,7 +90,11 @@ fn counted(task: Task) -> &'static str {
 }
 
 /// Does what is asked. The name of the case and of what it counts, and the count.
-pub fn done(alloc: Global, asked: Asked) -> Result<(&'static str, u64), Refusal> {
+pub fn done<R: Threads + Wait + Sync>(
+    rt: &R,
+    alloc: Global,
+    asked: Asked,
+) -> Result<(&'static str, u64), Refusal> {
     let Asked {
         case,
         pages,
@@ -85,6 +110,10 @@ pub fn done(alloc: Global, asked: Asked) -> Result<(&'static str, u64), Refusal>
         Case::Answers(question) => {
             let bytes = answered_in_memory(alloc, pages, question, times)?;
             Ok((asked_word(question), bytes))
+        }
+        Case::Shared { threads } => {
+            let revisions = shared_in_memory(rt, alloc, threads, edits, times)?;
+            Ok(("shared: revisions", revisions))
         }
     }
 }
