@@ -10,6 +10,10 @@ use crate::wire::{Stream, stream_named};
 pub enum Case {
     /// So many turns in all, on so many threads.
     Turns(Turns),
+    /// Two threads hand one word to and fro, each so many times, by sleeping and waking.
+    Handoff {
+        times: u64,
+    },
     /// What is included of a text is selected.
     Select(Reading),
     /// A text is cut into its atoms.
@@ -106,7 +110,7 @@ pub struct Reading {
 }
 
 pub const USAGE: &str = "wk_bench turns N T, with N from 0 to 10000000 and T from 1 to 64; or \
-wk_bench select|atoms|tree|links SORT SIZE ROUNDS, wk_bench same SIZE ROUNDS, wk_bench append TIMES, \
+wk_bench select|atoms|tree|links SORT SIZE ROUNDS, wk_bench same SIZE ROUNDS, wk_bench append|handoff TIMES, \
 wk_bench expand|cold infobox|calls|nesting|deepest ROUNDS, wk_bench resume|anew TEMPLATES, wk_bench stack ROUNDS, or \
 wk_bench http messages|head|body SIZE PIECE, with SIZE and PIECE up to 16777216, or \
 wk_bench set_page|add_revision TIMES, wk_bench set_rows PAGES TIMES, wk_bench broken PAGES, \
@@ -251,6 +255,9 @@ pub fn chosen(words: &[String]) -> Option<Case> {
     let (name, others) = words.split_first()?;
     match name.as_str() {
         "turns" => Some(Case::Turns(turns_asked(others)?)),
+        "handoff" => Some(Case::Handoff {
+            times: only_asked(others)?,
+        }),
         "select" => Some(Case::Select(reading_asked(others)?)),
         "atoms" => Some(Case::Atoms(reading_asked(others)?)),
         "tree" => Some(Case::Tree(reading_asked(others)?)),

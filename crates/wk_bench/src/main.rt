@@ -5,6 +5,7 @@
 
 mod cases;
 mod drafts;
+mod handoff;
 mod lists;
 mod reading;
 mod stores;
@@ -26,11 +27,12 @@ use wire::Stream;
 use wk_memory::Memory;
 
 /// What is run without words.
-const SMALL: [Case; 24] = [
+const SMALL: [Case; 25] = [
     Case::Turns(Turns {
         turns: 400,
         threads: 4,
     }),
+    Case::Handoff { times: 100 },
     Case::Select(Reading {
         sort: Sort::Ordinary,
         size: 4096,
@@ -129,6 +131,7 @@ fn worked<R: Threads + Wait + Sync>(
             "turns: entries",
             turns::run(rt, alloc, turns, threads)?,
         )),
+        Case::Handoff { times } => Ok(("handoff: hands", handoff::run(rt, times))),
         Case::Select(Reading { sort, size, rounds }) => {
             Ok((
                 "select: bytes",

@@ -1,7 +1,7 @@
 //! Runs of the program one after the other, each over the store that the one before it left.
 use std::alloc::Global;
 use wk_base::{ListClock, MemSink, MemSource};
-use wk_cli::wiki_main;
+use wk_cli::{Finish, wiki_main};
 use wk_keeper::{Keeper, MemVault};
 use wk_memory::Memory;
 use wk_tables::{BadStore, Tables};
@@ -86,14 +86,20 @@ pub fn run(
         &mut sink,
         &mut clock,
     );
-    let tables = match finish.store {
+    let Finish {
+        status,
+        points,
+        bad,
+        store,
+    } = finish;
+    let tables = match store {
         Some(mut store) => store.load().ok(),
         None => None,
     };
     Ok(Ran {
-        status: finish.status,
-        bad: finish.bad,
-        points: finish.points.len(),
+        status,
+        bad,
+        points: points.len(),
         written: sink.bytes().to_vec(alloc)?,
         tables,
     })
@@ -108,10 +114,11 @@ pub fn chain(alloc: Global, tables: Tables, runs: &[Run]) -> Result<Result<Table
         if !ran.ends(*status, written) {
             return Ok(Err(place + 1));
         }
-        match ran.tables {
-            Some(left) => tables = left,
-            None => return Ok(Err(place + 1)),
-        }
+        let Ran { tables: left, .. } = ran;
+        let Some(left) = left else {
+            return Ok(Err(place + 1));
+        };
+        tables = left;
     }
     Ok(Ok(tables))
 }

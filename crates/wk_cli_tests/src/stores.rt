@@ -141,9 +141,19 @@ fn tables_with_link(alloc: Global, version: u64, body: &'static str) -> Result<T
 /// A page whose text has no link has a link row.
 const DIFFERS: [Run; 4] = [
     ("wiki check", "", 8, "differ A\npages 1 differ 1\n"),
-    ("wiki check --procs 64 --number 0", "", 8, "differ A\npages 1 differ 1\n"),
+    (
+        "wiki check --procs 64 --number 0",
+        "",
+        8,
+        "differ A\npages 1 differ 1\n",
+    ),
     ("wiki jobs", "", 0, "jobs 0\n"),
-    ("wiki gen --pages 1", "", 8, "pages 4 revisions 4 jobs 0 differ 1\n"),
+    (
+        "wiki gen --pages 1",
+        "",
+        8,
+        "pages 4 revisions 4 jobs 0 differ 1\n",
+    ),
 ];
 
 #[test]
