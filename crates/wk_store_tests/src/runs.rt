@@ -5,7 +5,7 @@ use std::alloc::Global;
 use std::fs;
 use std::test::Fail;
 use wk_base::{ListClock, MemSink, MemSource};
-use wk_cli::wiki_main;
+use wk_cli::{Finish, wiki_main};
 use wk_memory::Memory;
 use wk_vault::FileVault;
 
@@ -21,30 +21,47 @@ fn words(alloc: Global, text: &str) -> Result<Vec<String>, Memory> {
     Ok(words)
 }
 
-/// The status and the output of a run on these words and this input.
-fn run(rt: &HostRuntime, text: &str, input: &str) -> Result<(u8, Vec<u8>), Memory> {
+/// The status of a run. The store that it hands back is let go.
+fn status(
+    alloc: Global,
+    words: &[String],
+    vault: &mut FileVault<'_>,
+    source: &mut MemSource,
+    sink: &mut MemSink,
+    clock: &mut ListClock,
+) -> u8 {
+    let Finish {
+        status,
+        points: _,
+        bad: _,
+        store: _,
+    } = wiki_main(alloc, words, vault, source, sink, clock);
+    status
+}
+
+/// The status of a run on these words and this input, whose output goes to the sink.
+fn run(rt: &HostRuntime, text: &str, input: &str, sink: &mut MemSink) -> Result<u8, Memory> {
     let alloc = rt.alloc();
     let words = words(alloc, text)?;
     let mut vault = FileVault::new(rt);
     let mut source = MemSource::new(input.as_bytes().to_vec(alloc)?, Vec::new(alloc));
-    let mut sink = MemSink::new(alloc, 65_536, Vec::new(alloc))?;
     let mut clock = ListClock::new([7].to_vec(alloc)?);
-    let finish = wiki_main(
-        alloc,
-        &words,
-        &mut vault,
-        &mut source,
-        &mut sink,
-        &mut clock,
-    );
-    Ok((finish.status, sink.bytes().to_vec(alloc)?))
+    Ok(status(alloc, &words, &mut vault, &mut source, sink, &mut clock))
+}
+
+/// Whether the run ends as is expected.
+fn is_as_expected(rt: &HostRuntime, expected: &Run) -> Result<bool, Memory> {
+    let (words, input, written) = *expected;
+    let alloc = rt.alloc();
+    let mut sink = MemSink::new(alloc, 65_536, Vec::new(alloc))?;
+    let status = run(rt, words, input, &mut sink)?;
+    Ok(status == 0 && sink.bytes().ends_with(written.as_bytes()))
 }
 
 /// Whether each of the runs, one after the other, ends as is expected.
 fn are_as_expected(rt: &HostRuntime, runs: &[Run]) -> Result<bool, Memory> {
-    for (words, input, written) in runs {
-        let (status, output) = run(rt, *words, *input)?;
-        if status != 0 || !output.as_slice().ends_with(written.as_bytes()) {
+    for expected in runs {
+        if !is_as_expected(rt, expected)? {
             return Ok(false);
         }
     }
