@@ -1,10 +1,11 @@
 //! The program `wiki`: a thin `main` over the top call.
 #![tactic(auto)]
 
+use std::alloc::Global;
 use std::process::ExitCode;
 use std::rt::Env;
 use std::{env, io};
-use wk_base::{Failed, ReadSource, SystemClock, WriteSink};
+use wk_base::{Clock, Failed, ReadSource, Sink, Source, SystemClock, WriteSink};
 use wk_cli::{Finish, refusal_text, wiki_main};
 use wk_core::BadStore;
 use wk_vault::{FileVault, Stored};
@@ -68,6 +69,36 @@ fn close(store: Option<Stored>) -> Result<(), Failed> {
     }
 }
 
+/// How the program ended, with its store ended too.
+struct Ended {
+    status: u8,
+    bad: Option<BadStore>,
+    closed: Result<(), Failed>,
+}
+
+/// Makes the top call, and ends the store.
+fn ran<I: Source, O: Sink, C: Clock>(
+    alloc: Global,
+    words: &[String],
+    vault: &mut FileVault<'_>,
+    input: &mut I,
+    output: &mut O,
+    clock: &mut C,
+) -> Ended {
+    let Finish {
+        status,
+        points: _,
+        bad,
+        store,
+    } = wiki_main(alloc, words, vault, input, output, clock);
+    let closed = close(store);
+    Ended {
+        status,
+        bad,
+        closed,
+    }
+}
+
 /// Tells where the log of the store wasn't copied into its file.
 fn tell_log(rt: &HostRuntime, closed: Result<(), Failed>) -> io::Result<()> {
     match closed {
@@ -84,7 +115,11 @@ fn main(rt: HostRuntime) -> io::Result<ExitCode> {
     let mut input = ReadSource::new(rt.reader());
     let mut output = WriteSink::new(io::writer(&rt));
     let mut clock = SystemClock::new(&rt);
-    let finish = wiki_main(
+    let Ended {
+        status,
+        bad,
+        closed,
+    } = ran(
         rt.alloc(),
         &words,
         &mut vault,
@@ -92,13 +127,6 @@ fn main(rt: HostRuntime) -> io::Result<ExitCode> {
         &mut output,
         &mut clock,
     );
-    let Finish {
-        status,
-        points: _,
-        bad,
-        store,
-    } = finish;
-    let closed = close(store);
     tell_cause(&rt, &vault)?;
     tell(&rt, &words, status, bad)?;
     tell_log(&rt, closed)?;
