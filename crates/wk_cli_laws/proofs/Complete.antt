@@ -1,0 +1,291 @@
+-- Which ends need a fault.
+use Rattle.std.proofs.Common.{◌≡◌, ◌≢◌, ◌≤◌, ℕ, ◌+◌, ◌⊎◌, Bool, true, List, [], ◌∷◌, Option, Some, None, Result, IfSome, is_some, refl, sym, ap, ◌∙◌, subst, inl, inr, arith}
+use Rattle.wk_base.specs.Faults.{Rose}
+use Rattle.wk_table_rules.specs.GoodStore.{first_broken}
+use Rattle.wk_table_rules.specs.Rows.{StoreTables}
+use Rattle.wk_page_rules.specs.Verdict.{EditAsked}
+use Rattle.wk_state_rules.specs.States.{State}
+use Rattle.wk_answer_rules.specs.Values.{ApiReply}
+use Rattle.wk_revs.specs.declared.verdict.SaveRefusal.{SaveRefusal}
+use Rattle.wk_revs.specs.declared.verdict.SaveRefusal.TheVariants as refusal
+use Rattle.wk_core.specs.Loads.{bad_store_of}
+use Rattle.wk_core.specs.Seen.{WikiSeen}
+use Rattle.wk_core.specs.declared.outcomes.LoadCause.{LoadCause}
+use Rattle.wk_core.specs.declared.outcomes.LoadCause.TheVariants as cause
+use Rattle.wk_commands.specs.Checked.{IsCompared}
+use Rattle.wk_commands.specs.Drained.{IsDrained}
+use Rattle.wk_commands.specs.Generated.{IsGenerated, end_of_refusal}
+use Rattle.wk_commands.specs.Generated as made
+use Rattle.wk_commands.specs.Worked.{IsWorked, IsWorkedOn}
+use Rattle.wk_commands.specs.Worked as worked
+use Rattle.wk_commands.specs.declared.ends.CommandEnd.{CommandEnd}
+use Rattle.wk_commands.specs.declared.ends.CommandEnd.TheVariants as command
+use Rattle.wk_commands.specs.declared.works.Work.{Work}
+use Rattle.wk_commands.specs.declared.works.Work.TheVariants as asks
+use Rattle.wk_script_runs.specs.Ends.{keeper_left}
+use Rattle.wk_script_runs.specs.Outside.{Outside}
+use Rattle.wk_script_runs.specs.Served.{StoreFaults, no_replies, passed_over, risen}
+use Rattle.wk_script.specs.Report.{IsRunTo, bad_of}
+use Rattle.wk_script.specs.declared.script.ScriptEnd.{ScriptEnd}
+use Rattle.wk_script.specs.declared.script.ScriptEnd.TheVariants as end
+use Rattle.wk_words.specs.Verdicts.{Wanted, refused, runs, shows_help, shows_version}
+use Rattle.wk_words.specs.declared.commands.Command.{Command}
+use Rattle.wk_words.specs.declared.commands.Command.TheVariants.{Script, Jobs, Check, Generate}
+use Rattle.wk_cli.specs.Statuses.{status_of_cause, status_of_command, status_of_end, status_of_work}
+use Rattle.wk_cli.specs.Scripted.{IsOpened, IsOver, IsScripted, VaultStore}
+use Rattle.wk_cli.specs.Scripted as script
+use Rattle.wk_cli.specs.Works.{IsWorkedAt, IsWorkedOver}
+use Rattle.wk_cli.specs.Works as work
+use Rattle.wk_cli.specs.Finished.{IsCarriedOut, IsFinished, VaultTold, store_named, work_of}
+use Rattle.wk_cli.specs.Finished as finished
+use Rattle.wk_cli.specs.declared.ends.Finish.{Finish}
+use Rattle.wk_cli_laws.specs.Complete.{EndsWithoutFault, HasNoFault}
+
+-- ---- counts
+
+-- a count that stands at 0 hasn't risen
+not-risen : (before now : ℕ) → now ≡ 0 → Rose before now → ⊥
+not-risen before now is rose = omega (arith, is, rose)
+
+not-risen-by : (before n now : ℕ) → now ≡ 0 → risen before (n + 1) ≤ now → ⊥
+not-risen-by before n now is rose = omega (arith, is, rose)
+
+-- of any replies none at least tell of a fault of the store
+no-faults : (replies : List ApiReply) → StoreFaults replies 0
+no-faults [] = no_replies
+no-faults (reply ∷ replies) = passed_over (no-faults replies)
+
+-- ---- statuses
+
+-- each command may end for want of memory
+memory-ends : (asked : Command) → EndsWithoutFault asked 1
+memory-ends Script = refl
+memory-ends Jobs = refl
+memory-ends Check = refl
+memory-ends Generate = refl
+
+at-status : (asked : Command) (status other : ℕ) → status ≡ other → EndsWithoutFault asked other → EndsWithoutFault asked status
+at-status asked status other is ends = subst (EndsWithoutFault asked) (sym is) ends
+
+-- the command that asks for a work
+abbrev command_of : Work → Command
+command_of asks.Jobs = Jobs
+command_of asks.Check = Check
+command_of (asks.Generate pages number) = Generate
+
+named : (c : Command) (pages number : ℕ) (asked : Work) → work_of c pages number ≡ Some asked → command_of asked ≡ c
+named Script pages number asked is = absurd (let e : None ≡ Some asked = is in cc)
+named Jobs pages number asked is = let same : asks.Jobs ≡ asked = (let e : Some asks.Jobs ≡ Some asked = is in cc) in ap command_of (sym same)
+named Check pages number asked is = let same : asks.Check ≡ asked = (let e : Some asks.Check ≡ Some asked = is in cc) in ap command_of (sym same)
+named Generate pages number asked is =
+    let same : asks.Generate pages number ≡ asked = (let e : Some (asks.Generate pages number) ≡ Some asked = is in cc) in ap command_of (sym same)
+
+-- ---- stores
+
+module _ {K : Type 0} (faults : K → ℕ) where
+  held-of : (store : Option K) (left : K) → store ≡ Some left → IfSome store (λ k. faults k ≡ 0) → faults left ≡ 0
+  held-of store left is held = subst (λ (o : Option K). IfSome o (λ k. faults k ≡ 0)) is held
+
+  held-by : (store : Option K) (left : K) → store ≡ Some left → faults left ≡ 0 → IfSome store (λ k. faults k ≡ 0)
+  held-by store left is held = subst (λ (o : Option K). IfSome o (λ k. faults k ≡ 0)) (sym is) held
+
+  held-none : (store : Option K) → store ≡ None → IfSome store (λ k. faults k ≡ 0)
+  held-none store is = subst (λ (o : Option K). IfSome o (λ k. faults k ≡ 0)) (sym is) tt
+
+module _ {K : Type 0} (told : K → Option StoreTables) (faults : K → ℕ) where
+  -- a store of good tables isn't opened for want of memory alone
+  load-ends : (keeper left : K) (tables : StoreTables) (why : LoadCause) → told keeper ≡ Some tables → first_broken tables ≡ None
+      → IfSome (bad_store_of why) (λ row. IfSome (told keeper) (λ t. first_broken t ≡ Some row))
+      → (why ≡ cause.StoreFault → Rose (faults keeper) (faults left)) → faults left ≡ 0 → status_of_cause why ≡ 1
+  load-ends keeper left tables cause.Memory told_is good broken fault held = refl
+  load-ends keeper left tables cause.StoreFault told_is good broken fault held = absurd (not-risen (faults keeper) (faults left) held (fault refl))
+  load-ends keeper left tables (cause.BadStore bad) told_is good broken fault held =
+      let row : first_broken tables ≡ Some bad = subst (λ (o : Option StoreTables). IfSome o (λ t. first_broken t ≡ Some bad)) told_is broken in
+      absurd (let e : None ≡ Some bad = sym good ∙ row in cc)
+
+-- ---- scripts
+
+module _ {K : Type 0} (told : K → Option StoreTables) (faults : K → ℕ) (before after : Outside) where
+  run-ends : (wiki : WikiSeen K) (how : ScriptEnd) (points : List ℕ) (handed : Result (WikiSeen K) K) (status : ℕ)
+      → IsRunTo told faults wiki before after how points handed → faults (keeper_left handed) ≡ 0 → bad_of how ≡ None
+      → status ≢ 3 → status ≢ 4 → status ≡ status_of_end how → EndsWithoutFault Script status
+  run-ends wiki end.Done points handed status run held good read written is = at-status Script status 0 is refl
+  run-ends wiki end.Memory points handed status run held good read written is = at-status Script status 1 is refl
+  run-ends wiki end.ReadFault points handed status run held good read written is = absurd (read is)
+  run-ends wiki end.WriteFault points handed status run held good read written is = absurd (written is)
+  run-ends wiki end.StoreFault points handed status run held good read written is =
+      absurd (not-risen-by (faults wiki.keeper) 0 (faults (keeper_left handed)) held (run.run.answered.failed 0 (no-faults run.run.replies)))
+  run-ends wiki (end.BadStore bad) points handed status run held good read written is = absurd (let e : Some bad ≡ None = good in cc)
+  run-ends wiki end.Bound points handed status run held good read written is = at-status Script status 9 is refl
+
+  -- the count of a whole store stays, however the run ends
+  run-whole : (wiki : WikiSeen K) (how : ScriptEnd) (points : List ℕ) (handed : Result (WikiSeen K) K)
+      → IsRunTo told faults wiki before after how points handed → wiki.start.whole ≡ true → faults (keeper_left handed) ≡ faults wiki.keeper
+  run-whole wiki end.Done points handed run whole = run.answered.whole whole
+  run-whole wiki end.Memory points handed run whole = run.run.answered.whole whole
+  run-whole wiki end.ReadFault points handed run whole = run.run.answered.whole whole
+  run-whole wiki end.WriteFault points handed run whole = run.run.answered.whole whole
+  run-whole wiki end.StoreFault points handed run whole = run.run.answered.whole whole
+  run-whole wiki (end.BadStore bad) points handed run whole = run.run.answered.whole whole
+  run-whole wiki end.Bound points handed run whole = run.run.answered.whole whole
+
+-- ---- works
+
+compared-ends : (state : State) (text : List ℕ) (before after : Option (List ℕ)) (how : CommandEnd) (status : ℕ)
+    → IsCompared state text before after how → status ≢ 4 → status ≡ status_of_command how → EndsWithoutFault Check status
+compared-ends state text before after command.Done status done written is = at-status Check status 0 is refl
+compared-ends state text before after command.Memory status done written is = at-status Check status 1 is refl
+compared-ends state text before after command.Differs status done written is = at-status Check status 8 is refl
+compared-ends state text before after command.WriteFault status done written is = absurd (written is)
+compared-ends state text before after command.StoreFault status done written is = absurd (done.no_fault refl)
+compared-ends state text before after command.Full status done written is = absurd (done.not_full refl)
+
+module _ {K : Type 0} {told : K → Option StoreTables} {faults : K → ℕ} where
+  drained-ends : (old new : WikiSeen K) (before after : Option (List ℕ)) (how : CommandEnd) (status : ℕ)
+      → IsDrained told faults old new before after how → faults new.keeper ≡ 0 → status ≢ 4 → status ≡ status_of_command how → EndsWithoutFault Jobs status
+  drained-ends old new before after command.Done status done held written is = at-status Jobs status 0 is refl
+  drained-ends old new before after command.Memory status done held written is = at-status Jobs status 1 is refl
+  drained-ends old new before after command.Full status done held written is = at-status Jobs status 10 is refl
+  drained-ends old new before after command.WriteFault status done held written is = absurd (written is)
+  drained-ends old new before after command.StoreFault status done held written is = absurd (not-risen (faults old.keeper) (faults new.keeper) held (done.fault refl))
+  drained-ends old new before after command.Differs status done held written is = absurd (done.compares_nothing refl)
+
+-- a refusal of a save that ends as a fault of the store is one
+refused-by-fault : (why : SaveRefusal) → command.StoreFault ≡ end_of_refusal why → why ≡ refusal.StoreFault
+refused-by-fault refusal.StoreFault is = refl
+refused-by-fault refusal.Memory is = absurd (let e : command.StoreFault ≡ command.Memory = is in cc)
+refused-by-fault refusal.InvalidTitle is = absurd (let e : command.StoreFault ≡ command.Full = is in cc)
+refused-by-fault refusal.ContentTooBig is = absurd (let e : command.StoreFault ≡ command.Full = is in cc)
+refused-by-fault refusal.ArticleExists is = absurd (let e : command.StoreFault ≡ command.Full = is in cc)
+refused-by-fault refusal.MissingTitle is = absurd (let e : command.StoreFault ≡ command.Full = is in cc)
+refused-by-fault (refusal.EditConflict current) is = absurd (let e : command.StoreFault ≡ command.Full = is in cc)
+refused-by-fault (refusal.WikiFull limit) is = absurd (let e : command.StoreFault ≡ command.Full = is in cc)
+refused-by-fault refusal.JournalFull is = absurd (let e : command.StoreFault ≡ command.Full = is in cc)
+
+module _ {K : Type 0} {faults : K → ℕ} {edits : List EditAsked} {left later before after : Option (List ℕ)} where
+  generated-fault : (old new : WikiSeen K) → IsGenerated faults edits old new left later before after command.StoreFault → faults new.keeper ≡ 0 → ⊥
+  generated-fault old new (made.settled middle saved done) held = not-risen (faults middle.keeper) (faults new.keeper) held (done.fault refl)
+  generated-fault old new (made.refused why at is kept fault) held = not-risen (faults old.keeper) (faults new.keeper) held (fault (refused-by-fault why is))
+
+  generated-ends : (old new : WikiSeen K) (how : CommandEnd) (status : ℕ)
+      → IsGenerated faults edits old new left later before after how → faults new.keeper ≡ 0 → status ≢ 4 → status ≡ status_of_command how → EndsWithoutFault Generate status
+  generated-ends old new command.Done status done held written is = at-status Generate status 0 is refl
+  generated-ends old new command.Memory status done held written is = at-status Generate status 1 is refl
+  generated-ends old new command.Differs status done held written is = at-status Generate status 8 is refl
+  generated-ends old new command.Full status done held written is = at-status Generate status 10 is refl
+  generated-ends old new command.WriteFault status done held written is = absurd (written is)
+  generated-ends old new command.StoreFault status done held written is = absurd (generated-fault old new done held)
+
+module _ {K : Type 0} (told : K → Option StoreTables) (faults : K → ℕ) (left later before after : Option (List ℕ)) where
+  done-ends : (asked : Work) (old new : WikiSeen K) (how : CommandEnd) (status : ℕ)
+      → IsWorked told faults asked old new left later before after how → faults new.keeper ≡ 0 → status ≢ 4 → status ≡ status_of_command how
+      → EndsWithoutFault (command_of asked) status
+  done-ends asks.Check old new how status done held written is = compared-ends old.state _ before after how status done.1 written is
+  done-ends asks.Jobs old new how status done held written is = drained-ends old new before after how status done held written is
+  done-ends (asks.Generate pages number) old new how status done held written is = generated-ends old new how status done held written is
+
+-- ---- the commands
+
+module _ {K : Type 0} (told : K → Option StoreTables) (faults : K → ℕ) (is_whole : K → Bool) (journal : ℕ) (kept : VaultStore) (opens later : ℕ)
+    (before after : Outside) (finish : Finish K) where
+  -- the tables that the store of the vault tells
+  told-of : (keeper : K) → IsOpened told faults is_whole kept keeper → (fine : HasNoFault faults kept opens later finish) → told keeper ≡ Some fine.tables
+  told-of keeper had fine = subst (λ (o : Option StoreTables). IfSome o (λ t. told keeper ≡ Some t)) fine.told_is had.tables
+
+  over-ends : (keeper : K) → IsOpened told faults is_whole kept keeper → IsOver told faults is_whole journal keeper before after finish
+      → HasNoFault faults kept opens later finish → EndsWithoutFault Script finish.status
+  over-ends keeper had (script.not_loaded o) fine =
+      let held = held-of faults finish.store o.left o.store_is fine.no_store_fault in
+      at-status Script finish.status 1 (o.status_is ∙ load-ends told faults keeper o.left fine.tables o.why (told-of keeper had fine) fine.good o.broken o.fault held) refl
+  over-ends keeper had (script.ran o) fine =
+      let held = held-of faults finish.store (keeper_left o.handed) o.store_is fine.no_store_fault in
+      run-ends told faults before after o.wiki o.how finish.points.items o.handed finish.status o.run held (o.not_bad (ap is_some (told-of keeper had fine)))
+      fine.no_read_fault fine.no_write_fault o.status_is
+
+  scripted-ends : IsScripted told faults is_whole journal kept opens later before after finish → HasNoFault faults kept opens later finish → EndsWithoutFault Script finish.status
+  scripted-ends (script.no_memory is none) fine = at-status Script finish.status 1 is refl
+  scripted-ends (script.not_opened is rose none) fine = absurd (fine.no_open_fault rose)
+  scripted-ends (script.over_a_store keeper had same over) fine = over-ends keeper had over fine
+
+  over-whole : (keeper : K) → IsOpened told faults is_whole kept keeper → IsOver told faults is_whole journal keeper before after finish
+      → kept.whole ≡ true → IfSome finish.store (λ left. faults left ≡ 0)
+  over-whole keeper had (script.not_loaded o) whole = held-by faults finish.store o.left o.store_is (o.whole (had.whole whole) ∙ had.no_fault)
+  over-whole keeper had (script.ran o) whole =
+      held-by faults finish.store (keeper_left o.handed) o.store_is
+      (run-whole told faults before after o.wiki o.how finish.points.items o.handed o.run (o.whole ∙ had.whole whole) ∙ (o.no_fault ∙ had.no_fault))
+
+  scripted-whole : IsScripted told faults is_whole journal kept opens later before after finish → kept.whole ≡ true → IfSome finish.store (λ left. faults left ≡ 0)
+  scripted-whole (script.no_memory is none) whole = held-none faults finish.store none.no_store
+  scripted-whole (script.not_opened is rose none) whole = held-none faults finish.store none.no_store
+  scripted-whole (script.over_a_store keeper had same over) whole = over-whole keeper had over whole
+
+  module _ (asked : Work) where
+    worked-ends : (keeper left : K) (end : Result CommandEnd LoadCause) → IsOpened told faults is_whole kept keeper
+        → IsWorkedOn told faults is_whole asked journal keeper left before.moments after.moments before.taken after.taken end
+        → finish.status ≡ status_of_work end → finish.store ≡ Some left
+        → HasNoFault faults kept opens later finish → EndsWithoutFault (command_of asked) finish.status
+    worked-ends keeper left end had (worked.not_opened why is o) status_is store_is fine =
+        let held = held-of faults finish.store left store_is fine.no_store_fault in
+        let status : finish.status ≡ status_of_cause why = status_is ∙ ap status_of_work is in
+        at-status (command_of asked) finish.status 1
+        (status ∙ load-ends told faults keeper left fine.tables why (told-of keeper had fine) fine.good o.broken o.fault held) (memory-ends (command_of asked))
+    worked-ends keeper left end had (worked.done how is o) status_is store_is fine =
+        let held = held-of faults finish.store left store_is fine.no_store_fault in
+        let status : finish.status ≡ status_of_command how = status_is ∙ ap status_of_work is in
+        done-ends told faults before.moments after.moments before.taken after.taken asked o.first o.last how finish.status o.worked (sym (ap faults o.keeper_is) ∙ held) fine.no_write_fault status
+
+    work-ends : IsWorkedAt told faults is_whole asked journal kept opens later before after finish → HasNoFault faults kept opens later finish
+        → EndsWithoutFault (command_of asked) finish.status
+    work-ends (work.no_memory is none) fine = at-status (command_of asked) finish.status 1 is (memory-ends (command_of asked))
+    work-ends (work.not_opened is rose none) fine = absurd (fine.no_open_fault rose)
+    work-ends (work.over_a_store keeper had same over) fine = worked-ends keeper over.left over.end had over.worked over.status_is over.store_is fine
+
+    work-whole : IsWorkedAt told faults is_whole asked journal kept opens later before after finish → kept.whole ≡ true → IfSome finish.store (λ left. faults left ≡ 0)
+    work-whole (work.no_memory is none) whole = held-none faults finish.store none.no_store
+    work-whole (work.not_opened is rose none) whole = held-none faults finish.store none.no_store
+    work-whole (work.over_a_store keeper had same over) whole = held-by faults finish.store over.left over.store_is (over.whole (had.whole whole) ∙ had.no_fault)
+
+module _ {K : Type 0} (told : K → Option StoreTables) (faults : K → ℕ) (is_whole : K → Bool) (opens later : ℕ) (before after : Outside) (finish : Finish K) where
+  carried-ends : (wanted : Wanted) (kept : VaultStore) → IsCarriedOut told faults is_whole wanted kept opens later before after finish
+      → HasNoFault faults kept opens later finish → EndsWithoutFault wanted.command finish.status
+  carried-ends wanted kept (finished.scripted is done) fine =
+      subst (λ (c : Command). EndsWithoutFault c finish.status) (sym is)
+      (scripted-ends told faults is_whole wanted.journal_limit kept opens later before after finish done fine)
+  carried-ends wanted kept (finished.worked asked is done) fine =
+      subst (λ (c : Command). EndsWithoutFault c finish.status) (named wanted.command wanted.pages wanted.number asked is)
+      (work-ends told faults is_whole wanted.journal_limit kept opens later before after finish asked done fine)
+
+  carried-whole : (wanted : Wanted) (kept : VaultStore) → IsCarriedOut told faults is_whole wanted kept opens later before after finish
+      → kept.whole ≡ true → IfSome finish.store (λ left. faults left ≡ 0)
+  carried-whole wanted kept (finished.scripted is done) whole =
+      scripted-whole told faults is_whole wanted.journal_limit kept opens later before after finish done whole
+  carried-whole wanted kept (finished.worked asked is done) whole =
+      work-whole told faults is_whole wanted.journal_limit kept opens later before after finish asked done whole
+
+  same-wanted : (wanted other : Wanted) → runs wanted ≡ runs other → other ≡ wanted
+  same-wanted wanted other is = let same : wanted ≡ other = cc in sym same
+
+  not-refused : (wanted : Wanted) → runs wanted ≡ refused → ⊥
+  not-refused wanted is = cc
+
+  not-shown : (wanted : Wanted) → (runs wanted ≡ shows_help) ⊎ (runs wanted ≡ shows_version) → ⊥
+  not-shown wanted (inl is) = cc
+  not-shown wanted (inr is) = cc
+
+  pub finished-ends : (wanted : Wanted) (vault : VaultTold) → IsFinished told faults is_whole (runs wanted) vault opens later before after finish
+      → HasNoFault faults (store_named vault wanted.store) opens later finish → EndsWithoutFault wanted.command finish.status
+  finished-ends wanted vault (finished.no_memory is same none) fine = at-status wanted.command finish.status 1 is (memory-ends wanted.command)
+  finished-ends wanted vault (finished.not_taken not is same none) fine = absurd (not-refused wanted not)
+  finished-ends wanted vault (finished.shown text asks same shown) fine = absurd (not-shown wanted asks)
+  finished-ends wanted vault (finished.carried_out other is done) fine =
+      carried-ends wanted (store_named vault wanted.store)
+      (subst (λ (w : Wanted). IsCarriedOut told faults is_whole w (store_named vault w.store) opens later before after finish) (same-wanted wanted other is) done) fine
+
+  pub finished-whole : (wanted : Wanted) (vault : VaultTold) → IsFinished told faults is_whole (runs wanted) vault opens later before after finish
+      → vault.whole wanted.store ≡ true → IfSome finish.store (λ left. faults left ≡ 0)
+  finished-whole wanted vault (finished.no_memory is same none) whole = held-none faults finish.store none.no_store
+  finished-whole wanted vault (finished.not_taken not is same none) whole = absurd (not-refused wanted not)
+  finished-whole wanted vault (finished.shown text asks same shown) whole = absurd (not-shown wanted asks)
+  finished-whole wanted vault (finished.carried_out other is done) whole =
+      carried-whole wanted (store_named vault wanted.store)
+      (subst (λ (w : Wanted). IsCarriedOut told faults is_whole w (store_named vault w.store) opens later before after finish) (same-wanted wanted other is) done) whole
