@@ -2,13 +2,27 @@
 use Rattle.std.specs.Prelude.{ℕ, Bool, ◌∷◌, [], List, find, length, take, Option, nat_lt, if◌then◌else◌}
 use Rattle.std.specs.Option.{option_map_or}
 use Rattle.wk_text_rules.specs.Titles.{PageTitle, title_eq}
-use Rattle.wk_wiki_rules.specs.Passes.{max_kept_output}
+use Rattle.wk_wiki_rules.specs.Passes.{CacheEntry, PageReading, max_kept_output}
 use Rattle.wk_cache.specs.declared.kept.Kept.{Kept}
 
 pub record CacheShown : Type 0 where
   -- how many entries it keeps at most
   pub most : ℕ
   pub entries : List Kept
+
+-- what an entry keeps, as the rules have it
+abbrev pub reading_kept : Kept → PageReading
+reading_kept kept = record {
+  page = kept.draft.page;
+  given = kept.draft.given;
+  expanded = kept.draft.expanded;
+  reads = kept.draft.reads;
+  number = kept.id;
+  point = kept.point;
+}
+
+abbrev pub entry_kept : Kept → CacheEntry
+entry_kept kept = record { reading = reading_kept kept; uses = kept.uses }
 
 -- the entry is of this page
 abbrev pub is_of : PageTitle → Kept → Bool

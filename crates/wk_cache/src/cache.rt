@@ -1,8 +1,8 @@
 //! The cache.
-ghost use Rattle.std.specs.Prelude.{◌≡◌, [], ◌≤◌, IfErr, IfOk, IsSome, OnErr, OnOk, length};
+ghost use Rattle.std.specs.Prelude.{◌≡◌, [], IfErr, IfOk, IsSome, OnErr, OnOk};
 ghost use Rattle.std.specs.Borrow.{sem};
 ghost use Rattle.std.specs.Option.{option_copied};
-ghost use Rattle.wk_cache.specs.Entries.{entry_of, is_long, kept_with, marked, to_front};
+ghost use Rattle.wk_cache.specs.Entries.{entry_of, kept_with, marked, to_front};
 
 use crate::entries::{find, mark, promote, put};
 use crate::kept::Kept;

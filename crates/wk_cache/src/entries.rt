@@ -1,5 +1,5 @@
 //! The entries of a cache that keeps at least one.
-ghost use Rattle.std.specs.Prelude.{◌≡◌, IfOk, IfErr, OnErr, OnOk, IsSome, is_some};
+ghost use Rattle.std.specs.Prelude.{◌≡◌, IfErr, OnErr, OnOk, IsSome};
 ghost use Rattle.std.specs.Option.{option_copied};
 ghost use Rattle.wk_cache.specs.Entries.{entry_of, marked, to_front, with_entry};
 ghost use Rattle.wk_cache.specs.Keyed.{AreKeyed, drafts};

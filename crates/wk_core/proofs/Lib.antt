@@ -1,3 +1,4 @@
+pub mod CacheFacts
 pub mod FanFacts
 pub mod HeldLives
 pub mod LoadFacts

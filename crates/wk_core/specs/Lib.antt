@@ -1,5 +1,6 @@
 pub mod Accepted
 pub mod Answers
+pub mod Cached
 pub mod Entries
 pub mod LifeHeld
 pub mod LifeInside

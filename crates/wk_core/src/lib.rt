@@ -4,6 +4,7 @@
 mod claims;
 mod fans;
 mod fetches;
+mod kept;
 mod laws;
 mod life;
 mod listings;
@@ -24,6 +25,7 @@ pub use outcomes::{
 pub use storied::{JournalEvent, WikiStart};
 pub use ticket::Ticket;
 pub use wiki::Wiki;
+pub use wk_cache::Kept;
 pub use wk_expand::{Answer, Draft, Kind, SharedDraft};
 pub use wk_index::MemberPage;
 pub use wk_jobs::Left;

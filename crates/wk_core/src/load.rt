@@ -10,6 +10,7 @@ ghost use Rattle.wk_core.specs.Loads.{HasOpened, bad_store_of};
 ghost use Rattle.wk_core.specs.Seen.{IsTold};
 ghost use Rattle.wk_core.specs.Steps.{KeeperGoesOn};
 
+use crate::kept::none_kept;
 use crate::life::Life;
 use crate::outcomes::{LoadCause, LoadRefusal};
 use crate::wiki::Wiki;
@@ -132,9 +133,17 @@ impl<K: Keeper> Wiki<K> {
         ensures never_falls { IfErr result (λ refusal. K.faults keeper ≤ K.faults refusal.keeper) }
         ensures whole_count { IfErr result (λ refusal. K.is_whole keeper ≡ true → K.faults refusal.keeper ≡ K.faults keeper) }
     {
+        let Ok(cache) = none_kept(alloc) else {
+            let cause = LoadCause::Memory;
+            return Err(LoadRefusal { keeper, cause });
+        };
         let mut keeper = keeper;
         match open_life(alloc, &mut keeper, limits) {
-            Ok(life) => Ok(Wiki { keeper, life }),
+            Ok(life) => Ok(Wiki {
+                keeper,
+                life,
+                cache,
+            }),
             Err(cause) => Err(LoadRefusal { keeper, cause }),
         }
     }

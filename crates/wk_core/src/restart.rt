@@ -6,6 +6,7 @@ ghost use Rattle.wk_life_laws.specs.Lives.{journal_of};
 ghost use Rattle.wk_life_laws.specs.Next.{Begins, new_start, with_seal};
 ghost use Rattle.wk_core.specs.Seen.{IsTold};
 
+use crate::kept::none_kept;
 use crate::life::Life;
 use crate::wiki::Wiki;
 use wk_changes::tables;
@@ -70,12 +71,17 @@ impl<K: Keeper> Wiki<K> {
         ensures keeper { result ≡ self.keeper }
         ensures told { IsTold K.told self.state result }
     {
-        let Wiki { keeper, life: _ } = self;
+        let Wiki {
+            keeper,
+            life: _,
+            cache: _,
+        } = self;
         keeper
     }
 
     /// Restarts the wiki without reading the store: each refresh job waits, in the order of their numbers, no ticket is out
-    /// any more, and the journal is empty and begins here. The wiki isn't sealed then. `Memory` leaves all as it was.
+    /// any more, and the journal is empty and begins here. The wiki isn't sealed then, and keeps no drafts. `Memory` leaves
+    /// all as it was.
     pub fn renew(&mut self) -> Result<(), Memory>
         ensures renewed { OnOk result (self.new ≡ record self.old {
           start = record self.old.start { state = reopened self.old.state; sealed = None };
@@ -84,7 +90,10 @@ impl<K: Keeper> Wiki<K> {
         }) }
         ensures refused { OnErr result (self.new ≡ self.old) }
     {
-        self.life.renew()
+        let cache = none_kept(self.life.allocator())?;
+        self.life.renew()?;
+        self.cache = cache;
+        Ok(())
     }
 
     /// Seals the wiki: from now on nothing is saved. Its point is a part of the start that the wiki tells; a wiki that was

@@ -9,11 +9,14 @@ ghost use Rattle.wk_core.specs.Seen.{IsTold};
 use crate::life::Life;
 use std::alloc::Global;
 use std::marker::Model;
+use wk_cache::Cache;
 use wk_keeper::Keeper;
 use wk_live::Live;
 use wk_revs::Limits;
 
 /// A wiki over a store. Contracts see how it began, the journal of what has happened since, its state, and its keeper.
+/// They don't see the drafts that it keeps for whoever reads. By its type each of these is of its page's own text, each text
+/// that was read for it is the text of its revision, and it has its page's number, 0 where the page was read to be missing.
 ///
 /// Each call makes one event, or none. What was written to the store is Ok: all memory is taken before. A call that is
 /// refused leaves the wiki as it was, but for `finish`, by which a ticket comes in whatever becomes of it. No call but
@@ -22,16 +25,18 @@ use wk_revs::Limits;
 pub struct Wiki<K: Keeper> {
     pub(crate) keeper: K,
     pub(crate) life: Life,
+    pub(crate) cache: Cache,
 }
 
 impl<K: Keeper> Model for Wiki<K> {
-    ghost use Rattle.wk_core.specs.Seen.{WikiSeen, seen, IsTold};
+    ghost use Rattle.wk_core.specs.Seen.{WikiSeen, seen};
+    ghost use Rattle.wk_core.specs.Cached.{IsKeeping};
 
     ghost Value = { WikiSeen K };
 
     ghost view = { λ w. seen K.is_whole w.life.life w.keeper };
 
-    ghost invariant = { λ w. IsTold K.told w.life.life.state w.keeper };
+    ghost invariant = { λ w. IsKeeping K.told w.life.life.state w.keeper w.cache.entries };
 }
 
 impl<K: Keeper> Wiki<K> {

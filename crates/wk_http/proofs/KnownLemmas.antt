@@ -1,17 +1,20 @@
 -- What a feed knows stays true when more bytes come.
-use Rattle.std.proofs.Common.{◌≡◌, ℕ, ◌+◌, ◌<◌, ◌≤◌, List, [], ◌++◌, length, drop, None, ap, sym, ◌∙◌, subst, arith, append_assoc, append-nil}
-use Rattle.std.proofs.lemmas.List.{length-append, drop-append-le, nil_from_length}
+use Rattle.std.proofs.Common.{◌≡◌, ℕ, ◌+◌, ◌<◌, ◌≤◌, List, [], ◌++◌, length, drop, take, None, ap, take-append-drop, sym, ◌∙◌, subst, arith, append_assoc, append-nil}
+use Rattle.std.proofs.lemmas.List.{length-append, drop-append-le, nil_from_length, take-append-le, take_all}
 use Rattle.httparse.specs.Grammar.{print_request}
 use Rattle.wk_wire_rules.specs.Heads.{body_length, refusal, most_body}
 use Rattle.wk_wire_rules.specs.Messages.{most_head, IsOpen, IsBad, no_head, too_long, refused}
 use Rattle.wk_http.specs.declared.feed.Known.{Known}
-use Rattle.wk_http.specs.declared.feed.Known.TheVariants.{OpenBelow, Bad}
+use Rattle.wk_http.specs.declared.feed.Known.TheVariants.{OpenBelow, Bad, At}
 use Rattle.wk_http.specs.declared.front.Accepted.{Accepted}
 use Rattle.wk_http.specs.Feed.{IsKnown}
 use Rattle.wk_http.specs.Front.{IsAccepted}
+use Rattle.wk_http.specs.Places.{EndsAt}
+use Rattle.wk_http.specs.declared.places.Place.{Place}
 use Rattle.wk_http.proofs.AcceptedLemmas.{IsAccepted-append}
 use Rattle.wk_http.proofs.HeadLemmas.{accepted_body}
 use Rattle.wk_http.proofs.MessageLemmas.{HasHead_unique, IsBad-append}
+use Rattle.wk_http.proofs.PlaceLemmas.{open_at}
 use Rattle.wk_http.proofs.TargetLemmas.{can_begin_head}
 
 pub IsKnown-append : (bytes more : List ℕ) (known : Known) → IsKnown bytes known → IsKnown (bytes ++ more) known
@@ -19,6 +22,10 @@ IsKnown-append bytes more (OpenBelow count) is = λ later short.
     let same : (bytes ++ more) ++ later ≡ bytes ++ (more ++ later) = append_assoc bytes more later in
     subst IsOpen (sym same) (is (more ++ later) (omega (arith, ap length same)))
 IsKnown-append bytes more (Bad status) is = IsBad-append bytes more status is
+IsKnown-append bytes more (At place count) is = (
+  omega (arith, is.0, length-append bytes more),
+  subst (λ (t : List ℕ). EndsAt t place) (sym (take-append-le count bytes more is.0)) is.1,
+)
 
 pub known_behind : (buffer piece : List ℕ) (start : ℕ) (known : Known) → start ≤ length buffer → IsKnown (drop start buffer) known →
     IsKnown (drop start (buffer ++ piece)) known
@@ -63,6 +70,16 @@ open_below bytes kept x = λ more short. open_in_body (bytes ++ more) kept (IsAc
 pub open_now : (bytes : List ℕ) (count : ℕ) → IsKnown bytes (OpenBelow count) → length bytes < count → IsOpen bytes
 open_now bytes count is short =
     subst IsOpen (append-nil bytes) (is [] (omega (arith, ap length (append-nil bytes))))
+
+-- all bytes end at a place
+pub known_at : (bytes : List ℕ) (place : Place) → EndsAt bytes place → IsKnown bytes (At place (length bytes))
+known_at bytes place ends = (omega arith, subst (λ (t : List ℕ). EndsAt t place) (sym (take_all (length bytes) bytes (omega arith))) ends)
+
+-- the bytes that came since are passed over
+pub known_after : (bytes : List ℕ) (place next : Place) (count : ℕ) → IsKnown bytes (At place count) →
+    ((front : List ℕ) → EndsAt front place → EndsAt (front ++ drop count bytes) next) → EndsAt bytes next
+known_after bytes place next count is later =
+    subst (λ (t : List ℕ). EndsAt t next) (take-append-drop count bytes) (later (take count bytes) is.1)
 
 -- ---- bounds
 

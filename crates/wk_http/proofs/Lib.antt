@@ -4,7 +4,8 @@ mod FrontLemmas
 mod HeadLemmas
 mod KnownLemmas
 mod ListLemmas
-mod MessageLemmas
+pub mod MessageLemmas
+mod PlaceLemmas
 mod RequestLemmas
 mod ResponseLemmas
 mod TargetLemmas

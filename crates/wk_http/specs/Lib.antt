@@ -2,6 +2,7 @@ pub mod Feed
 pub mod Fields
 pub mod Front
 pub mod Head
+pub mod Places
 pub mod Requests
 pub mod Target
 pub use Rattle.wk_wire_rules.specs.Heads

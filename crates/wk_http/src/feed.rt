@@ -3,13 +3,15 @@ ghost use Rattle.std.specs.Prelude.{◌≡◌, ◌+◌, ◌≤◌, [], ◌++◌,
 ghost use Rattle.std.specs.List.{before_first, after_first};
 ghost use Rattle.httparse.specs.Spans.{span_bytes};
 ghost use Rattle.wk_wire_rules.specs.Heads.{is_question_mark};
-ghost use Rattle.wk_wire_rules.specs.Messages.{IsMessage};
+ghost use Rattle.wk_wire_rules.specs.Messages.{IsMessage, IsOpen};
 ghost use Rattle.wk_http.specs.Feed.{IsKnown, IsStep};
 ghost use Rattle.wk_http.specs.Front.{IsAccepted};
 ghost use Rattle.wk_http.specs.Requests.{message_in, Gives};
 
-use crate::front::{Accepted, Front, front_of};
+use crate::front::{Accepted, Front, MOST_HEAD, front_of};
+use crate::places::{Place, after, place_in};
 use crate::request::{HttpRequest, Next};
+use crate::target::ends_within_target;
 use std::alloc::Global;
 use std::marker::Model;
 use std::str;
@@ -22,6 +24,8 @@ enum Known {
     OpenBelow(usize),
     /// A bad place stands at the front, with this status.
     Bad(u16),
+    /// The first bytes, so many, end at this place, where a head can begin with them.
+    At(Place, usize),
 }
 
 /// The path and the query of a target.
@@ -93,17 +97,40 @@ fn step_at_head(alloc: Global, left: &[u8], head: &Accepted) -> Result<Step, Mem
     })
 }
 
+/// What is known of bytes that hold no whole message and no bad place: where in a head they end, as far as that is found.
+fn known_open(alloc: Global, left: &[u8]) -> Result<Known, Memory>
+    requires { IsOpen left.now }
+    ensures { IfOk result (IsKnown left.now) }
+{
+    if ends_within_target(left) {
+        return Ok(Known::At(Place::Target, left.len()));
+    }
+    match place_in(alloc, left)? {
+        Some(place) => Ok(Known::At(place, left.len())),
+        None => Ok(Known::OpenBelow(left.len() + 1)),
+    }
+}
+
+/// The answer at bytes that hold no whole message and no bad place.
+fn open_step(alloc: Global, left: &[u8]) -> Result<Step, Memory>
+    requires { IsOpen left.now }
+    ensures { IfOk result (IsStep left.now) }
+{
+    let known = known_open(alloc, left)?;
+    Ok(Step {
+        next: Next::More,
+        count: 0,
+        known,
+    })
+}
+
 /// The answer at the bytes that are left.
 fn next_step(alloc: Global, left: &[u8]) -> Result<Step, Memory>
     ensures { IfOk result (IsStep left.now) }
 {
     match front_of(alloc, left)? {
         Front::Accepted(head) => step_at_head(alloc, left, &head),
-        Front::Open => Ok(Step {
-            next: Next::More,
-            count: 0,
-            known: Known::OpenBelow(left.len() + 1),
-        }),
+        Front::Open => open_step(alloc, left),
         Front::Bad(status) => Ok(Step {
             next: Next::Bad(status),
             count: 0,
@@ -112,20 +139,47 @@ fn next_step(alloc: Global, left: &[u8]) -> Result<Step, Memory>
     }
 }
 
-/// The answer that is known without a look at the bytes that are left, if there is one.
-fn known_answer(known: Known, left: &[u8]) -> Option<Next>
+/// The answer where the first bytes, so many, end at this place of a head. `None` where they are to be read anew.
+fn step_at(place: Place, count: usize, left: &[u8]) -> Option<Step>
+    requires { IsKnown left.now (Known.At place count) }
+    ensures { IfSome result (IsStep left.now) }
+{
+    if MOST_HEAD <= left.len() {
+        return None;
+    }
+    match after(place, &left[count..]) {
+        Some(next) => Some(Step {
+            next: Next::More,
+            count: 0,
+            known: Known::At(next, left.len()),
+        }),
+        None => None,
+    }
+}
+
+/// The answer that is known where only bytes that came since are looked at, if there is one.
+fn known_step(known: Known, left: &[u8]) -> Option<Step>
     requires { IsKnown left.now known }
-    ensures { IfSome result (λ next. Gives left.now next left.now) }
+    ensures { IfSome result (IsStep left.now) }
 {
     match known {
-        Known::Bad(status) => Some(Next::Bad(status)),
-        Known::OpenBelow(count) => {
-            if left.len() < count {
-                Some(Next::More)
+        Known::Bad(status) => Some(Step {
+            next: Next::Bad(status),
+            count: 0,
+            known,
+        }),
+        Known::OpenBelow(most) => {
+            if left.len() < most {
+                Some(Step {
+                    next: Next::More,
+                    count: 0,
+                    known,
+                })
             } else {
                 None
             }
         }
+        Known::At(place, count) => step_at(place, count, left),
     }
 }
 
@@ -189,10 +243,10 @@ impl Feed {
         ensures err { OnErr result (self.new ≡ self.old) }
     {
         let left = &self.buffer[self.start..];
-        if let Some(next) = known_answer(self.known, left) {
-            return Ok(next);
-        }
-        let step = next_step(*self.buffer.allocator(), left)?;
+        let step = match known_step(self.known, left) {
+            Some(step) => step,
+            None => next_step(*self.buffer.allocator(), left)?,
+        };
         self.start = compact(&mut self.buffer, self.start + step.count);
         self.known = step.known;
         Ok(step.next)

@@ -14,9 +14,11 @@ use std::alloc::Global;
 use wk_memory::Memory;
 use wk_wire_rules::Method;
 
-const MOST_HEAD: usize = 65536;
+/// The bytes in which a head must be whole.
+pub(crate) const MOST_HEAD: usize = 65536;
 
-const MOST_HEADERS: usize = 100;
+/// How many headers a head has at most.
+pub(crate) const MOST_HEADERS: usize = 100;
 
 /// What is kept of a whole head that isn't refused.
 #[derive(Clone, Copy)]

@@ -5,6 +5,7 @@ mod feed;
 mod fields;
 mod front;
 mod laws;
+mod places;
 mod report;
 mod request;
 mod responses;

@@ -24,7 +24,7 @@ pub enum SessionEnd {
 /// What a refresh step did.
 #[derive(Clone, Copy, Debug, PartialEq, Eq)]
 pub enum Refresh {
-    /// No job was there.
+    /// No refresh job was queued, and no fan job stood.
     Idle,
     /// A fan job was served.
     Fanned,
@@ -45,10 +45,12 @@ pub enum Refresh {
 pub struct SessionReport {
     /// How it ended.
     pub end: SessionEnd,
-    /// The point of each reply of status 200, in order. A point is a length of the wiki's journal, in events.
+    /// The point of each reply of status 200, in order, also of one that wasn't written in full. A point is a length of the
+    /// wiki's journal, in events.
     pub points: Vec<u64>,
-    /// The refresh steps that were made.
+    /// How many refreshes were done: the events Done among the session's own entries of the journal.
     pub jobs_run: u64,
-    /// The point behind each refresh step, and what the step did, in order.
+    /// For each message that was answered in full, in order: the length of the journal that the session had seen behind its
+    /// refresh step, and what the step did.
     pub refreshes: Vec<(u64, Refresh)>,
 }

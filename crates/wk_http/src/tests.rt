@@ -498,3 +498,40 @@ fn responses_are_appended(rt: HostRuntime) -> Result<(), Fail> {
     }
     Ok(())
 }
+
+/// Heads that come byte by byte, good and bad ones.
+const BYTE_BY_BYTE: [&str; 9] = [
+    "GET /api.php?a HTTP/1.1\r\nA-b: c d\te\r\nConnection: close\r\n\r\n",
+    "\r\n\nPOST / HTTP/1.0\nContent-Length: 2\n\nab",
+    "GET / HTTP/1.1\r\nA: b\u{1}c\r\n\r\n",
+    "GET / HTTP/1.1\r\nA: b\rc\r\n\r\n",
+    "GET / HTTP/1.1\r\nA b: c\r\n\r\n",
+    "GET / HTTP/1.1\r\n: c\r\n\r\n",
+    "GET / HTTP/1.1\r\nA: b\r\n c: d\r\n\r\n",
+    "GET / HTTP/1.1\r\nA:\r\nTransfer-Encoding: x\r\n\r\n",
+    "G@T / HTTP/1.1\r\n\r\n",
+];
+
+#[test]
+fn each_byte_is_answered_as_all_are(rt: HostRuntime) -> Result<(), Fail> {
+    let alloc = rt.alloc();
+    for text in &BYTE_BY_BYTE {
+        let bytes = text.as_bytes();
+        let mut feed = Feed::new(alloc);
+        let mut ended = false;
+        for at in 0..bytes.len() {
+            feed.push(&bytes[at..at + 1])?;
+            let answer = feed.next()?;
+            if !ended {
+                assert_eq!(rt;
+                    answer,
+                    first_answer(alloc, &bytes[..at + 1], 0)?,
+                    "at {at} of {text:?}"
+                );
+            }
+            ended = ended || answer != Next::More;
+        }
+        assert!(rt; ended, "{text:?}");
+    }
+    Ok(())
+}

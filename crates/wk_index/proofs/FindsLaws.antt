@@ -11,8 +11,8 @@ use Rattle.wk_row_rules.specs.PageRows.{Member, PageRows, no_rows}
 use Rattle.wk_listing_rules.specs.Names.{AreAmong, admitted, joined, member_eq, with_rows_at}
 use Rattle.wk_index.specs.declared.named.Kind.{Kind}
 use Rattle.wk_index.specs.declared.named.Kind.TheVariants.{Included, Mentioned, Linked}
-use Rattle.wk_index.specs.Entries.{FindsEntries, has_entry, lists_entry}
-use Rattle.wk_index.specs.Named.{Finds, FindsIn, FindsRowsIn, KeptIn, SparesIn, has, lists, page_passes, rows_at}
+use Rattle.wk_index.specs.Entries.{has_entry, lists_entry}
+use Rattle.wk_index.specs.Named.{FindsIn, FindsRowsIn, KeptIn, SparesIn, has, lists, page_passes, rows_at}
 use Rattle.wk_index.specs.declared.found.Found.{Found}
 use Rattle.wk_index.specs.Found.{FindsAll, FindsRows, KeepsAll, SparesAll}
 use Rattle.wk_index.specs.Held.{rows_of}
@@ -48,16 +48,16 @@ get-set_other (x ∷ xs) rows (suc place) (suc other) apart = get-set_other xs r
 abbrev passed : {X : Type 0} → (PageRows → X → Bool) → Option PageRows → X → Bool
 passed passes o x = elim o [ None ↦ false | Some rows ↦ passes rows x ]
 
-module _ {X K : Type 0} (passes : PageRows → X → Bool) (finds : List K → X → ℕ → Bool) where
+module _ {X S : Type 0} (passes : PageRows → X → Bool) (finds : S → X → ℕ → Bool) where
   passes-at : (stored : List PageRows) (x : X) (place : ℕ) → page_passes passes stored x (suc place) ≡ passed passes (slice_get stored place) x
   passes-at stored x place = ap (λ o. passed passes o x) (rows-at stored place)
 
-  pub FindsIn-none : FindsIn passes finds [] []
-  FindsIn-none x zero there = absurd (false≢true there)
-  FindsIn-none x (suc place) there = absurd (false≢true (sym (passes-at [] x place) ∙ there))
+  pub FindsIn-none : (keys : S) → FindsIn passes finds [] keys
+  FindsIn-none keys x zero there = absurd (false≢true there)
+  FindsIn-none keys x (suc place) there = absurd (false≢true (sym (passes-at [] x place) ∙ there))
 
   -- one more page
-  pub FindsIn-push : (xs : List PageRows) (rows : PageRows) (old new : List K) → FindsIn passes finds xs old → KeptIn finds old new → FindsRowsIn passes finds rows (length xs + 1) new → FindsIn passes finds (xs ++ rows ∷ []) new
+  pub FindsIn-push : (xs : List PageRows) (rows : PageRows) (old new : S) → FindsIn passes finds xs old → KeptIn finds old new → FindsRowsIn passes finds rows (length xs + 1) new → FindsIn passes finds (xs ++ rows ∷ []) new
   FindsIn-push xs rows old new all kept own x zero there = absurd (false≢true there)
   FindsIn-push xs rows old new all kept own x (suc place) there =
       let here : passed passes (slice_get (xs ++ rows ∷ []) place) x ≡ true = sym (passes-at (xs ++ rows ∷ []) x place) ∙ there in
@@ -70,7 +70,7 @@ module _ {X K : Type 0} (passes : PageRows → X → Bool) (finds : List K → X
       ]
 
   -- the rows of one page are others
-  FindsIn-set : (xs : List PageRows) (rows : PageRows) (place : ℕ) (new : List K)
+  FindsIn-set : (xs : List PageRows) (rows : PageRows) (place : ℕ) (new : S)
       → ((x : X) → passes rows x ≡ true → finds new x (suc place) ≡ true)
       → ((x : X) (page : ℕ) → (page ≡ suc place → ⊥) → page_passes passes xs x page ≡ true → finds new x page ≡ true)
       → FindsIn passes finds (set xs place rows) new
@@ -101,7 +101,7 @@ module _ {X K : Type 0} (passes : PageRows → X → Bool) (finds : List K → X
   -- ---- the two halves of a change
 
   pub FindsIn-admitted : ((old new : PageRows) (x : X) → passes (admitted old new) x ≡ true → (passes old x ≡ true) ⊎ (passes new x ≡ true))
-      → (stored : List PageRows) (page : ℕ) (rows : PageRows) (old new : List K)
+      → (stored : List PageRows) (page : ℕ) (rows : PageRows) (old new : S)
       → IsSome (rows_at stored page) → FindsIn passes finds stored old → KeptIn finds old new → FindsRowsIn passes finds rows page new
       → FindsIn passes finds (with_rows_at stored page (admitted (rows_of stored page) rows)) new
   FindsIn-admitted parts stored zero rows old new there all kept own = absurd (false≢true there)
@@ -116,7 +116,7 @@ module _ {X K : Type 0} (passes : PageRows → X → Bool) (finds : List K → X
       (λ x other apart has. kept x other (all x other has)))
 
   pub FindsIn-shed : ((new old : PageRows) (x : X) → AreAmong new old → passes new x ≡ true → passes old x ≡ true)
-      → (stored : List PageRows) (page : ℕ) (rows : PageRows) (old new : List K)
+      → (stored : List PageRows) (page : ℕ) (rows : PageRows) (old new : S)
       → IsSome (rows_at stored page) → AreAmong rows (rows_of stored page) → FindsIn passes finds stored old → SparesIn passes finds rows page old new
       → FindsIn passes finds (with_rows_at stored page rows) new
   FindsIn-shed among stored zero rows old new there are all spares = absurd (false≢true there)
@@ -230,12 +230,12 @@ entry-among new old x are there = among-members new.members (recursion_from_All 
 
 -- ---- all sets
 
-pub FindsAll-none : (found : Found) → found.included.keys ≡ [] → found.mentioned.keys ≡ [] → found.linked.keys ≡ [] → found.members.keys ≡ [] → FindsAll [] found
-FindsAll-none found a b c d = record {
-  included = subst (Finds Included []) (sym a) (FindsIn-none (lists Included) has);
-  mentioned = subst (Finds Mentioned []) (sym b) (FindsIn-none (lists Mentioned) has);
-  linked = subst (Finds Linked []) (sym c) (FindsIn-none (lists Linked) has);
-  members = subst (FindsEntries []) (sym d) (FindsIn-none lists_entry has_entry);
+pub FindsAll-none : (found : Found) → FindsAll [] found
+FindsAll-none found = record {
+  included = FindsIn-none (lists Included) has found.included;
+  mentioned = FindsIn-none (lists Mentioned) has found.mentioned;
+  linked = FindsIn-none (lists Linked) has found.linked;
+  members = FindsIn-none lists_entry has_entry found.members.keys;
 }
 
 pub FindsAll-push : (stored items : List PageRows) (rows : PageRows) (page : ℕ) (old new : Found)
@@ -245,9 +245,9 @@ FindsAll-push stored items rows page old new is number finds keeps own =
   where
     by : FindsRows rows (length stored + 1) new → FindsAll (stored ++ rows ∷ []) new
     by here = record {
-      included = FindsIn-push (lists Included) has stored rows old.included.keys new.included.keys finds.included keeps.included here.included;
-      mentioned = FindsIn-push (lists Mentioned) has stored rows old.mentioned.keys new.mentioned.keys finds.mentioned keeps.mentioned here.mentioned;
-      linked = FindsIn-push (lists Linked) has stored rows old.linked.keys new.linked.keys finds.linked keeps.linked here.linked;
+      included = FindsIn-push (lists Included) has stored rows old.included new.included finds.included keeps.included here.included;
+      mentioned = FindsIn-push (lists Mentioned) has stored rows old.mentioned new.mentioned finds.mentioned keeps.mentioned here.mentioned;
+      linked = FindsIn-push (lists Linked) has stored rows old.linked new.linked finds.linked keeps.linked here.linked;
       members = FindsIn-push lists_entry has_entry stored rows old.members.keys new.members.keys finds.members keeps.members here.members;
     }
 
@@ -276,9 +276,9 @@ pub FindsAll-admitted : (stored items : List PageRows) (page : ℕ) (rows : Page
     → items ≡ with_rows_at stored page (admitted (rows_of stored page) rows) → IsSome (rows_at stored page) → FindsAll stored old → KeepsAll old new → FindsRows rows page new → FindsAll items new
 FindsAll-admitted stored items page rows old new is there finds keeps own =
     subst (λ l. FindsAll l new) (sym is) (record {
-      included = FindsIn-admitted (lists Included) has (lists-admitted Included) stored page rows old.included.keys new.included.keys there finds.included keeps.included own.included;
-      mentioned = FindsIn-admitted (lists Mentioned) has (lists-admitted Mentioned) stored page rows old.mentioned.keys new.mentioned.keys there finds.mentioned keeps.mentioned own.mentioned;
-      linked = FindsIn-admitted (lists Linked) has (lists-admitted Linked) stored page rows old.linked.keys new.linked.keys there finds.linked keeps.linked own.linked;
+      included = FindsIn-admitted (lists Included) has (lists-admitted Included) stored page rows old.included new.included there finds.included keeps.included own.included;
+      mentioned = FindsIn-admitted (lists Mentioned) has (lists-admitted Mentioned) stored page rows old.mentioned new.mentioned there finds.mentioned keeps.mentioned own.mentioned;
+      linked = FindsIn-admitted (lists Linked) has (lists-admitted Linked) stored page rows old.linked new.linked there finds.linked keeps.linked own.linked;
       members = FindsIn-admitted lists_entry has_entry entry-admitted stored page rows old.members.keys new.members.keys there finds.members keeps.members own.members;
     })
 
@@ -312,8 +312,8 @@ FindsAll-shed stored items page rows old new is there are finds spares =
     let own : rows_of items page ≡ rows = ap (λ l. rows_of l page) is ∙ rows_of-set stored page rows there in
     let spares_own : SparesAll rows page old new = subst (λ r. SparesAll r page old new) own spares in
     subst (λ l. FindsAll l new) (sym is) (record {
-      included = FindsIn-shed (lists Included) has (lists-among Included) stored page rows old.included.keys new.included.keys there are finds.included spares_own.included;
-      mentioned = FindsIn-shed (lists Mentioned) has (lists-among Mentioned) stored page rows old.mentioned.keys new.mentioned.keys there are finds.mentioned spares_own.mentioned;
-      linked = FindsIn-shed (lists Linked) has (lists-among Linked) stored page rows old.linked.keys new.linked.keys there are finds.linked spares_own.linked;
+      included = FindsIn-shed (lists Included) has (lists-among Included) stored page rows old.included new.included there are finds.included spares_own.included;
+      mentioned = FindsIn-shed (lists Mentioned) has (lists-among Mentioned) stored page rows old.mentioned new.mentioned there are finds.mentioned spares_own.mentioned;
+      linked = FindsIn-shed (lists Linked) has (lists-among Linked) stored page rows old.linked new.linked there are finds.linked spares_own.linked;
       members = FindsIn-shed lists_entry has_entry entry-among stored page rows old.members.keys new.members.keys there are finds.members spares_own.members;
     })

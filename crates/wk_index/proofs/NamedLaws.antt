@@ -1,5 +1,7 @@
 -- A set of keys with one more, or one less.
-use Rattle.std.proofs.Common.{◌≡◌, ℕ, ◌+◌, ◌<◌, Bool, true, false, cond, eqb, ◌&&◌, ◌||◌, List, [], ◌∷◌, ◌++◌, length, take, get_or, refl, sym, ap, ◌∙◌, subst, inl, inr}
+use Rattle.std.proofs.Common.{◌≡◌, ℕ, suc, ◌+◌, ◌<◌, Bool, true, false, cond, eqb, ◌&&◌, ◌||◌, List, [], ◌∷◌, ◌++◌, length, take, get_or, Option, Some, None, refl, sym, ap, ◌∙◌, subst, inl, inr, arith}
+use Rattle.std.specs.BTreeMap.{BTreeMap, get}
+use Rattle.std.specs.BTreeSet.{BTreeSet}
 use Rattle.std.specs.List.{list_any}
 use Rattle.std.specs.Ordering.{is_eq, nat_cmp}
 use Rattle.std.specs.declared.cmp.Ordering.{Ordering}
@@ -10,9 +12,9 @@ use Rattle.wk_text_rules.specs.Titles.{PageTitle, title_cmp, title_eq}
 use Rattle.wk_row_rules.specs.PageRows.{PageRows}
 use Rattle.wk_good_rows.proofs.Sets.{same-title}
 use Rattle.wk_index.specs.declared.named.Kind.{Kind}
-use Rattle.wk_index.specs.Named.{KeptIn, Kept, Spares, SparesIn, TitlePage, has, key_cmp, lists}
-use Rattle.wk_index.proofs.FindsLaws.{or-parts}
-use Rattle.wk_index.proofs.PagesLaws.{contains-is, is_eq-nat_cmp, key, then-eq}
+use Rattle.wk_index.specs.Named.{KeptIn, Kept, Sets, Spares, SparesAt, SparesIn, has, has_at, is_in, is_in_found, lists}
+use Rattle.wk_index.proofs.FindsLaws.{or-left, or-parts, or-right}
+use Rattle.wk_index.proofs.PagesLaws.{is_eq-nat_cmp}
 use Rattle.wk_index.proofs.TitleLaws.{title_eq-true, title_eq-same}
 
 -- which keys the set has after a change of one
@@ -67,8 +69,8 @@ any-more q xs i x within here =
     ap (list_any q) (take_more xs i x within ∙ ap (λ y. take i xs ++ y ∷ []) (sym here)) ∙ list_any-append q (take i xs) (x ∷ [])
 
 -- one more item is found
-pub found-more_in : {T X K : Type 0} (finds : List K → X → ℕ → Bool) (test : X → T → Bool) (name : T → X) → ((x : X) (item : T) → test x item ≡ true → x ≡ name item)
-    → (items : List T) (i : ℕ) (item : T) (page : ℕ) (old new : List K)
+pub found-more_in : {T X S : Type 0} (finds : S → X → ℕ → Bool) (test : X → T → Bool) (name : T → X) → ((x : X) (item : T) → test x item ≡ true → x ≡ name item)
+    → (items : List T) (i : ℕ) (item : T) (page : ℕ) (old new : S)
     → i < length items → item ≡ get_or items i item → finds new (name item) page ≡ true → KeptIn finds old new
     → ((x : X) → list_any (test x) (take i items) ≡ true → finds old x page ≡ true)
     → (x : X) → list_any (test x) (take (i + 1) items) ≡ true → finds new x page ≡ true
@@ -81,36 +83,156 @@ found-more_in finds test name is_name items i item page old new within here ther
       ]
     ]
 
--- ---- titles and pages
+-- ---- titles, each with its pages
 
-key-same : (title other : PageTitle) (page number : ℕ) → is_eq (key_cmp (key title page) (key other number)) ≡ (title_eq other title && eqb number page)
-key-same title other page number =
-    then-eq (title_cmp title other) (nat_cmp page number)
-    ∙ ap (λ b. b && is_eq (nat_cmp page number)) (same-title title other)
-    ∙ ap (λ b. title_eq other title && b) (is_eq-nat_cmp page number)
+-- Maps in which the pages of a title stand at its place.
+module _ {P S : Type 0} (cmp : P → P → Ordering) (place : PageTitle → P) (pages_of : S → List ℕ) (one : (a b : PageTitle) → is_eq (cmp (place a) (place b)) ≡ title_eq b a) where
+  -- the map has this at the place of the title, if anything, and elsewhere what it had
+  abbrev pub PutsAt : BTreeMap P S → BTreeMap P S → PageTitle → Option S → Type 0
+  PutsAt old new title now = (q : P) → get cmp new q ≡ cond (is_eq (cmp (place title) q)) now (get cmp old q)
 
-pub title-keys : AreKeys key_cmp key title_eq has
-title-keys = record {
-  contains = contains-is;
-  one = key-same;
-  itself = title_eq-same;
-  equal = title_eq-true;
-}
+  put-finds : (old new : BTreeMap P S) (title : PageTitle) (now : Option S) → PutsAt old new title now
+      → (other : PageTitle) (page : ℕ) → has_at cmp place pages_of new other page ≡ cond (title_eq other title) (is_in_found pages_of now page) (has_at cmp place pages_of old other page)
+  put-finds old new title now puts other page =
+      ap (λ o. is_in_found pages_of o page) (puts (place other) ∙ ap (λ b. cond b now (get cmp old (place other))) (one title other))
+      ∙ either (title_eq other title)
+    where
+      either : (b : Bool) → is_in_found pages_of (cond b now (get cmp old (place other))) page ≡ cond b (is_in_found pages_of now page) (is_in_found pages_of (get cmp old (place other)) page)
+      either true = refl
+      either false = refl
 
-abbrev pub Changes : List TitlePage → List TitlePage → TitlePage → Bool → Type 0
-Changes = ChangesBy key_cmp
+  pub put-there : (old new : BTreeMap P S) (title : PageTitle) (now : Option S) → PutsAt old new title now
+      → (page : ℕ) → is_in_found pages_of now page ≡ true → has_at cmp place pages_of new title page ≡ true
+  put-there old new title now puts page there = put-finds old new title now puts title page ∙ (rw (title_eq-same title) there)
 
-pub added-there : (old new : List TitlePage) (title : PageTitle) (page : ℕ) → Changes old new (key title page) true → has new title page ≡ true
-added-there = added-in key_cmp key title_eq has title-keys
+  -- all but one page that were found by the title are found still
+  pub put-spares : (old new : BTreeMap P S) (title : PageTitle) (now : Option S) (page : ℕ) → PutsAt old new title now
+      → ((number : ℕ) → eqb number page ≡ false → is_in_found pages_of (get cmp old (place title)) number ≡ true → is_in_found pages_of now number ≡ true)
+      → (other : PageTitle) (number : ℕ) → (title_eq other title && eqb number page) ≡ false → has_at cmp place pages_of old other number ≡ true → has_at cmp place pages_of new other number ≡ true
+  put-spares old new title now page puts stay other number apart before =
+      elim (cases_Bool (title_eq other title)) [
+        | inl same ↦
+            put-finds old new title now puts other number
+            ∙ ap (λ b. cond b (is_in_found pages_of now number) (has_at cmp place pages_of old other number)) same
+            ∙ stay number (sym (ap (λ b. b && eqb number page) same) ∙ apart) (sym (ap (λ t. has_at cmp place pages_of old t number) (title_eq-true other title same)) ∙ before)
+        | inr off ↦
+            put-finds old new title now puts other number
+            ∙ ap (λ b. cond b (is_in_found pages_of now number) (has_at cmp place pages_of old other number)) off
+            ∙ before
+      ]
 
-pub added-kept : (old new : List TitlePage) (title : PageTitle) (page : ℕ) → Changes old new (key title page) true → Kept old new
-added-kept = kept-in key_cmp key title_eq has title-keys
+  pub put-kept : (old new : BTreeMap P S) (title : PageTitle) (now : Option S) → PutsAt old new title now
+      → ((number : ℕ) → is_in_found pages_of (get cmp old (place title)) number ≡ true → is_in_found pages_of now number ≡ true)
+      → KeptIn (has_at cmp place pages_of) old new
+  put-kept old new title now puts stay other number before =
+      elim (cases_Bool (title_eq other title)) [
+        | inl same ↦
+            put-finds old new title now puts other number
+            ∙ ap (λ b. cond b (is_in_found pages_of now number) (has_at cmp place pages_of old other number)) same
+            ∙ stay number (sym (ap (λ t. has_at cmp place pages_of old t number) (title_eq-true other title same)) ∙ before)
+        | inr off ↦
+            put-finds old new title now puts other number
+            ∙ ap (λ b. cond b (is_in_found pages_of now number) (has_at cmp place pages_of old other number)) off
+            ∙ before
+      ]
 
-pub removed-spares : (kind : Kind) (rows : PageRows) (old new : List TitlePage) (title : PageTitle) (page : ℕ) → Changes old new (key title page) false → lists kind rows title ≡ false → Spares kind rows page old new
-removed-spares kind = spares-in key_cmp key title_eq has title-keys (lists kind)
+  -- a title that had no pages
+  pub put-new : (old new : BTreeMap P S) (title : PageTitle) (now : S) → get cmp old (place title) ≡ None → PutsAt old new title (Some now) → KeptIn (has_at cmp place pages_of) old new
+  put-new old new title now none puts =
+      put-kept old new title (Some now) puts (λ number before. absurd (false≢true (sym (ap (λ o. is_in_found pages_of o number) none) ∙ before)))
 
-pub found-more : (titles : List PageTitle) (i : ℕ) (title : PageTitle) (page : ℕ) (old new : List TitlePage)
+  -- a title that had other pages
+  pub put-more : (old new : BTreeMap P S) (title : PageTitle) (had now : S) → get cmp old (place title) ≡ Some had → PutsAt old new title (Some now)
+      → ((number : ℕ) → is_in number (pages_of had) ≡ true → is_in number (pages_of now) ≡ true) → KeptIn (has_at cmp place pages_of) old new
+  put-more old new title had now here puts stay =
+      put-kept old new title (Some now) puts (λ number before. stay number (sym (ap (λ o. is_in_found pages_of o number) here) ∙ before))
+
+-- ---- the pages of one title
+
+-- a set with one page more
+pub page-added : (old new : List ℕ) (page : ℕ) → ((q : ℕ) → is_in q new ≡ cond (is_eq (nat_cmp page q)) true (is_in q old)) → (is_in page new ≡ true) × ((q : ℕ) → is_in q old ≡ true → is_in q new ≡ true)
+page-added old new page updates = (
+  updates page ∙ ap (λ b. cond b true (is_in page old)) (is_eq-nat_cmp page page ∙ eq-eqb page page refl),
+  λ q before. updates q ∙ ap (λ b. cond (is_eq (nat_cmp page q)) true b) before ∙ always (is_eq (nat_cmp page q)),
+)
+  where
+    always : (b : Bool) → cond b true true ≡ true
+    always true = refl
+    always false = refl
+
+-- a set with one page less
+pub page-removed : (old new : List ℕ) (page : ℕ) → ((q : ℕ) → is_in q new ≡ cond (is_eq (nat_cmp page q)) false (is_in q old)) → (q : ℕ) → eqb q page ≡ false → is_in q old ≡ true → is_in q new ≡ true
+page-removed old new page updates q apart before =
+    updates q ∙ ap (λ b. cond b false (is_in q old)) (is_eq-nat_cmp page q ∙ apart) ∙ before
+
+pub alone : (page : ℕ) → is_in page (page ∷ []) ≡ true
+alone page = rw (is_eq-nat_cmp page page, eq-eqb page page refl) refl
+
+-- a list with one page more
+pub page-pushed : (old : List ℕ) (page : ℕ) → (is_in page (old ++ page ∷ []) ≡ true) × ((q : ℕ) → is_in q old ≡ true → is_in q (old ++ page ∷ []) ≡ true)
+page-pushed old page = (
+  list_any-append (λ k. is_eq (nat_cmp page k)) old (page ∷ []) ∙ or-right (is_in page old) (is_in page (page ∷ [])) (alone page),
+  λ q before. list_any-append (λ k. is_eq (nat_cmp q k)) old (page ∷ []) ∙ or-left (is_in q old) (is_in q (page ∷ [])) before,
+)
+
+-- ---- the same of titles
+
+pub title-there : (old new : Sets) (title : PageTitle) (now : BTreeSet ℕ) → ((q : PageTitle) → get title_cmp new q ≡ cond (is_eq (title_cmp title q)) (Some now) (get title_cmp old q))
+    → (page : ℕ) → is_in page now.keys ≡ true → has new title page ≡ true
+title-there old new title now = put-there title_cmp (λ (t : PageTitle). t) (λ (s : BTreeSet ℕ). s.keys) same-title old new title (Some now)
+
+pub title-new : (old new : Sets) (title : PageTitle) (now : BTreeSet ℕ) → get title_cmp old title ≡ None → ((q : PageTitle) → get title_cmp new q ≡ cond (is_eq (title_cmp title q)) (Some now) (get title_cmp old q)) → Kept old new
+title-new = put-new title_cmp (λ (t : PageTitle). t) (λ (s : BTreeSet ℕ). s.keys) same-title
+
+pub title-more : (old new : Sets) (title : PageTitle) (had now : BTreeSet ℕ) → get title_cmp old title ≡ Some had → ((q : PageTitle) → get title_cmp new q ≡ cond (is_eq (title_cmp title q)) (Some now) (get title_cmp old q))
+    → ((number : ℕ) → is_in number had.keys ≡ true → is_in number now.keys ≡ true) → Kept old new
+title-more = put-more title_cmp (λ (t : PageTitle). t) (λ (s : BTreeSet ℕ). s.keys) same-title
+
+pub title-spares : (old new : Sets) (title : PageTitle) (had now : BTreeSet ℕ) (page : ℕ) → get title_cmp old title ≡ Some had → ((q : PageTitle) → get title_cmp new q ≡ cond (is_eq (title_cmp title q)) (Some now) (get title_cmp old q))
+    → ((number : ℕ) → eqb number page ≡ false → is_in number had.keys ≡ true → is_in number now.keys ≡ true) → SparesAt title page old new
+title-spares old new title had now page here puts stay =
+    put-spares title_cmp (λ (t : PageTitle). t) (λ (s : BTreeSet ℕ). s.keys) same-title old new title (Some now) page puts
+    (λ number apart before. stay number apart (sym (ap (λ o. is_in_found (λ (s : BTreeSet ℕ). s.keys) o number) here) ∙ before))
+
+-- a title without pages is taken away
+pub title-gone : (old new : Sets) (title : PageTitle) (had : BTreeSet ℕ) → get title_cmp old title ≡ Some had → had.keys ≡ [] → ((q : PageTitle) → get title_cmp new q ≡ cond (is_eq (title_cmp title q)) None (get title_cmp old q)) → Kept old new
+title-gone old new title had here empty puts =
+    put-kept title_cmp (λ (t : PageTitle). t) (λ (s : BTreeSet ℕ). s.keys) same-title old new title None puts
+    (λ number before. absurd (false≢true (sym (ap (is_in number) empty) ∙ (sym (ap (λ o. is_in_found (λ (s : BTreeSet ℕ). s.keys) o number) here) ∙ before))))
+
+-- what the rows don't have may be found no longer
+pub dropped-spares : (kind : Kind) (rows : PageRows) (old between new : Sets) (title : PageTitle) (page : ℕ) → lists kind rows title ≡ false → SparesAt title page old between → Kept between new → Spares kind rows page old new
+dropped-spares kind rows old between new title page gone spares kept other number own before =
+    kept other number (elim (cases_Bool (title_eq other title && eqb number page)) [
+      | inl both ↦
+          let parts = and_parts (title_eq other title) (eqb number page) both in
+          let still : lists kind rows other ≡ true = own (eqb-true number page parts.1) in
+          absurd (false≢true (sym gone ∙ ap (λ y. lists kind rows y) (sym (title_eq-true other title parts.0)) ∙ still))
+      | inr apart ↦ spares other number apart before
+    ])
+
+pub found-more : (titles : List PageTitle) (i : ℕ) (title : PageTitle) (page : ℕ) (old new : Sets)
     → i < length titles → title ≡ get_or titles i title → has new title page ≡ true → Kept old new
     → ((t : PageTitle) → list_any (title_eq t) (take i titles) ≡ true → has old t page ≡ true)
     → (t : PageTitle) → list_any (title_eq t) (take (i + 1) titles) ≡ true → has new t page ≡ true
 found-more = found-more_in has title_eq (λ t. t) title_eq-true
+
+pub pages-more : (pages : List ℕ) (i : ℕ) (title : PageTitle) (old new : Sets)
+    → i < length pages → has new title (get_or pages i 0) ≡ true → Kept old new
+    → ((p : ℕ) → is_in p (take i pages) ≡ true → has old title p ≡ true)
+    → (p : ℕ) → is_in p (take (i + 1) pages) ≡ true → has new title p ≡ true
+pages-more pages i title old new within there kept before p among =
+    let page = get_or pages i 0 in
+    let split : is_in p (take (i + 1) pages) ≡ (is_in p (take i pages) || is_in p (page ∷ [])) =
+    ap (is_in p) (take_more pages i 0 within) ∙ list_any-append (λ k. is_eq (nat_cmp p k)) (take i pages) (page ∷ []) in
+    elim (or-parts (is_in p (take i pages)) (is_in p (page ∷ [])) (sym split ∙ among)) [
+      | inl earlier ↦ kept title p (before p earlier)
+      | inr last ↦ elim (or-parts (is_eq (nat_cmp p page)) false last) [
+        | inl same ↦ subst (λ y. has new title y ≡ true) (eqb-true page p (sym (is_eq-nat_cmp p page) ∙ same)) there
+        | inr none ↦ absurd (false≢true none)
+      ]
+    ]
+
+pub no-pages : (pages : List ℕ) → length pages ≡ 0 → pages ≡ []
+no-pages [] none = refl
+no-pages (page ∷ pages) none = absurd (let fails : suc (length pages) ≡ 0 = none in omega arith)

@@ -7,37 +7,45 @@ use Rattle.wk_index.specs.declared.found.Found.{Found}
 use Rattle.wk_index.specs.declared.gathered.Gathered.{Gathered}
 use Rattle.wk_index.specs.declared.named.Kind.TheVariants.{Included, Linked}
 use Rattle.wk_index.specs.Entries.{FindsEntries, FindsRowsEntries, KeptEntries}
-use Rattle.wk_index.specs.Named.{Finds, FindsBy, FindsIn, FindsRowsIn, Kept, has}
+use Rattle.wk_index.specs.Named.{FindsIn, FindsRowsIn, lists}
+use Rattle.wk_index.specs.Places.{AddsGathered, AreTitled, Grows, gathers}
 
 -- the rows test the existence of the title
 abbrev pub tests : PageRows → PageTitle → Bool
 tests rows title = list_any (title_eq title) rows.exists
 
+-- the pages stand at the places of their titles
+pub record AreAllTitled (g : Gathered) : Type 0 where
+  pub included : AreTitled g.included
+  pub tested : AreTitled g.tested
+  pub linked : AreTitled g.linked
+
 -- each page is found by each title of its rows, and by each category with its sort key
 pub record GathersAll (stored : List PageRows) (g : Gathered) : Type 0 where
-  pub included : Finds Included stored g.included.items
-  pub tested : FindsIn tests has stored g.tested.items
-  pub linked : Finds Linked stored g.linked.items
+  pub included : FindsIn (lists Included) gathers stored g.included
+  pub tested : FindsIn tests gathers stored g.tested
+  pub linked : FindsIn (lists Linked) gathers stored g.linked
   pub members : FindsEntries stored g.members.items
+  pub titled : AreAllTitled g
 
 -- the page is found by each title of these rows, and by each category with its sort key
 pub record GathersRows (rows : PageRows) (page : ℕ) (g : Gathered) : Type 0 where
-  pub included : FindsBy Included rows page g.included.items
-  pub tested : FindsRowsIn tests has rows page g.tested.items
-  pub linked : FindsBy Linked rows page g.linked.items
+  pub included : FindsRowsIn (lists Included) gathers rows page g.included
+  pub tested : FindsRowsIn tests gathers rows page g.tested
+  pub linked : FindsRowsIn (lists Linked) gathers rows page g.linked
   pub members : FindsRowsEntries rows page g.members.items
 
 -- what was found is found still
 pub record GrowsAll (old new : Gathered) : Type 0 where
-  pub included : Kept old.included.items new.included.items
-  pub tested : Kept old.tested.items new.tested.items
-  pub linked : Kept old.linked.items new.linked.items
+  pub included : Grows old.included new.included
+  pub tested : Grows old.tested new.tested
+  pub linked : Grows old.linked new.linked
   pub members : KeptEntries old.members.items new.members.items
 
 -- what was gathered is found by the sets
 pub record Joins (g : Gathered) (found : Found) : Type 0 where
-  pub included : Kept g.included.items found.included.keys
-  pub both : Kept g.included.items found.mentioned.keys
-  pub tested : Kept g.tested.items found.mentioned.keys
-  pub linked : Kept g.linked.items found.linked.keys
+  pub included : AddsGathered g.included found.included
+  pub both : AddsGathered g.included found.mentioned
+  pub tested : AddsGathered g.tested found.mentioned
+  pub linked : AddsGathered g.linked found.linked
   pub members : KeptEntries g.members.items found.members.keys

@@ -6,6 +6,7 @@ pub mod InOrder
 pub mod Loadable
 pub mod Listing
 pub mod Named
+pub mod Places
 pub mod TitleMap
 pub use Rattle.wk_row_rules.specs.PageRows
 pub use Rattle.wk_table_rules.specs.GoodStore

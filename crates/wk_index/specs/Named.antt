@@ -1,10 +1,12 @@
 -- The pages that are found by a title.
 use Rattle.std.specs.Prelude.{◌≡◌, ℕ, ◌-◌, Bool, true, false, ◌&&◌, ◌==◌, nat_lt, List, map, filter, take, Option, None, Some, slice_get, if◌then◌else◌}
 use Rattle.std.specs.List.{enumerate_from, list_any}
-use Rattle.std.specs.Ordering.{nat_cmp, ordering_then}
-use Rattle.std.specs.declared.cmp.Ordering.{Ordering}
-use Rattle.std.specs.declared.ops.Bound.TheVariants.{Included as UpTo, Excluded as Behind}
+use Rattle.std.specs.BTreeMap.{BTreeMap, get}
 use Rattle.std.specs.BTreeMap.Range.{range_contains}
+use Rattle.std.specs.BTreeSet.{BTreeSet}
+use Rattle.std.specs.Ordering.{is_eq, nat_cmp}
+use Rattle.std.specs.declared.cmp.Ordering.{Ordering}
+use Rattle.std.specs.declared.ops.Bound.TheVariants.{Excluded as Behind, Unbounded}
 use Rattle.wk_text_rules.specs.Titles.{PageTitle, title_cmp, title_eq}
 use Rattle.wk_row_rules.specs.PageRows.{PageRows, names}
 use Rattle.wk_row_rules.specs.declared.Reach.{Reach}
@@ -13,22 +15,25 @@ use Rattle.wk_listing_rules.specs.Links.{links_to}
 use Rattle.wk_index.specs.declared.named.Kind.{Kind}
 use Rattle.wk_index.specs.declared.named.Kind.TheVariants.{Included, Mentioned, Linked}
 
--- a title, and a page that is found by it
-pub record TitlePage : Type 0 where
-  pub title : PageTitle
-  pub page : ℕ
+-- the page is among these
+abbrev pub is_in : ℕ → List ℕ → Bool
+is_in page pages = list_any (λ k. is_eq (nat_cmp page k)) pages
 
--- by the title, and then by the page
-abbrev pub key_cmp : TitlePage → TitlePage → Ordering
-key_cmp a b = ordering_then (title_cmp a.title b.title) (nat_cmp a.page b.page)
+-- the page is among those that stand in what was found, if anything was
+abbrev pub is_in_found : {S : Type 0} → (S → List ℕ) → Option S → ℕ → Bool
+is_in_found pages_of found page = elim found [ None ↦ false | Some pages ↦ is_in page (pages_of pages) ]
 
--- the key is behind the first, and at most the second
-abbrev pub is_between : TitlePage → TitlePage → TitlePage → Bool
-is_between a b key = range_contains key_cmp (Behind a) (UpTo b) key
+-- the page is found by the title, in a map in which the pages of a title stand at its place
+abbrev pub has_at : {P S : Type 0} → (P → P → Ordering) → (PageTitle → P) → (S → List ℕ) → BTreeMap P S → PageTitle → ℕ → Bool
+has_at cmp place pages_of named title page = is_in_found pages_of (get cmp named (place title)) page
+
+-- titles, each with the pages that are found by it
+abbrev pub Sets : Type 0
+Sets = BTreeMap PageTitle (BTreeSet ℕ)
 
 -- the page is found by the title
-abbrev pub has : List TitlePage → PageTitle → ℕ → Bool
-has keys title page = list_any (λ key. title_eq key.title title && key.page == page) keys
+abbrev pub has : Sets → PageTitle → ℕ → Bool
+has = has_at title_cmp (λ (title : PageTitle). title) (λ (pages : BTreeSet ℕ). pages.keys)
 
 -- the rows have the title among those of the kind
 abbrev pub lists : Kind → PageRows → PageTitle → Bool
@@ -61,32 +66,40 @@ listed kind stored title above most =
 -- ---- sets of keys, in which the pages are found by what their rows have
 
 -- Each page is found by all that its rows have. It may be found by more, so what is found is looked up in the rows.
-abbrev pub FindsIn : {X K : Type 0} → (PageRows → X → Bool) → (List K → X → ℕ → Bool) → List PageRows → List K → Type 0
+abbrev pub FindsIn : {X S : Type 0} → (PageRows → X → Bool) → (S → X → ℕ → Bool) → List PageRows → S → Type 0
 FindsIn {X} passes finds stored keys = (x : X) (page : ℕ) → page_passes passes stored x page ≡ true → finds keys x page ≡ true
 
 -- the page is found by all that these rows have
-abbrev pub FindsRowsIn : {X K : Type 0} → (PageRows → X → Bool) → (List K → X → ℕ → Bool) → PageRows → ℕ → List K → Type 0
+abbrev pub FindsRowsIn : {X S : Type 0} → (PageRows → X → Bool) → (S → X → ℕ → Bool) → PageRows → ℕ → S → Type 0
 FindsRowsIn {X} passes finds rows page keys = (x : X) → passes rows x ≡ true → finds keys x page ≡ true
 
 -- what was found is found still
-abbrev pub KeptIn : {X K : Type 0} → (List K → X → ℕ → Bool) → List K → List K → Type 0
+abbrev pub KeptIn : {X S : Type 0} → (S → X → ℕ → Bool) → S → S → Type 0
 KeptIn {X} finds old new = (x : X) (page : ℕ) → finds old x page ≡ true → finds new x page ≡ true
 
 -- what was found is found still, but for the page by what these rows don't have
-abbrev pub SparesIn : {X K : Type 0} → (PageRows → X → Bool) → (List K → X → ℕ → Bool) → PageRows → ℕ → List K → List K → Type 0
+abbrev pub SparesIn : {X S : Type 0} → (PageRows → X → Bool) → (S → X → ℕ → Bool) → PageRows → ℕ → S → S → Type 0
 SparesIn {X} passes finds rows page old new =
     (x : X) (other : ℕ) → (other ≡ page → passes rows x ≡ true) → finds old x other ≡ true → finds new x other ≡ true
 
 -- ---- the same of titles
 
-abbrev pub Finds : Kind → List PageRows → List TitlePage → Type 0
+-- the number is above another
+abbrev pub is_above : ℕ → ℕ → Bool
+is_above above page = range_contains nat_cmp (Behind above) Unbounded page
+
+-- what was found is found still, but for the page by the title
+abbrev pub SparesAt : PageTitle → ℕ → Sets → Sets → Type 0
+SparesAt title page old new = (other : PageTitle) (number : ℕ) → (title_eq other title && number == page) ≡ false → has old other number ≡ true → has new other number ≡ true
+
+abbrev pub Finds : Kind → List PageRows → Sets → Type 0
 Finds kind = FindsIn (lists kind) has
 
-abbrev pub FindsBy : Kind → PageRows → ℕ → List TitlePage → Type 0
+abbrev pub FindsBy : Kind → PageRows → ℕ → Sets → Type 0
 FindsBy kind = FindsRowsIn (lists kind) has
 
-abbrev pub Kept : List TitlePage → List TitlePage → Type 0
+abbrev pub Kept : Sets → Sets → Type 0
 Kept = KeptIn has
 
-abbrev pub Spares : Kind → PageRows → ℕ → List TitlePage → List TitlePage → Type 0
+abbrev pub Spares : Kind → PageRows → ℕ → Sets → Sets → Type 0
 Spares kind = SparesIn (lists kind) has

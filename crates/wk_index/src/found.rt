@@ -7,11 +7,11 @@ ghost use Rattle.wk_index.specs.declared.named.Kind.TheVariants.{Included as ByI
 
 use crate::entries::{Entries, add_entries, drop_entries};
 use crate::lookup::Lookup;
-use crate::named::{Kind, Named, NamedBy, add_rows, drop_key, drop_titles};
+use crate::named::{Kind, Named, add_rows, drop_key, drop_titles};
 use crate::pages::rows_at;
 use crate::shared_rows::SharedRows;
 use std::alloc::Global;
-use std::collections::BTreeSet;
+use std::collections::{BTreeMap, BTreeSet};
 use wk_memory::Memory;
 use wk_table_rows::PageRows;
 use wk_title::Title;
@@ -31,9 +31,9 @@ impl Found {
         ensures { FindsAll [] result }
     {
         Found {
-            included: BTreeSet::new(alloc),
-            mentioned: BTreeSet::new(alloc),
-            linked: BTreeSet::new(alloc),
+            included: BTreeMap::new(alloc),
+            mentioned: BTreeMap::new(alloc),
+            linked: BTreeMap::new(alloc),
             members: BTreeSet::new(alloc),
         }
     }
@@ -92,12 +92,11 @@ fn drop_included(
     page: u32,
     rows: &Lookup<'_>,
 )
-    ensures included { Spares ByIncluded rows.now page included.old.keys included.new.keys }
-    ensures mentioned { Spares ByMentioned rows.now page mentioned.old.keys mentioned.new.keys }
+    ensures included { Spares ByIncluded rows.now page included.old included.new }
+    ensures mentioned { Spares ByMentioned rows.now page mentioned.old mentioned.new }
 {
     for title in titles {
-        let key = NamedBy { title, page };
-        drop_key(included, &key, rows, Kind::Included);
-        drop_key(mentioned, &key, rows, Kind::Mentioned);
+        drop_key(included, &title, page, rows, Kind::Included);
+        drop_key(mentioned, &title, page, rows, Kind::Mentioned);
     }
 }

@@ -1,35 +1,30 @@
 //! What the pages of a store are found by, gathered page by page. The ordered sets of an index are made of it at once,
-//! which costs a sort and no search for each.
-ghost use Rattle.std.specs.Prelude.{◌≡◌, ◌≤◌, ◌<◌, ◌++◌, ◌∷◌, [], true, ◌&&◌, ℕ, List, IfOk, OnOk, bytes_eq, length};
+//! which costs no search for each.
+ghost use Rattle.std.specs.Prelude.{◌≡◌, [], true, ◌&&◌, ℕ, List, IfOk, OnOk, bytes_eq};
 ghost use Rattle.std.specs.BTreeSet.{IsFromIterResult};
 ghost use Rattle.std.specs.List.{list_any};
 ghost use Rattle.wk_text_rules.specs.Titles.{PageTitle, title_eq};
-ghost use Rattle.wk_page_rules.specs.Verdict.{max_pages};
-ghost use Rattle.wk_index.specs.Entries.{FindsRowsEntries, KeptEntries, has_entry};
-ghost use Rattle.wk_index.specs.Gathered.{GathersAll, GathersRows, GrowsAll, Joins};
-ghost use Rattle.wk_index.specs.Found.{FindsAll};
-ghost use Rattle.wk_index.specs.Named.{Kept, has};
+ghost use Rattle.wk_index.specs.Entries.{KeptEntries, has_entry};
+ghost use Rattle.wk_index.specs.Gathered.{AreAllTitled, GathersAll, Joins};
+ghost use Rattle.wk_index.specs.Places.{AddsGathered, AreTitled};
 
 use crate::entries::Entry;
 use crate::found::Found;
-use crate::named::{Named, NamedBy};
+use crate::named::Named;
+use crate::pages_by_title::{PagesByTitle, add_to};
 use std::alloc::Global;
-use std::collections::BTreeSet;
+use std::collections::{BTreeMap, BTreeSet};
 use wk_bytes::Text;
 use wk_memory::Memory;
-use wk_table_rows::PageRows;
 use wk_title::Title;
-
-/// Titles, each with a page that is found by it, in the order in which they came.
-type Keys = Vec<NamedBy>;
 
 /// The pages by the titles that they include, by those whose existence they test, by those that they link to, and by
 /// their categories and the sort keys in them.
 #[derive(Debug, Drop)]
 pub struct Gathered {
-    pub included: Keys,
-    pub tested: Keys,
-    pub linked: Keys,
+    pub included: PagesByTitle,
+    pub tested: PagesByTitle,
+    pub linked: PagesByTitle,
     pub members: Vec<Entry>,
 }
 
@@ -39,26 +34,16 @@ impl Gathered {
         ensures { GathersAll [] result }
     {
         Gathered {
-            included: Vec::new(alloc),
-            tested: Vec::new(alloc),
-            linked: Vec::new(alloc),
+            included: BTreeMap::new(alloc),
+            tested: BTreeMap::new(alloc),
+            linked: BTreeMap::new(alloc),
             members: Vec::new(alloc),
         }
     }
 
-    /// Finds the page by its rows.
-    pub fn add(&mut self, rows: &PageRows, page: u32) -> Result<(), Memory>
-        ensures there { OnOk result (GathersRows rows.now page self.new) }
-        ensures kept { GrowsAll self.old self.new }
-    {
-        push_titles(&mut self.included, &rows.templates, page)?;
-        push_titles(&mut self.tested, &rows.exists, page)?;
-        push_titles(&mut self.linked, &rows.links, page)?;
-        push_entries(&mut self.members, rows, page)
-    }
-
     /// The sets by which the pages are found.
     pub fn into_found(self, alloc: Global) -> Result<Found, Memory>
+        requires { AreAllTitled self }
         ensures { IfOk result (λ found. Joins self found) }
     {
         let Gathered {
@@ -67,9 +52,9 @@ impl Gathered {
             linked,
             members,
         } = self;
-        let included = set_of(alloc, included)?;
-        let mentioned = joined(alloc, &included, tested)?;
-        let linked = set_of(alloc, linked)?;
+        let mentioned = both(alloc, &included, &tested)?;
+        let included = one(alloc, &included)?;
+        let linked = one(alloc, &linked)?;
         let members = set_of(alloc, members)?;
         Ok(Found {
             included,
@@ -78,27 +63,6 @@ impl Gathered {
             members,
         })
     }
-}
-
-/// Finds the page by the title.
-fn push_title(keys: &mut Keys, title: &Title, page: u32) -> Result<(), Memory>
-    ensures there { OnOk result (has keys.new.items title.now page ≡ true) }
-    ensures kept { Kept keys.old.items keys.new.items }
-{
-    let title = title.share()?;
-    keys.push(NamedBy { title, page })?;
-    Ok(())
-}
-
-/// Finds the page by the titles.
-fn push_titles(keys: &mut Keys, titles: &[Title], page: u32) -> Result<(), Memory>
-    ensures there { OnOk result ((title : PageTitle) → list_any (title_eq title) titles.now ≡ true → has keys.new.items title page ≡ true) }
-    ensures kept { Kept keys.old.items keys.new.items }
-{
-    for title in titles {
-        push_title(keys, title, page)?;
-    }
-    Ok(())
 }
 
 /// Finds the page by the category and the sort key.
@@ -122,7 +86,7 @@ fn push_entry(
 }
 
 /// Finds the page by the categories of the members and the sort keys in them.
-fn push_members(
+pub fn push_members(
     entries: &mut Vec<Entry>,
     members: &[(Title, Text, Text)],
     page: u32,
@@ -136,15 +100,6 @@ fn push_members(
     Ok(())
 }
 
-/// Finds the page by the categories of its rows and the sort keys in them.
-fn push_entries(entries: &mut Vec<Entry>, rows: &PageRows, page: u32) -> Result<(), Memory>
-    ensures there { OnOk result (FindsRowsEntries rows.now page entries.new.items) }
-    ensures kept { KeptEntries entries.old.items entries.new.items }
-{
-    push_members(entries, &rows.members, page)?;
-    Ok(())
-}
-
 /// The keys as a set.
 fn set_of<K: Ord + Drop>(alloc: Global, keys: Vec<K>) -> Result<BTreeSet<K>, Memory>
     ensures { IfOk result (λ set. IsFromIterResult K.cmp keys.items set) }
@@ -153,27 +108,23 @@ fn set_of<K: Ord + Drop>(alloc: Global, keys: Vec<K>) -> Result<BTreeSet<K>, Mem
     Ok(set)
 }
 
-/// The keys of the set and these as a set. The keys of a set are in order already, which a sort makes use of.
-fn joined(alloc: Global, included: &Named, tested: Keys) -> Result<Named, Memory>
-    ensures { IfOk result (λ named. Kept included.now.keys named.keys × Kept tested.items named.keys) }
+/// The sets of what was gathered.
+fn one(alloc: Global, gathered: &PagesByTitle) -> Result<Named, Memory>
+    requires { AreTitled gathered.now }
+    ensures { IfOk result (λ named. AddsGathered gathered.now named) }
 {
-    let mut keys = shared_keys(alloc, included)?;
-    let mut tested = tested;
-    keys.append(&mut tested)?;
-    let named = set_of(alloc, keys)?;
+    let mut named = BTreeMap::new(alloc);
+    add_to(alloc, gathered, &mut named)?;
     Ok(named)
 }
 
-/// The keys of the set, shared.
-fn shared_keys(alloc: Global, named: &Named) -> Result<Keys, Memory>
-    ensures { IfOk result (λ keys. keys.items ≡ named.now.keys) }
+/// The sets of what was gathered in two.
+fn both(alloc: Global, first: &PagesByTitle, second: &PagesByTitle) -> Result<Named, Memory>
+    requires first { AreTitled first.now }
+    requires second { AreTitled second.now }
+    ensures { IfOk result (λ named. AddsGathered first.now named × AddsGathered second.now named) }
 {
-    let mut keys = Vec::with_capacity(alloc, named.len())?;
-    for key in named {
-        keys.push(NamedBy {
-            title: key.title.share()?,
-            page: key.page,
-        })?;
-    }
-    Ok(keys)
+    let mut named = one(alloc, first)?;
+    add_to(alloc, second, &mut named)?;
+    Ok(named)
 }

@@ -14,6 +14,7 @@ mod members;
 mod named;
 mod order;
 mod pages;
+mod pages_by_title;
 mod row_titles;
 mod same;
 mod shared_rows;

@@ -1,7 +1,7 @@
 //! An index out of the tables of a store, in one walk over the pages.
 ghost use Rattle.std.specs.Prelude.{◌≡◌, ◌<◌, ◌++◌, ◌∷◌, [], IfOk, OnOk, length};
 ghost use Rattle.wk_page_rules.specs.Verdict.{max_pages};
-ghost use Rattle.wk_table_rules.specs.Stored.{stored_rows};
+ghost use Rattle.wk_table_rules.specs.Stored.{rows_of_page, stored_rows};
 ghost use Rattle.wk_index.specs.Loadable.{AreLoadable};
 
 use crate::gathered::Gathered;
@@ -12,7 +12,7 @@ use crate::title_map::TitleMap;
 use std::alloc::Global;
 use std::marker::Model;
 use wk_memory::Memory;
-use wk_table_rows::{PageRows, TableRows};
+use wk_table_rows::TableRows;
 
 /// The rows of the pages that were walked over, and what the pages are found by. Contracts see the rows page by page.
 #[derive(Debug, Drop)]
@@ -45,12 +45,20 @@ impl Loading {
         }
     }
 
-    /// Adds a page with these rows.
-    fn push(&mut self, rows: PageRows) -> Result<(), Memory>
-        requires { length self.old < max_pages }
-        ensures { OnOk result (self.new ≡ self.old ++ rows ∷ []) }
+    /// Adds the page with this number in the tables.
+    fn push(
+        &mut self,
+        alloc: Global,
+        made: &mut TitleMap,
+        tables: &TableRows,
+        page: u64,
+    ) -> Result<(), Memory>
+        requires few { length self.old < max_pages }
+        requires loadable { AreLoadable tables.now }
+        ensures { OnOk result (self.new ≡ self.old ++ rows_of_page tables.now page ∷ []) }
     {
-        self.gathered.add(&rows, self.rows.len() as u32 + 1)?;
+        let number = self.rows.len() as u32 + 1;
+        let rows = page_rows(alloc, made, &mut self.gathered, tables, page, number)?;
         self.rows.push(SharedRows::new(rows)?)?;
         Ok(())
     }
@@ -75,7 +83,7 @@ pub fn load_rows(rows: &TableRows) -> Result<Index, Memory>
     let mut made = TitleMap::new(alloc);
     let mut loading = Loading::new(alloc);
     for page in pages {
-        loading.push(page_rows(alloc, &mut made, rows, page.page_id)?)?;
+        loading.push(alloc, &mut made, rows, page.page_id)?;
     }
     let index = loading.into_index(alloc)?;
     Ok(index)

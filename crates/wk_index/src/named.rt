@@ -1,17 +1,17 @@
-//! Sets of titles and pages, in order: the pages that are found by a title are next to each other, and rise.
-ghost use Rattle.std.specs.Prelude.{◌≡◌, ◌≤◌, true, false, length, map, filter, take, IfOk, OnOk};
-ghost use Rattle.std.specs.Ordering.{is_gt};
+//! The pages that are found by a title: the titles in order, and the pages of each, which rise.
+ghost use Rattle.std.specs.Prelude.{◌≡◌, ℕ, true, filter, take, IfOk, None, OnOk};
+ghost use Rattle.std.specs.BTreeMap.{get};
+ghost use Rattle.std.specs.BTreeSet.{IsFromIterResult};
 ghost use Rattle.std.specs.List.Sorted.{IsStrictlySortedBy};
 ghost use Rattle.std.specs.List.{list_any};
-ghost use Rattle.wk_text_rules.specs.Titles.{PageTitle, title_eq};
-ghost use Rattle.wk_page_rules.specs.Verdict.{max_pages};
-ghost use Rattle.wk_index.specs.Named.{Finds, FindsBy, Kept, Spares, has, is_between, key_cmp, kind_of, listed, lists, page_lists};
+ghost use Rattle.std.specs.Ordering.{nat_cmp};
+ghost use Rattle.wk_text_rules.specs.Titles.{PageTitle, title_cmp, title_eq};
+ghost use Rattle.wk_index.specs.Named.{Finds, FindsBy, Kept, Spares, SparesAt, has, is_above, is_in, kind_of, listed, page_lists};
 
 use crate::lookup::Lookup;
 use crate::shared_rows::SharedRows;
 use std::alloc::Global;
-use std::collections::BTreeSet;
-use std::marker::Model;
+use std::collections::{BTreeMap, BTreeSet};
 use std::ops::Bound;
 use wk_memory::Memory;
 use wk_row_rules::Reach;
@@ -29,25 +29,8 @@ pub enum Kind {
     Linked,
 }
 
-/// A title, and a page that is found by it. In order by the title, and then by the page.
-#[derive(Debug, Drop, PartialEq, Eq, PartialOrd, Ord)]
-pub struct NamedBy {
-    pub title: Title,
-    pub page: u32,
-}
-
-impl Model for NamedBy {
-    ghost use Rattle.wk_index.specs.Named.{TitlePage};
-
-    ghost Value = { TitlePage };
-
-    ghost view = { λ k. record { title = k.title; page = k.page } };
-
-    ghost inverse = { λ k. record { title = k.title; page = k.page } };
-}
-
 /// Titles, each with the pages that are found by it.
-pub type Named = BTreeSet<NamedBy>;
+pub type Named = BTreeMap<Title, BTreeSet<u32>>;
 
 /// The kind of rows that count under the reach.
 pub fn kind_of(reach: Reach) -> Kind
@@ -72,82 +55,166 @@ fn page_has_title(stored: &[SharedRows], page: u32, title: &Title, kind: Kind) -
     }
 }
 
-/// Finds the page by the title.
-fn add_title(named: &mut Named, title: &Title, page: u32) -> Result<(), Memory>
-    ensures there { OnOk result (has named.new.keys title.now page ≡ true) }
-    ensures kept { Kept named.old.keys named.new.keys }
+/// The pages as a set.
+pub fn set_of(alloc: Global, pages: &[u32]) -> Result<BTreeSet<u32>, Memory>
+    ensures { IfOk result (λ set. IsFromIterResult nat_cmp pages.now set) }
+{
+    let set = pages.iter().copied().collect(alloc)?;
+    Ok(set)
+}
+
+/// Finds the pages by a title that no page is found by.
+pub fn add_set(named: &mut Named, title: &Title, pages: BTreeSet<u32>) -> Result<(), Memory>
+    requires { get title_cmp named.old title.now ≡ None }
+    ensures there { OnOk result ((page : ℕ) → is_in page pages.keys ≡ true → has named.new title.now page ≡ true) }
+    ensures kept { Kept named.old named.new }
 {
     let title = title.share()?;
-    named.insert(NamedBy { title, page })?;
+    named.insert(title, pages)?;
     Ok(())
 }
 
+/// Finds the page by a title that no page is found by.
+fn add_first(alloc: Global, named: &mut Named, title: &Title, page: u32) -> Result<(), Memory>
+    requires { get title_cmp named.old title.now ≡ None }
+    ensures there { OnOk result (has named.new title.now page ≡ true) }
+    ensures kept { Kept named.old named.new }
+{
+    let pages = set_of(alloc, &[page])?;
+    add_set(named, title, pages)?;
+    Ok(())
+}
+
+/// Finds the page by the title.
+fn add_title(alloc: Global, named: &mut Named, title: &Title, page: u32) -> Result<(), Memory>
+    ensures there { OnOk result (has named.new title.now page ≡ true) }
+    ensures kept { Kept named.old named.new }
+{
+    match named.get_mut(title) {
+        Some(pages) => {
+            pages.insert(page)?;
+            Ok(())
+        }
+        None => add_first(alloc, named, title, page),
+    }
+}
+
 /// Finds the page by the titles.
-fn add_titles(named: &mut Named, titles: &[Title], page: u32) -> Result<(), Memory>
-    ensures there { OnOk result ((title : PageTitle) → list_any (title_eq title) titles.now ≡ true → has named.new.keys title page ≡ true) }
-    ensures kept { Kept named.old.keys named.new.keys }
+fn add_titles(alloc: Global, named: &mut Named, titles: &[Title], page: u32) -> Result<(), Memory>
+    ensures there { OnOk result ((title : PageTitle) → list_any (title_eq title) titles.now ≡ true → has named.new title page ≡ true) }
+    ensures kept { Kept named.old named.new }
 {
     for title in titles {
-        add_title(named, title, page)?;
+        add_title(alloc, named, title, page)?;
     }
     Ok(())
 }
 
 /// Finds the page by the titles that its rows have.
 pub fn add_rows(named: &mut Named, rows: &PageRows, page: u32, kind: Kind) -> Result<(), Memory>
-    ensures there { OnOk result (FindsBy kind rows.now page named.new.keys) }
-    ensures kept { Kept named.old.keys named.new.keys }
+    ensures there { OnOk result (FindsBy kind rows.now page named.new) }
+    ensures kept { Kept named.old named.new }
 {
+    let alloc = *rows.templates.allocator();
     match kind {
-        Kind::Included => add_titles(named, &rows.templates, page),
+        Kind::Included => add_titles(alloc, named, &rows.templates, page),
         Kind::Mentioned => {
-            add_titles(named, &rows.templates, page)?;
-            add_titles(named, &rows.exists, page)
+            add_titles(alloc, named, &rows.templates, page)?;
+            add_titles(alloc, named, &rows.exists, page)
         }
-        Kind::Linked => add_titles(named, &rows.links, page),
+        Kind::Linked => add_titles(alloc, named, &rows.links, page),
+    }
+}
+
+/// Finds the pages by the title, one after the other.
+fn add_each(alloc: Global, named: &mut Named, title: &Title, pages: &[u32]) -> Result<(), Memory>
+    ensures there { OnOk result ((page : ℕ) → is_in page pages.now ≡ true → has named.new title.now page ≡ true) }
+    ensures kept { Kept named.old named.new }
+{
+    for page in pages {
+        add_title(alloc, named, title, *page)?;
+    }
+    Ok(())
+}
+
+/// Finds the pages by the title: those of a title that isn't there yet all at once.
+pub fn add_pages(
+    alloc: Global,
+    named: &mut Named,
+    title: &Title,
+    pages: &[u32],
+) -> Result<(), Memory>
+    ensures there { OnOk result ((page : ℕ) → is_in page pages.now ≡ true → has named.new title.now page ≡ true) }
+    ensures kept { Kept named.old named.new }
+{
+    if named.contains_key(title) {
+        return add_each(alloc, named, title, pages);
+    }
+    let pages = set_of(alloc, pages)?;
+    add_set(named, title, pages)?;
+    Ok(())
+}
+
+/// Finds the page no longer by the title. Takes no memory.
+fn drop_page(named: &mut Named, title: &Title, page: u32)
+    ensures { SparesAt title.now page named.old named.new }
+{
+    if let Some(pages) = named.get_mut(title) {
+        pages.remove(&page);
+    }
+}
+
+/// Takes the title away, where no page is found by it. Takes no memory.
+fn drop_if_empty(named: &mut Named, title: &Title)
+    ensures { Kept named.old named.new }
+{
+    let Some(pages) = named.get(title) else {
+        return;
+    };
+    if pages.is_empty() {
+        named.remove(title);
     }
 }
 
 /// Finds the page no longer by the title, where its rows don't have the title. Takes no memory.
-pub fn drop_key(named: &mut Named, key: &NamedBy, rows: &Lookup<'_>, kind: Kind)
-    ensures { Spares kind rows.now key.now.page named.old.keys named.new.keys }
+pub fn drop_key(named: &mut Named, title: &Title, page: u32, rows: &Lookup<'_>, kind: Kind)
+    ensures { Spares kind rows.now page named.old named.new }
 {
-    if !rows.has(&key.title, kind) {
-        named.remove(key);
+    if !rows.has(title, kind) {
+        drop_page(named, title, page);
+        drop_if_empty(named, title);
     }
 }
 
 /// Finds the page no longer by those of the titles that its rows don't have. Takes no memory.
 pub fn drop_titles(named: &mut Named, titles: Vec<Title>, page: u32, rows: &Lookup<'_>, kind: Kind)
-    ensures { Spares kind rows.now page named.old.keys named.new.keys }
+    ensures { Spares kind rows.now page named.old named.new }
 {
     for title in titles {
-        drop_key(named, &NamedBy { title, page }, rows, kind);
+        drop_key(named, &title, page, rows, kind);
     }
 }
 
-/// The pages between two keys whose rows have the title, rising, at most so many.
-fn pages_between(
+/// Those of the pages above a number whose rows have the title, rising, at most so many.
+fn pages_above(
     alloc: Global,
-    named: &Named,
+    pages: &BTreeSet<u32>,
     stored: &[SharedRows],
     title: &Title,
     kind: Kind,
-    bounds: (NamedBy, NamedBy),
+    above: u32,
     most: usize,
 ) -> Result<Vec<u32>, Memory>
-    requires { is_gt (key_cmp bounds.0 bounds.1) ≡ false }
-    ensures pages { IfOk result (λ pages. pages.items ≡ take most (filter (page_lists kind stored.now title.now) (map (λ key. key.page) (filter (is_between bounds.0 bounds.1) named.now.keys)))) }
-    ensures ordered { IsStrictlySortedBy key_cmp named.now.keys }
+    ensures pages { IfOk result (λ found. found.items ≡ take most (filter (page_lists kind stored.now title.now) (filter (is_above above) pages.now.keys))) }
+    ensures ordered { IsStrictlySortedBy nat_cmp pages.now.keys }
 {
-    let (start, end) = bounds;
-    let pages = named
-        .range((Bound::Excluded(start), Bound::Included(end)))
-        .map(|key| key.page)
+    let found = pages
+        .range((Bound::Excluded(above), Bound::Unbounded))
+        .copied()
         .filter(|page| page_has_title(stored, *page, title, kind))
         .take(most)
         .collect(alloc)?;
-    Ok(pages)
+    Ok(found)
 }
 
 /// The pages above a number whose rows have the title, rising, at most so many.
@@ -160,20 +227,12 @@ pub fn pages(
     above: u32,
     most: usize,
 ) -> Result<Vec<u32>, Memory>
-    requires found { Finds kind stored.now named.now.keys }
-    requires few { length stored.now ≤ max_pages }
+    requires found { Finds kind stored.now named.now }
     ensures { IfOk result (λ pages. pages.items ≡ listed kind stored.now title.now above most) }
 {
-    let first = title.share()?;
-    let last = title.share()?;
-    let start = NamedBy {
-        title: first,
-        page: above,
+    let Some(pages) = named.get(title) else {
+        return Ok(Vec::new(alloc));
     };
-    let end = NamedBy {
-        title: last,
-        page: u32::MAX,
-    };
-    let pages = pages_between(alloc, named, stored, title, kind, (start, end), most)?;
-    Ok(pages)
+    let found = pages_above(alloc, pages, stored, title, kind, above, most)?;
+    Ok(found)
 }

@@ -18,7 +18,7 @@ use Rattle.wk_lex.proofs.SpanSteps.{spans_at, span_at, spans_at-step, spans_at-e
 
 -- ---- a place at which no shape fits
 
-abbrev NoneFit : {K : Type 0} → List (K × Shape ℕ) → List ℕ → Type 0
+abbrev pub NoneFit : {K : Type 0} → List (K × Shape ℕ) → List ℕ → Type 0
 NoneFit [] text = Unit {0}
 NoneFit (alternative ∷ alternatives) text = (alternative.1 text ≡ None) × NoneFit alternatives text
 
@@ -27,6 +27,14 @@ none_fit-otherwise [] otherwise text none = refl
 none_fit-otherwise {K} (alternative ∷ alternatives) otherwise text none =
     ap (λ o. elim o as (λ _. K × List ℕ) [ Some rest ↦ (alternative.0, rest) | None ↦ first_that_fits alternatives otherwise text ]) none.0
     ∙ none_fit-otherwise alternatives otherwise text none.1
+
+-- the first that fits, behind some that don't
+pub fits-behind : {K : Type 0} (passed : List (K × Shape ℕ)) (kind : K) (shape : Shape ℕ) (alternatives : List (K × Shape ℕ)) (otherwise : K × List ℕ) (text rest : List ℕ) → NoneFit passed text → shape text ≡ Some rest → first_that_fits (passed ++ (kind, shape) ∷ alternatives) otherwise text ≡ (kind, rest)
+fits-behind {K} [] kind shape alternatives otherwise text rest none e =
+    ap (λ o. elim o as (λ _. K × List ℕ) [ Some r ↦ (kind, r) | None ↦ first_that_fits alternatives otherwise text ]) e
+fits-behind {K} (alternative ∷ passed) kind shape alternatives otherwise text rest none e =
+    ap (λ o. elim o as (λ _. K × List ℕ) [ Some r ↦ (alternative.0, r) | None ↦ first_that_fits (passed ++ (kind, shape) ∷ alternatives) otherwise text ]) none.0
+    ∙ fits-behind passed kind shape alternatives otherwise text rest none.1 e
 
 pub moved : (shape : Shape ℕ) (whole text : List ℕ) (at : ℕ) (end : Option ℕ) → whole ≡ text → EndsAt shape whole at end → EndsAt shape text at end
 moved shape whole text at end same h = subst (λ t. EndsAt shape t at end) same h

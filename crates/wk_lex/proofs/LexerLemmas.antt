@@ -11,10 +11,12 @@ use Rattle.wk_tree_rules.specs.Tags.{line_of_comments}
 use Rattle.wk_tree_rules.specs.declared.AtomKind.{AtomKind}
 use Rattle.wk_tree_rules.specs.declared.AtomKind.TheVariants.{Byte}
 use Rattle.wk_tree_rules.specs.declared.Mode.{Mode}
-use Rattle.wk_lex.specs.Ahead.{atoms_from, byte_atoms, AreSources, IsLongest, IsNextAt, AreBytes}
+use Rattle.wk_lex.specs.Ahead.{atoms_from, byte_atoms, AreSources, IsLongest, IsNextAt, AreBytes, behind_newline, before_mark}
+use Rattle.wk_lex.specs.FirstBytes.{GoesOn, within_a_line, no_first_of_a_line, behind_a_newline, before_a_mark}
 use Rattle.wk_lex.specs.Places.{EndsAt, byte_before}
 use Rattle.wk_lex.specs.Spans.{source_in, span_of, IsAtomAt, IsPlain, IsRunByKind}
 use Rattle.wk_lex.proofs.AtomSteps.{atom_from, run-by_kind}
+use Rattle.wk_lex.proofs.FirstLemmas.{no-line}
 use Rattle.wk_lex.proofs.PlainLemmas.{plain-seen}
 use Rattle.wk_lex.proofs.SpanSteps.{get-is, spans_at-step}
 
@@ -29,6 +31,13 @@ byte_atoms-append at (x ∷ xs) b =
 pub marked_byte : (mark : Bool) → false ≡ not mark → mark ≡ true
 marked_byte true e = refl
 marked_byte false e = absurd (cc)
+
+-- bytes that don't go on are as many as can be
+pub longest-there : (text : List ℕ) (at end : ℕ) (goes : Bool) → goes ≡ false → GoesOn text end goes → IsLongest text at end
+longest-there text at end goes is (within_a_line on plain ne) = absurd (cc)
+longest-there text at end goes is (no_first_of_a_line on plain space tab) = absurd (cc)
+longest-there text at end goes is (behind_a_newline off line) = behind_newline line
+longest-there text at end goes is (before_a_mark off mark) = before_mark mark
 
 module _ (mode : Mode) (text : List ℕ) where
   pub atom-first : (at : ℕ) (next : AtomKind × ℕ) → IsAtomAt mode text at next → atoms_from mode text at ≡ span_of text (atom_from next.0 at next.1) ∷ atoms_from mode text next.1
@@ -106,6 +115,17 @@ module _ (mode : Mode) (text : List ℕ) where
   -- a plain byte that isn't the first of a line
   pub byte-inside : (at : ℕ) → 0 < at → at < length text → get_or text (at - 1) 0 ≢ 10 → IsPlain (get_or text at 0) → IsAtomAt mode text at (Byte, at + 1)
   byte-inside at some within ne plain = plain-seen mode text text at refl within (line-none at some (omega arith) ne) plain
+
+  -- a plain byte with which no line of comments begins
+  pub byte-anywhere : (at : ℕ) → at < length text → IsPlain (get_or text at 0) → get_or text at 0 ≢ 32 → get_or text at 0 ≢ 9 → IsAtomAt mode text at (Byte, at + 1)
+  byte-anywhere at within plain space tab = plain-seen mode text text at refl within (no-line text at within plain.angle space tab) plain
+
+  -- bytes go on over one more
+  pub bytes-on : (at end : ℕ) (goes : Bool) → goes ≡ true → GoesOn text end goes → 0 < end → end < length text → IsPlain (get_or text at 0) → AreBytes mode text at end → AreBytes mode text at (end + 1)
+  bytes-on at end goes is (within_a_line on plain ne) some within first k = bytes-more at end first k (byte-inside end some within ne plain)
+  bytes-on at end goes is (no_first_of_a_line on plain space tab) some within first k = bytes-more at end first k (byte-anywhere end within plain space tab)
+  bytes-on at end goes is (behind_a_newline off line) some within first k = absurd (cc)
+  bytes-on at end goes is (before_a_mark off mark) some within first k = absurd (cc)
 
   -- ---- the next atom
 

@@ -1,5 +1,6 @@
 pub mod AtomSteps
 pub mod ElementLemmas
+pub mod FirstLemmas
 pub mod LexerLemmas
 pub mod NameLemmas
 pub mod PartSteps

@@ -13,7 +13,7 @@ use Rattle.wk_lex.proofs.ElementLemmas.{element-none, open_ended-none}
 use Rattle.wk_lex.proofs.PlaceLemmas.{and_then-none, or_else-second}
 use lib.Pointwise.{pointwise}
 
-other-byte : (t : Bool) (w b : ℕ) → (w == b) ≡ t → b ≢ w → t ≡ false
+pub other-byte : (t : Bool) (w b : ℕ) → (w == b) ≡ t → b ≢ w → t ≡ false
 other-byte true w b e ne = absurd (ne (sym-of (eqb-true w b e)))
   where
     sym-of : w ≡ b → b ≡ w
@@ -28,14 +28,14 @@ module _ (text : List ℕ) (at : ℕ) (within : at < length text) where
   abbrev NotAt : (List ℕ → Option (List ℕ)) → Type 0
   NotAt shape = EndsAt shape text at None
 
-  not-word : (w : ℕ) (ws : List ℕ) → get_or text at 0 ≢ w → NotAt (exactly (w ∷ ws))
+  pub not-word : (w : ℕ) (ws : List ℕ) → get_or text at 0 ≢ w → NotAt (exactly (w ∷ ws))
   not-word w ws ne = record { fits = ap (exactly (w ∷ ws)) (drop-cons text at 0 within) ∙ other-word w (get_or text at 0) ws (drop (suc at) text) ne; within = tt }
 
-  not-run : (mark : ℕ) → get_or text at 0 ≢ mark → NotAt (run_of_delimiters mark)
+  pub not-run : (mark : ℕ) → get_or text at 0 ≢ mark → NotAt (run_of_delimiters mark)
   not-run mark ne = and_then-none text (exactly (mark ∷ mark ∷ [])) (run_of (λ b. b == mark)) at (not-word mark (mark ∷ []) ne)
 
   module _ (ne : get_or text at 0 ≢ 60) where
-    no-comment : NotAt comment
+    pub no-comment : NotAt comment
     no-comment =
         let start : NotAt (exactly (codes "<!--")) = not-word 60 (codes "!--") ne in
         or_else-second text closed_comment (exactly (codes "<!--") and_then to_the_end) at None
@@ -51,16 +51,16 @@ module _ (text : List ℕ) (at : ℕ) (within : at < length text) where
     no-tag : (name : List ℕ) → NotAt (any_tag name)
     no-tag name = or_else-second text (opening_tag name) (end_tag name) at None (no-opening_tag name) (no-end_tag name)
 
-    no-sealed : NotAt sealed_element
+    pub no-sealed : NotAt sealed_element
     no-sealed =
         or_else-second text (element (codes "nowiki")) (element (codes "pre")) at None
         (element-none (codes "nowiki") text at (no-opening_tag (codes "nowiki"))) (element-none (codes "pre") text at (no-opening_tag (codes "pre")))
 
-    no-ignored : (mode : Mode) → NotAt (ignored_element mode)
+    pub no-ignored : (mode : Mode) → NotAt (ignored_element mode)
     no-ignored View = open_ended-none (codes "includeonly") text at (no-opening_tag (codes "includeonly"))
     no-ignored Include = open_ended-none (codes "noinclude") text at (no-opening_tag (codes "noinclude"))
 
-    no-silent : (mode : Mode) → NotAt (silent_tag mode)
+    pub no-silent : (mode : Mode) → NotAt (silent_tag mode)
     no-silent View = or_else-second text (any_tag (codes "noinclude")) (any_tag (codes "onlyinclude")) at None (no-tag (codes "noinclude")) (no-tag (codes "onlyinclude"))
     no-silent Include = no-tag (codes "includeonly")
 

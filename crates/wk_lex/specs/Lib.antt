@@ -1,4 +1,5 @@
 pub mod Ahead
+pub mod FirstBytes
 pub mod Parts
 pub mod Places
 pub mod Selections

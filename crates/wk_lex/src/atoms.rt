@@ -1,14 +1,15 @@
 //! The atoms of a text.
-ghost use Rattle.std.specs.Prelude.{◌≡◌, ◌<◌, ◌≤◌, ◌^◌, length, map, not, IfOk};
+ghost use Rattle.std.specs.Prelude.{◌≡◌, ◌<◌, ◌≤◌, ◌^◌, length, map, not, slice_index, IfOk};
 ghost use Rattle.std.specs.Bool.{OnTrue};
 ghost use Rattle.std.specs.List.{All};
 ghost use Rattle.wk_tree_rules.specs.Atoms.{atoms};
 ghost use Rattle.wk_lex.specs.Spans.{span_of, is_mark, IsAtomAt, IsPlain, IsRow, IsWithin, IsRunWhereMarks};
+ghost use Rattle.wk_lex.specs.FirstBytes.{IsClosing, IsNoLineAt, IsOpening};
+ghost use Rattle.wk_tree_rules.specs.declared.Mode.{Mode as ReadingMode};
 
 use crate::Atom;
 use crate::comment::{comment, whole_line_of_comments};
 use crate::marks::{closing_run, opening_run};
-use crate::places::word_at;
 use crate::tags::Tags;
 use std::alloc::Global;
 use wk_memory::Memory;
@@ -22,20 +23,15 @@ pub fn is_plain(byte: u8) -> bool
     !matches!(byte, b'<' | b'{' | b'[' | b'}' | b']' | b'|' | b'=')
 }
 
-/// The kind of the atom that begins at the place, and the place behind it.
-pub fn atom_at(tags: &mut Tags, mode: Mode, at: usize) -> (AtomKind, usize)
-    requires { at < length tags.old }
+/// The kind of the atom that begins at a `<`, and the place behind it, where no line of comments begins.
+fn angle_at(tags: &mut Tags, mode: Mode, at: usize) -> (AtomKind, usize)
+    requires within { at < length tags.old }
+    requires angle { slice_index tags.old at ≡ 60 }
+    requires line { IsNoLineAt tags.old at }
     ensures atom { IsAtomAt mode tags.old at result }
     ensures text { tags.new ≡ tags.old }
 {
     let text = tags.text;
-    if let Some(end) = whole_line_of_comments(text, at) {
-        return (AtomKind::LineComment, end);
-    }
-    // Most bytes are plain, and nothing else is looked for there.
-    if is_plain(text[at]) {
-        return (AtomKind::Byte, at + 1);
-    }
     if let Some(end) = comment(text, at) {
         return (AtomKind::Comment, end);
     }
@@ -48,19 +44,54 @@ pub fn atom_at(tags: &mut Tags, mode: Mode, at: usize) -> (AtomKind, usize)
     if let Some(end) = tags.silent_tag(mode, at) {
         return (AtomKind::Tag, end);
     }
-    if let Some(end) = opening_run(text, at) {
-        return (AtomKind::Open, end);
-    }
-    if let Some(end) = closing_run(text, at) {
-        return (AtomKind::Close, end);
-    }
-    if let Some(end) = word_at(text, at, b"|") {
-        return (AtomKind::Bar, end);
-    }
-    if let Some(end) = word_at(text, at, b"=") {
-        return (AtomKind::Equals, end);
-    }
     (AtomKind::Byte, at + 1)
+}
+
+/// The same at an opening brace or bracket.
+fn opening_at(text: &[u8], at: usize) -> (AtomKind, usize)
+    requires within { at < length text.now }
+    requires opening { IsOpening (slice_index text.now at) }
+    ensures { (mode : ReadingMode) → IsNoLineAt text.now at → IsAtomAt mode text.now at result }
+{
+    match opening_run(text, at) {
+        Some(end) => (AtomKind::Open, end),
+        None => (AtomKind::Byte, at + 1),
+    }
+}
+
+/// The same at a closing brace or bracket.
+fn closing_at(text: &[u8], at: usize) -> (AtomKind, usize)
+    requires within { at < length text.now }
+    requires closing { IsClosing (slice_index text.now at) }
+    ensures { (mode : ReadingMode) → IsNoLineAt text.now at → IsAtomAt mode text.now at result }
+{
+    match closing_run(text, at) {
+        Some(end) => (AtomKind::Close, end),
+        None => (AtomKind::Byte, at + 1),
+    }
+}
+
+/// The kind of the atom that begins at the place, and the place behind it. But for a line of comments it is looked for
+/// by its first byte.
+pub fn atom_at(tags: &mut Tags, mode: Mode, at: usize) -> (AtomKind, usize)
+    requires { at < length tags.old }
+    ensures atom { IsAtomAt mode tags.old at result }
+    ensures text { tags.new ≡ tags.old }
+{
+    let text = tags.text;
+    if let Some(end) = whole_line_of_comments(text, at) {
+        return (AtomKind::LineComment, end);
+    }
+    match text[at] {
+        b'<' => angle_at(tags, mode, at),
+        b'{' => opening_at(text, at),
+        b'[' => opening_at(text, at),
+        b'}' => closing_at(text, at),
+        b']' => closing_at(text, at),
+        b'|' => (AtomKind::Bar, at + 1),
+        b'=' => (AtomKind::Equals, at + 1),
+        _ => (AtomKind::Byte, at + 1),
+    }
 }
 
 /// The atoms of a text that was selected, from its start to its end. Linear in the text.
@@ -73,7 +104,8 @@ pub fn lex(alloc: Global, mode: Mode, selected: &[u8]) -> Result<Vec<Atom>, Memo
     ensures runs { IfOk result (λ found. All (IsRunWhereMarks selected.now) found.items) }
 {
     let mut tags = Tags::new(selected);
-    let mut found = Vec::new(alloc);
+    // No text has more atoms than bytes.
+    let mut found = Vec::with_capacity(alloc, selected.len())?;
     let mut at = 0;
     while at < selected.len() {
         let (kind, end) = atom_at(&mut tags, mode, at);

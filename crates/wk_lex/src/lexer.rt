@@ -1,6 +1,7 @@
 //! The atoms of a text one after another.
 ghost use Rattle.std.specs.Prelude.{◌≡◌, ◌+◌, ◌<◌, ◌≤◌, ◌^◌, [], length, MatchOption};
 ghost use Rattle.wk_lex.specs.Ahead.{AreBytes, IsLongest, IsNextAt, IsNextAtom};
+ghost use Rattle.wk_lex.specs.FirstBytes.{GoesOn};
 ghost use Rattle.wk_lex.specs.Spans.{IsAtomAt};
 ghost use Rattle.wk_tree_rules.specs.Atoms.{atoms};
 ghost use Rattle.wk_tree_rules.specs.declared.AtomKind.TheVariants.{Byte};
@@ -12,8 +13,31 @@ use crate::tags::Tags;
 use std::marker::Model;
 use wk_tree_rules::{AtomKind, Mode};
 
-/// The place behind the byte at the place and the plain bytes that follow it, up to the end of a line. Behind a
-/// newline a line of comments may begin.
+/// Whether bytes that come as one go on over the byte at the place. Over no mark, and over a space or a tab only within
+/// a line, since a line of comments may begin with it.
+fn goes_on(text: &[u8], at: usize) -> bool
+    requires some { 0 < at }
+    requires within { at < length text.now }
+    ensures { GoesOn text.now at result }
+{
+    let byte = text[at];
+    // Most bytes are small letters.
+    if b'a' <= byte && byte <= b'z' {
+        return true;
+    }
+    if !is_plain(byte) {
+        return false;
+    }
+    if byte != b' ' && byte != b'\t' {
+        return true;
+    }
+    if text[at - 1] == b'\n' {
+        return false;
+    }
+    true
+}
+
+/// The place behind the byte at the place and the plain bytes that follow it, up to a line that may be one of comments.
 fn behind_bytes(text: &[u8], at: usize) -> usize
     requires { at < length text.now }
     ensures bytes { (mode : ReadingMode) → IsAtomAt mode text.now at (Byte, at + 1) → AreBytes mode text.now at result }
@@ -23,7 +47,10 @@ fn behind_bytes(text: &[u8], at: usize) -> usize
     if !is_plain(text[at]) {
         return end;
     }
-    while end < text.len() && text[end - 1] != b'\n' && is_plain(text[end]) {
+    while end < text.len() {
+        if !goes_on(text, end) {
+            return end;
+        }
         end += 1;
     }
     end

@@ -321,8 +321,7 @@ const READINGS: [(Mode, &str, &[(AtomKind, &str)]); 6] = [
         Mode::View,
         "ab\ncd{{e",
         &[
-            (AtomKind::Byte, "ab\n"),
-            (AtomKind::Byte, "cd"),
+            (AtomKind::Byte, "ab\ncd"),
             (AtomKind::Open, "{{"),
             (AtomKind::Byte, "e"),
         ],

@@ -1,5 +1,5 @@
 //! What a seat does at the table: it takes its turn and gives it back, makes another seat, and takes another in.
-ghost use Rattle.std.specs.Prelude.{◌≡◌, ℕ, List, [], ◌∷◌, ◌++◌, length, true, false, IfSome};
+ghost use Rattle.std.specs.Prelude.{◌≡◌, ℕ, List, [], ◌∷◌, ◌++◌, length, true, false, IfSome, Some};
 ghost use mathlib.Core.List.{IsPrefix};
 ghost use Rattle.atomic_table.specs.Seated.{TableId};
 ghost use Rattle.wk_turn.specs.Journal.{added, ClosesOwn, AreOwn};
@@ -66,8 +66,8 @@ pub(crate) fn merge_seats<S: Storied>(top: &Top<S>, place: &mut Place<S>, other:
 /// How many callers before its own number a caller may find and not sleep at once.
 const NEAR: u64 = 3;
 
-/// How often such a caller looks before it sleeps: for about as long as it takes to wake a few who sleep, so that callers
-/// who all have a processor don't fall asleep one after the other.
+/// How often such a caller looks before it sleeps, with at most 64 pauses of the processor in between: for about as long as
+/// it takes to wake a few who sleep, so that callers who all have a processor don't fall asleep one after the other.
 const PATIENCE: u64 = 40;
 
 // Sleeps until the caller with this number is called. Whoever calls has served the number before, and changes the word: so
@@ -83,36 +83,45 @@ fn sleep<S: Storied, R: Wait>(rt: &R, top: &Top<S>, number: u64)
     }
 }
 
-/// How a caller waits: how often it has looked without sleeping, and how it spins and yields in between.
-#[derive(Drop)]
-struct Patience {
-    looks: u64,
-    backoff: Backoff,
+// Looks a while whether the number is served. It pauses in between and never yields, since each yield would leave a thread
+// that only computes the processor for its whole share.
+fn look_on<S: Storied>(top: &Top<S>, number: u64) -> bool
+    requires { top.now.table_id.words ≡ 20 }
+{
+    let backoff = Backoff::new();
+    'looking: for _ in 0..PATIENCE {
+        backoff.spin();
+        if top.peek(SERVING) == number {
+            return true;
+        }
+    }
+    false
 }
 
-impl Patience {
-    fn new() -> Patience {
-        Patience {
-            looks: 0,
-            backoff: Backoff::new(),
-        }
+// Lets others go first, where the number that was found served isn't the caller's. How long it rests no clause says;
+// nothing depends on it but time, since the caller looks again at once. It stands apart from the loop, so that a turn that
+// waits for nobody costs no more than its steps.
+#[cold]
+#[inline(never)]
+fn rest<S: Storied, R: Wait>(rt: &R, top: &Top<S>, number: u64, serving: u64)
+    requires { top.now.table_id.words ≡ 20 }
+{
+    if number.wrapping_sub(serving) > NEAR || !look_on(top, number) {
+        sleep(rt, top, number);
     }
+}
 
-    // Lets another thread go first, where the number that was found served isn't the caller's. How long it rests no clause
-    // says; nothing depends on it but time, since the caller looks again at once. It stands apart from the loop, so that a
-    // turn that waits for nobody costs no more than its steps.
-    #[cold]
-    #[inline(never)]
-    fn rest<S: Storied, R: Wait>(&mut self, rt: &R, top: &Top<S>, number: u64, serving: u64)
-        requires { top.now.table_id.words ≡ 20 }
-    {
-        if self.looks < PATIENCE && number.wrapping_sub(serving) <= NEAR {
-            self.looks += 1;
-            self.backoff.snooze();
-        } else {
-            sleep(rt, top, number);
-        }
-    }
+// Takes the state out of the slot that the place holds. It stands apart from the loop, so that what the steps of a take leave
+// in memory isn't cleared before the number is drawn.
+fn take_state<S: Storied>(top: &Top<S>, place: &mut Place<S>) -> S
+    requires table { (place.old.table_id ≡ top.now.table_id) × (top.now.table_id.words ≡ 20)
+        × (top.now.table_id.slots ≡ 1) }
+    requires there { (state : S) × (place.old.me.1 ≡ (0, Some state) ∷ []) }
+    ensures seat { (place.new.table_id ≡ place.old.table_id) × (place.new.id ≡ place.old.id) }
+    ensures taken { (place.old.me.1 ≡ (0, Some result) ∷ [])
+        × (place.new.me ≡ (place.old.me.0, (0, None) ∷ [])) }
+{
+    top.exchange(place, 0, None).unwrap()
 }
 
 /// Draws a number, waits until it is served, and takes the state.
@@ -127,13 +136,12 @@ pub(crate) fn take_turn<S: Storied, R: Wait>(rt: &R, top: &Top<S>, place: &mut P
     ensures finds { Finds S.start S.journal S.closes place.old.me.0 result }
 {
     let number = top.fetch_add::<Draw>(place, TICKET, 1);
-    let mut patience = Patience::new();
     'waiting: for _ in rt.forever() {
         let serving = top.load::<Look>(place, SERVING);
         if serving == number {
-            return top.exchange(place, 0, None).unwrap();
+            return take_state(top, place);
         }
-        patience.rest(rt, top, number, serving);
+        rest(rt, top, number, serving);
     }
     unreachable!()
 }

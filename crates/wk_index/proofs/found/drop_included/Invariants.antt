@@ -4,4 +4,4 @@ use Rattle.wk_index.proofs.found.drop_included.Given as goal
 
 abbrev pub invariant-loop-title : goal.invariant-loop-title
 invariant-loop-title l =
-    Spares Included l.rows l.page l.initial.included.keys l.included.keys × Spares Mentioned l.rows l.page l.initial.mentioned.keys l.mentioned.keys
+    Spares Included l.rows l.page l.initial.included l.included × Spares Mentioned l.rows l.page l.initial.mentioned l.mentioned

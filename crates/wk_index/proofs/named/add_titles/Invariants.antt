@@ -6,4 +6,4 @@ use Rattle.wk_index.proofs.named.add_titles.Given as goal
 
 abbrev pub invariant-loop-title : goal.invariant-loop-title
 invariant-loop-title l =
-    ((title : PageTitle) → list_any (title_eq title) (take l.title-index l.titles) ≡ true → has l.named.keys title l.page ≡ true) × Kept l.initial.named.keys l.named.keys
+    ((title : PageTitle) → list_any (title_eq title) (take l.title-index l.titles) ≡ true → has l.named title l.page ≡ true) × Kept l.initial.named l.named

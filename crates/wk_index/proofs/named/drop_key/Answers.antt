@@ -1,9 +1,8 @@
-use Rattle.std.proofs.Common.{ap, sym, ◌∙◌}
-use Rattle.wk_index.specs.Named.{lists}
-use Rattle.wk_index.proofs.NamedLaws.{removed-spares}
+use Rattle.std.proofs.Common.{sym, ◌∙◌}
+use Rattle.wk_index.proofs.NamedLaws.{dropped-spares}
 use Rattle.wk_index.proofs.named.drop_key.Goals as goal
 
 pub returns-then-not-has : goal.returns-then-not-has
 returns-then-not-has c =
-    removed-spares c.args.kind c.args.rows.now c.args.named.now.keys c.remove.new.self.keys c.args.key.now.title c.args.key.now.page (λ q. c.remove.ensures.updates.0 q)
-    (ap (λ k. lists c.args.kind c.args.rows.now k.title) (sym c.key.view_is) ∙ sym c.has.ensures ∙ c.if-not-has.true)
+    dropped-spares c.args.kind c.args.rows.now c.args.named.now c.drop_page.new.named c.drop_if_empty.new.named c.args.title.now c.args.page
+    (sym c.has.ensures ∙ c.if-not-has.true) c.drop_page.ensures c.drop_if_empty.ensures

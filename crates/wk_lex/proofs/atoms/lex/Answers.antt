@@ -8,8 +8,8 @@ pub loop-at-init : goal.loop-at-init
 loop-at-init c = record {
   text = c.new-tags.ensures;
   within = omega arith;
-  row = subst (IsRow 0 0) (sym c.new-found.ensures.items) refl;
-  atoms = subst (λ found. AreFound c.args.mode c.args.selected.now found 0) (sym c.new-found.ensures.items) (found-none c.args.mode c.args.selected.now);
+  row = subst (IsRow 0 0) (sym c.in_ok-found.ensures.items) refl;
+  atoms = subst (λ found. AreFound c.args.mode c.args.selected.now found 0) (sym c.in_ok-found.ensures.items) (found-none c.args.mode c.args.selected.now);
 }
 
 pub loop-at-preserved : goal.loop-at-preserved

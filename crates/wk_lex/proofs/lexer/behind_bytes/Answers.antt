@@ -1,6 +1,6 @@
-use Rattle.std.proofs.Common.{arith, refl}
-use Rattle.wk_lex.proofs.LexerLemmas.{bytes-one, bytes-more, byte-inside, marked_byte}
-use Rattle.wk_lex.specs.Ahead.{one_mark}
+use Rattle.std.proofs.Common.{true, false, arith, refl}
+use Rattle.wk_lex.proofs.LexerLemmas.{bytes-one, bytes-on, marked_byte, longest-there}
+use Rattle.wk_lex.specs.Ahead.{one_mark, at_the_end}
 use Rattle.wk_lex.proofs.lexer.behind_bytes.Goals as goal
 
 pub returns-then-not-is_plain : goal.returns-then-not-is_plain
@@ -21,6 +21,15 @@ loop-end-preserved c = record {
   place = omega (arith, c.loop-end.invariant.place);
   within = omega (arith, c.loop-end-test.true);
   bytes = λ mode here.
-      bytes-more mode c.args.text.now c.args.at c.loop-end.end c.if-not-is_plain.ensures.plain (c.loop-end.invariant.bytes mode here)
-      (byte-inside mode c.args.text.now c.loop-end.end (omega (arith, c.loop-end.invariant.place)) c.loop-end-test.true c.if-text-end-ne10.true c.if-is_plain.ensures.plain);
+      bytes-on mode c.args.text.now c.args.at c.loop-end.end true refl c.if-not-goes_on.ensures (omega (arith, c.loop-end.invariant.place)) c.loop-end-test.true c.if-not-is_plain.ensures.plain
+      (c.loop-end.invariant.bytes mode here);
 }
+
+pub returns-then-not-goes_on : goal.returns-then-not-goes_on
+returns-then-not-goes_on c = record {
+  bytes = c.loop-end.invariant.bytes;
+  longest = longest-there c.args.text.now c.args.at c.loop-end.end false refl c.if-not-goes_on.ensures;
+}
+
+pub returns : goal.returns
+returns c = record { bytes = c.loop-end.invariant.bytes; longest = at_the_end c.loop-end-test.false }

@@ -1,11 +1,13 @@
 use Rattle.std.proofs.Common.{◌≡◌, refl, subst, sym, ap, ◌∙◌}
 use Rattle.wk_job_rules.specs.Jobs.{first_queued}
 use Rattle.wk_state_rules.specs.States.{title_at}
+use Rattle.wk_state_rules.specs.Events.{Claim}
 use Rattle.wk_state_rules.specs.Tables.{tables_of}
 use Rattle.wk_wiki_rules.specs.Claims.{ClaimOutcome}
 use Rattle.wk_core.specs.Tickets.{IsOut}
 use Rattle.wk_core.proofs.TicketFacts.{claimed-out, titled-page}
 use Rattle.wk_life_laws.specs.Lives.{Life}
+use Rattle.wk_core.proofs.CacheFacts.{lasting-next, lasting-same}
 use Rattle.wk_core.proofs.WikiSteps.{told-same}
 use Rattle.wk_core.proofs.RefreshFacts.{claim-tables}
 use Rattle.wk_core.proofs.wiki.Wiki.claim.Goals as goal
@@ -13,7 +15,11 @@ use Rattle.wk_core.proofs.wiki.Wiki.claim.Goals as goal
 pub invariant_of-self-2 : goal.invariant_of-self-2
 invariant_of-self-2 g c =
     let tables = claim-tables c.make_room.new.self.life c.claim-number.new.self.life c.claim-number.ensures.next ∙ ap (λ (l : Life). tables_of l.state) c.in_ok-make_room.ensures.life in
-    told-same (g.K.Keeper.told c.self.inside.keeper) (g.K.Keeper.told c.self.inside.keeper) c.self.inside.life.life.state c.claim-number.new.self.life.state refl tables c.self.invariant
+    let same = lasting-same c.self.inside.life.life.state c.make_room.new.self.life.state c.self.inside.cache.entries (ap (λ (l : Life). l.state) c.in_ok-make_room.ensures.life) c.self.invariant.cache in
+    record {
+      tables = told-same (g.K.Keeper.told c.self.inside.keeper) (g.K.Keeper.told c.self.inside.keeper) c.self.inside.life.life.state c.claim-number.new.self.life.state refl tables c.self.invariant.tables;
+      cache = lasting-next c.make_room.new.self.life c.claim-number.new.self.life Claim c.self.inside.cache.entries c.claim-number.ensures.next same;
+    }
 
 pub returns-clause-out : goal.returns-clause-out
 returns-clause-out g c =

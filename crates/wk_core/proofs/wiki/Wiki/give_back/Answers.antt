@@ -4,6 +4,7 @@ use Rattle.wk_state_rules.specs.Events.{Back}
 use Rattle.wk_life_laws.specs.Next.{IsNext}
 use Rattle.wk_core.specs.Seen.{WikiSeen}
 use Rattle.wk_core.specs.Tickets.{IsOut}
+use Rattle.wk_core.proofs.CacheFacts.{lasting-next}
 use Rattle.wk_core.proofs.WikiSteps.{told-same}
 use Rattle.wk_core.proofs.RefreshFacts.{back-tables}
 use Rattle.wk_core.proofs.wiki.Wiki.give_back.Goals as goal
@@ -14,4 +15,7 @@ invariant_of-self g c =
     ap (λ (w : WikiSeen g.row.K.Denot). page_held_by w.state.jobs c.args.ticket.ticket) c.self.view_is ∙ c.requires.out.held in
     let made = subst (λ n. IsNext c.self.inside.life.life (Back n) c.give_back.new.self.life) c.spend.ensures c.give_back.ensures in
     let tables = back-tables c.self.inside.life.life c.facts.ensures c.args.ticket.ticket c.requires.out.page holds c.give_back.new.self.life made in
-    told-same (g.K.Keeper.told c.self.inside.keeper) (g.K.Keeper.told c.self.inside.keeper) c.self.inside.life.life.state c.give_back.new.self.life.state refl tables c.self.invariant
+    record {
+      tables = told-same (g.K.Keeper.told c.self.inside.keeper) (g.K.Keeper.told c.self.inside.keeper) c.self.inside.life.life.state c.give_back.new.self.life.state refl tables c.self.invariant.tables;
+      cache = lasting-next c.self.inside.life.life c.give_back.new.self.life (Back c.args.ticket.ticket) c.self.inside.cache.entries made c.self.invariant.cache;
+    }

@@ -1,0 +1,5 @@
+pub mod Safe
+pub mod Named
+pub mod Texts
+pub mod Fits
+pub mod Ahead

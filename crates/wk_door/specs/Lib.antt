@@ -1,0 +1,3 @@
+pub mod Entrances
+pub mod MemDoor
+pub mod Told

@@ -1,0 +1,2 @@
+pub mod ReaderLaws
+pub use Rattle.wk_refreshes.proofs.WorkLaws

@@ -1,0 +1,29 @@
+//! Steps of a worker.
+ghost use Rattle.std.specs.Prelude.{◌≡◌, None};
+ghost use Rattle.wk_turn.specs.Told.{IsOf};
+ghost use Rattle.wk_refreshes.specs.Refreshes.{IsRefreshed};
+
+use crate::reader::Reader;
+use std::sync::Wait;
+use wk_core::Keeper;
+use wk_gate::Gate;
+use wk_refreshes::{Refreshed, refresh_with};
+use wk_shared::Shared;
+
+/// One step of a worker, as `refresh_with` has it (MediaWiki's Manual:Job queue): a fan, or a refresh of the first page whose
+/// job is queued. What the reader keeps of pages stays. It waits.
+pub fn refresh_one<K: Keeper, R: Wait, G: Gate>(
+    shared: &Shared<K>,
+    rt: &R,
+    reader: &mut Reader<K>,
+    gate: &mut G,
+) -> Refreshed
+    requires turn { IsOf shared.now reader.old.pass }
+    requires free { reader.old.pass.held ≡ None }
+    ensures refreshed { IsRefreshed K.is_whole K.faults shared.now reader.old.pass reader.new.pass result }
+    ensures most { reader.new.most ≡ reader.old.most }
+    ensures kept { reader.new.entries ≡ reader.old.entries }
+{
+    let alloc = reader.alloc;
+    refresh_with(shared, rt, alloc, &mut reader.pass, &mut reader.trees, gate)
+}

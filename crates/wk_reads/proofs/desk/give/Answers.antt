@@ -1,0 +1,16 @@
+use Rattle.std.proofs.Common.{◌≡◌, List, ◌++◌, Some, sym, ap, subst, ◌∙◌}
+use Rattle.std.proofs.lemmas.List.{append-nil}
+use mathlib.Core.List.{IsPrefix}
+use Rattle.wk_state_rules.specs.Events.{Event}
+use Rattle.wk_wiki_rules.specs.Entries.{closes}
+use Rattle.wk_turn.specs.Journal.{ClosesOwn, added}
+use Rattle.wk_turn.proofs.Closing.{added_none, adds_none}
+use Rattle.wk_turn.proofs.Lists.{prefix_self}
+use Rattle.wk_reads.proofs.desk.give.Goals as goal
+
+pub leave-requires-clause-journal : goal.leave-requires-clause-journal
+leave-requires-clause-journal g c = subst (λ (j : List Event). IsPrefix j c.args.held.value.journal) (sym (ap (λ w. w.journal) c.requires.same)) (prefix_self c.args.held.value.journal)
+
+pub leave-requires-clause-closes : goal.leave-requires-clause-closes
+leave-requires-clause-closes g c =
+    subst (λ (j : List Event). ClosesOwn closes j c.args.held.value.journal c.args.pass.now.own) (sym (ap (λ w. w.journal) c.requires.same)) (adds_none closes c.args.held.value.journal c.args.pass.now.own)

@@ -1,0 +1,9 @@
+pub mod Acting
+pub mod Asking
+pub mod Ends
+pub mod Lists
+pub mod Passing
+pub mod Reading
+pub mod Replying
+pub mod Stepping
+pub mod Streams

@@ -1,0 +1,42 @@
+//! The step behind a reply.
+ghost use Rattle.std.specs.Prelude.{◌≡◌, None};
+ghost use Rattle.wk_turn.specs.Told.{IsOf};
+ghost use Rattle.wk_shared.specs.Calls.{MayFail};
+ghost use Rattle.wk_session.specs.Serving.{IsStepTold};
+ghost use Rattle.wk_session.specs.Steps.{kind_of};
+
+use std::sync::Wait;
+use wk_core::Keeper;
+use wk_gate::Gate;
+use wk_http::Refresh;
+use wk_readers::{Refreshed, Worker, refresh_one};
+use wk_shared::Shared;
+
+/// The kind of what a step did.
+fn kind_of(refreshed: &Refreshed) -> Refresh
+    ensures { result ≡ kind_of refreshed.now }
+{
+    match refreshed {
+        Refreshed::Idle { .. } => Refresh::Idle,
+        Refreshed::Fanned(_) => Refresh::Fanned,
+        Refreshed::Done(_) => Refresh::Done,
+        Refreshed::Back { .. } => Refresh::Back,
+        Refreshed::JournalFull => Refresh::JournalFull,
+        Refreshed::StoreFault => Refresh::StoreFault,
+        Refreshed::Memory => Refresh::Memory,
+    }
+}
+
+/// Makes one step, and tells what it did. It waits.
+pub fn step<K: Keeper, R: Wait, G: Gate>(
+    shared: &Shared<K>,
+    rt: &R,
+    worker: &mut Worker<K, G>,
+) -> Refresh
+    requires turn { IsOf shared.now worker.old.reader.pass }
+    requires free { worker.old.reader.pass.held ≡ None }
+    ensures { IsStepTold shared.now (MayFail K.is_whole K.faults shared.now.start) worker.old.reader.pass worker.new.reader.pass result }
+{
+    let refreshed = refresh_one(shared, rt, &mut worker.reader, &mut worker.gate);
+    kind_of(&refreshed)
+}
