@@ -24,6 +24,7 @@ pub record IsEntered (before now : Option DoorCounts) (faults faults_now most co
   pub within : count ≤ most
   pub given : now ≡ after_giving before count
   pub left : HasLeft before count
+  pub never_falls : faults ≤ faults_now
   pub going : shut ≡ None → faults_now ≡ faults
   pub emptied : shut ≡ Some Empty → (faults_now ≡ faults) × (is_emptied now ≡ true)
   pub broken : shut ≡ Some Broken → Rose faults faults_now

@@ -59,6 +59,7 @@ pub struct Entrance<'a, D: Door, E: Entry> {
     ghost within: { taken ≤ E.most },
     ghost given: { counts_of (D.told door.now) ≡ after_giving E.told taken },
     ghost left: { HasLeft E.told taken } by { Prim.hlevel props },
+    ghost never_falls: { E.faults ≤ D.faults door.now },
     ghost going: { shut ≡ None → D.faults door.now ≡ E.faults },
     ghost emptied: { shut ≡ Some Empty → (D.faults door.now ≡ E.faults) × (is_emptied (counts_of (D.told door.now)) ≡ true) },
     ghost broken: { shut ≡ Some Broken → Rose E.faults (D.faults door.now) },

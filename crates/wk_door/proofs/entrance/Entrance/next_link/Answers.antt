@@ -20,6 +20,7 @@ invariant_of-self g c =
       within = let most = entrance.most_is in let room = going.1 in omega (arith, most, room);
       given = given-one g.E.Entry.told before later c.in-Ok-Some.link entrance.taken entrance.given accepted;
       left = left-one g.E.Entry.told before later c.in-Ok-Some.link entrance.taken entrance.given accepted entrance.left;
+      never_falls = let before_is = entrance.never_falls in let accept_is = c.accept.ensures.never_falls in omega (arith, before_is, accept_is);
       going = λ shut. c.in-Ok-Some.ensures.no_fault ∙ entrance.going shut;
       emptied = λ shut. absurd (let e : None ≡ Some Empty = sym going.0 ∙ shut in cc);
       broken = λ shut. absurd (let e : None ≡ Some Broken = sym going.0 ∙ shut in cc);
@@ -38,6 +39,7 @@ invariant_of-self-in-Ok-None g c =
       within = entrance.within;
       given = empty-same before later accepted ∙ entrance.given;
       left = entrance.left;
+      never_falls = let before_is = entrance.never_falls in let accept_is = c.accept.ensures.never_falls in omega (arith, before_is, accept_is);
       going = λ shut. absurd (let e : Some Empty ≡ None = shut in cc);
       emptied = λ shut. (c.in-Ok-None.ensures.no_fault ∙ entrance.going going.0, empty-now before later accepted);
       broken = λ shut. absurd (let e : Some Empty ≡ Some Broken = shut in cc);
