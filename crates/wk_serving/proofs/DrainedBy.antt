@@ -1,0 +1,96 @@
+-- Wikis that many threads drain.
+use Rattle.std.proofs.Common.{◌≡◌, ◌⊎◌, ℕ, ◌+◌, ◌≤◌, ◌<◌, Bool, false, List, [], ◌++◌, length, Option, Some, None, inl, inr, refl, sym, ap, ap₂, ◌∙◌, subst, append_assoc, arith}
+use Rattle.std.specs.Prelude.{◌||◌}
+use Rattle.std.specs.List.{list_any}
+use Rattle.std.proofs.lemmas.List.Folds.{list_any-append}
+use mathlib.Core.List.{IsPrefix}
+use Rattle.wk_base.specs.Faults.{Rose}
+use Rattle.wk_page_rules.specs.Verdict.{max_job}
+use Rattle.wk_state_rules.specs.States.{State}
+use Rattle.wk_state_rules.specs.Events.{Event}
+use Rattle.wk_state_rules.specs.Lives.{replay}
+use Rattle.wk_wiki_rules.specs.Entries.{is_save}
+use Rattle.wk_wiki_rules.specs.Starts.{Start}
+use Rattle.wk_wiki_laws.specs.Numbers.{pages_ahead}
+use Rattle.wk_life_laws.specs.Runs.{IsRun}
+use Rattle.wk_core.specs.Seen.{WikiSeen}
+use Rattle.wk_seal_laws.specs.Sealed.{AddsJobs, IsSealedAt}
+use Rattle.wk_seal_laws.proofs.JobsAdded.{adds-jobs}
+use Rattle.wk_shared.specs.Calls.{MayFail}
+use Rattle.wk_tools.specs.Drains.{CanBeFull, HasNoJob}
+use Rattle.wk_tools.specs.Lived.{HasLived}
+use Rattle.wk_tools.specs.declared.drains.DrainEnd.{DrainEnd}
+use Rattle.wk_tools.specs.declared.drains.DrainEnd.TheVariants.{Done, JournalFull, StoreFault}
+use Rattle.wk_serving.specs.Drains.{IsDrainedBy}
+
+-- a count that rose isn't 0
+risen : (before now : ℕ) → Rose before now → 1 ≤ now
+risen before now rose = omega (arith, rose)
+
+module _ {K : Type 0} (is_whole : K → Bool) (faults : K → ℕ) (old middle : WikiSeen K) (run : IsRun old.start old.journal old.state) (later : IsRun middle.start middle.journal middle.state)
+    (sealed : IsSealedAt old.start middle.start old.journal middle.journal) where
+  abbrev jobs : AddsJobs old.start old.journal middle.journal old.state middle.state
+  jobs = adds-jobs old.start middle.start old.journal middle.journal old.state middle.state run later sealed
+
+  limits : middle.start.limits ≡ old.start.limits
+  limits = ap (λ (s : Start). s.limits) sealed.start
+
+  none-left : HasNoJob old.state → HasNoJob middle.state
+  none-left none = subst HasNoJob (sym (jobs.nothing none.refreshes none.fans)) none
+
+  full-before : CanBeFull middle → CanBeFull old
+  full-before full = record {
+    left = λ none. full.left (none-left none);
+    cause = elim full.cause [
+      | inl short ↦ inl (subst (λ m. m.journal < 2) limits short)
+      | inr high ↦ inr (let low = jobs.ahead in omega (arith, high, low))
+    ];
+  }
+
+  -- nothing was done behind the workers
+  pub drained-so-far : (end : DrainEnd) → (end ≡ Done → HasNoJob middle.state) → (end ≡ JournalFull → CanBeFull middle) → (end ≡ StoreFault → MayFail is_whole faults old.start) → IsDrainedBy is_whole faults old middle end
+  drained-so-far end done full fault = record {
+    lived = record {
+      added = jobs.added;
+      ended = middle.state;
+      later = [];
+      goes_on = jobs.replayed;
+      lives = refl;
+      adds_no_save = jobs.no_save;
+      saves_nothing = refl;
+    };
+    history = jobs.history;
+    limits = limits;
+    whole = ap (λ (s : Start). s.whole) sealed.start;
+    done = done;
+    full = λ is. full-before (full is);
+    fault = λ is. inl (fault is);
+  }
+
+  module _ (new : WikiSeen K) (lived : HasLived middle new) where
+    joined : old.journal ++ (jobs.added ++ lived.added) ≡ middle.journal ++ lived.added
+    joined = sym (append_assoc old.journal jobs.added lived.added) ∙ ap (λ (j : List Event). j ++ lived.added) (sym jobs.journal)
+
+    both-lived : HasLived old new
+    both-lived = record {
+      added = jobs.added ++ lived.added;
+      ended = lived.ended;
+      later = lived.later;
+      goes_on = ap (replay old.start.state) joined ∙ (ap (λ (s : Start). replay s.state (middle.journal ++ lived.added)) (sym sealed.start) ∙ lived.goes_on);
+      lives = lived.lives;
+      adds_no_save = list_any-append is_save jobs.added lived.added ∙ ap₂ (λ a b. a || b) jobs.no_save lived.adds_no_save;
+      saves_nothing = lived.saves_nothing;
+    }
+
+    -- what was left was done on one thread
+    pub drained-whole : (end : DrainEnd) → new.state.history ≡ middle.state.history → new.start.limits ≡ middle.start.limits → new.start.whole ≡ middle.start.whole → (end ≡ Done → HasNoJob new.state)
+        → (end ≡ JournalFull → CanBeFull middle) → (end ≡ StoreFault → Rose (faults middle.keeper) (faults new.keeper)) → IsDrainedBy is_whole faults old new end
+    drained-whole end history same_limits same_whole done full fault = record {
+      lived = both-lived;
+      history = history ∙ jobs.history;
+      limits = same_limits ∙ limits;
+      whole = same_whole ∙ ap (λ (s : Start). s.whole) sealed.start;
+      done = done;
+      full = λ is. full-before (full is);
+      fault = λ is. inr (risen (faults middle.keeper) (faults new.keeper) (fault is));
+    }

@@ -1,0 +1,3 @@
+mod DrainedBy
+mod Faults
+mod Sharing

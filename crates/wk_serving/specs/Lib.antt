@@ -1,0 +1,3 @@
+pub mod Drains
+pub mod Returns
+pub mod Serves
