@@ -14,7 +14,6 @@ use Rattle.wk_http.specs.declared.places.Place.{Place}
 use Rattle.wk_http.proofs.AcceptedLemmas.{IsAccepted-append}
 use Rattle.wk_http.proofs.HeadLemmas.{accepted_body}
 use Rattle.wk_http.proofs.MessageLemmas.{HasHead_unique, IsBad-append}
-use Rattle.wk_http.proofs.PlaceLemmas.{open_at}
 use Rattle.wk_http.proofs.TargetLemmas.{can_begin_head}
 
 pub IsKnown-append : (bytes more : List ℕ) (known : Known) → IsKnown bytes known → IsKnown (bytes ++ more) known

@@ -1,19 +1,18 @@
 -- Where bytes end that a head can begin with: with one byte more, and that they are open.
-use Rattle.std.proofs.Common.{◌≡◌, ◌≢◌, ℕ, ◌+◌, ◌-◌, ◌<◌, ◌≤◌, true, List, [], ◌∷◌, ◌++◌, length, get_or, take, drop, take-append-drop, refl, ap, sym, ◌∙◌, subst, arith, append_assoc, append-nil, inl, inr}
+use Rattle.std.proofs.Common.{◌≡◌, ◌≢◌, ℕ, codes, ◌+◌, ◌-◌, ◌<◌, true, List, [], ◌∷◌, ◌++◌, length, get_or, take, drop, take-append-drop, refl, ap, sym, ◌∙◌, subst, arith, append_assoc, append-nil, inl, inr}
 use Rattle.std.proofs.lemmas.List.{length-append, drop_all, drop_more, take_all}
-use Rattle.std.proofs.lemmas.List.Elements.{All-nil, All-cons, All-append, All-push}
+use Rattle.std.proofs.lemmas.List.Elements.{All-nil, All-cons, All-push}
 use Rattle.std.proofs.lemmas.Grind.{flat_map-append}
-use Rattle.std.specs.Prelude.{All}
 use Rattle.std.specs.List.{flat_map}
-use Rattle.httparse.specs.Grammar.{AllPass, Field, HasNoRequest, IsField, IsRequestHead, IsToken, LineEnd, ReadsRequest, RequestHead, crlf, is_token_byte, is_value_byte, lf, print_blank, print_end, print_field, print_request, print_version}
+use Rattle.httparse.specs.Grammar.{Field, HasNoRequest, IsField, LineEnd, ReadsRequest, RequestHead, crlf, is_token_byte, is_value_byte, lf, print_blank, print_end, print_field, print_request, print_version}
 use Rattle.httparse.proofs.GrammarLemmas.{ReadsRequest-append, print_request-append, request_unique}
 use Rattle.wk_wire_rules.specs.Messages.{CanBegin, EndsWithinTarget, IsOpen, most_head}
-use Rattle.wk_http.specs.Places.{AreLines, EndsAt, EndsInName, EndsInValue, lines_of}
+use Rattle.wk_http.specs.Places.{AreEmptyLines, AreLines, EndsAt, EndsInMethod, EndsInName, EndsInValue, lines_of}
 use Rattle.wk_http.specs.declared.places.Place.{Place}
-use Rattle.wk_http.specs.declared.places.Place.TheVariants.{Target, Line, Name, Value, Return}
+use Rattle.wk_http.specs.declared.places.Place.TheVariants.{Empty, EmptyReturn, Method, Target, Line, Name, Value, Return}
 use Rattle.wk_http.proofs.FrontLemmas.{open_without_head}
 use Rattle.wk_http.proofs.ListLemmas.{split_equal}
-use Rattle.wk_http.proofs.TargetLemmas.{target_has_no_head}
+use Rattle.wk_http.proofs.TargetLemmas.{blank_push, short_head, short_head_reads, target_has_no_head}
 
 -- ---- lines
 
@@ -102,6 +101,60 @@ ends_in bytes byte some is =
     ∙ ap (λ (t : List ℕ). byte ∷ t) (drop_all (at + 1) bytes (omega arith)))
 
 -- ---- one byte more
+
+-- no bytes are no empty lines
+pub none_are_empty : AreEmptyLines [] []
+none_are_empty = record { blank = []; bytes_are = refl }
+
+-- the tail and these bytes are a line's end
+empty_ends : (bytes tail more : List ℕ) (end : LineEnd) → tail ++ more ≡ print_end end → AreEmptyLines bytes tail → AreEmptyLines (bytes ++ more) []
+empty_ends bytes tail more end ends x = record {
+  blank = x.blank ++ end ∷ [];
+  bytes_are = blank_push x.blank end (bytes ++ more) (tail ++ more) []
+      (ap (λ (t : List ℕ). t ++ more) x.bytes_are ∙ append_assoc (print_blank x.blank) tail more)
+      (ends ∙ sym (append-nil (print_end end)));
+}
+
+pub empty_line : (bytes : List ℕ) → AreEmptyLines bytes [] → AreEmptyLines (bytes ++ 10 ∷ []) []
+empty_line bytes x = empty_ends bytes [] (10 ∷ []) lf refl x
+
+pub empty_line_behind_return : (bytes : List ℕ) → AreEmptyLines bytes (13 ∷ []) → AreEmptyLines (bytes ++ 10 ∷ []) []
+empty_line_behind_return bytes x = empty_ends bytes (13 ∷ []) (10 ∷ []) crlf refl x
+
+pub empty_returns : (bytes : List ℕ) → AreEmptyLines bytes [] → AreEmptyLines (bytes ++ 13 ∷ []) (13 ∷ [])
+empty_returns bytes x = record {
+  blank = x.blank;
+  bytes_are = ap (λ (t : List ℕ). t ++ 13 ∷ []) (x.bytes_are ∙ append-nil (print_blank x.blank));
+}
+
+pub method_begins : (bytes : List ℕ) (byte : ℕ) → is_token_byte byte ≡ true → AreEmptyLines bytes [] → EndsInMethod (bytes ++ byte ∷ [])
+method_begins bytes byte passes x = record {
+  blank = x.blank;
+  method = byte ∷ [];
+  token = (omega arith, All-cons (λ b. is_token_byte b ≡ true) byte [] passes (All-nil _));
+  bytes_are = ap (λ (t : List ℕ). t ++ byte ∷ []) (x.bytes_are ∙ append-nil (print_blank x.blank));
+}
+
+pub method_goes_on : (bytes : List ℕ) (byte : ℕ) → is_token_byte byte ≡ true → EndsInMethod bytes → EndsInMethod (bytes ++ byte ∷ [])
+method_goes_on bytes byte passes x = record {
+  blank = x.blank;
+  method = x.method ++ byte ∷ [];
+  token = (
+    omega (arith, length-append x.method (byte ∷ [])),
+    All-push (λ b. is_token_byte b ≡ true) x.method byte x.token.1 passes,
+  );
+  bytes_are = ap (λ (t : List ℕ). t ++ byte ∷ []) x.bytes_are ∙ append_assoc (print_blank x.blank) x.method (byte ∷ []);
+}
+
+pub target_begins : (bytes : List ℕ) → EndsInMethod bytes → EndsWithinTarget (bytes ++ 32 ∷ [])
+target_begins bytes x = (
+  x.blank,
+  x.method,
+  [],
+  x.token,
+  All-nil _,
+  ap (λ (t : List ℕ). t ++ 32 ∷ []) x.bytes_are,
+)
 
 pub in_target : (bytes : List ℕ) (byte : ℕ) → byte ≢ 32 → EndsWithinTarget bytes → EndsWithinTarget (bytes ++ byte ∷ [])
 in_target bytes byte other x = (
@@ -216,6 +269,31 @@ completed_name bytes x =
     completed_by bytes (58 ∷ 10 ∷ [])
     (subst AreLines (append_assoc bytes (58 ∷ []) (10 ∷ [])) (line_ends (bytes ++ 58 ∷ []) (value_begins bytes x)))
 
+-- a method and a short rest
+completed_by_method : (bytes more : List ℕ) → EndsInMethod (bytes ++ more) → Completed bytes
+completed_by_method bytes more x = record {
+  more = more ++ codes " / HTTP/1.1\n\n";
+  some = omega (arith, length-append more (codes " / HTTP/1.1\n\n"));
+  head = short_head x.blank x.method;
+  reads = short_head_reads x.blank x.method bytes more x.token (sym x.bytes_are);
+}
+
+completed_method : (bytes : List ℕ) → EndsInMethod bytes → Completed bytes
+completed_method bytes x = completed_by_method bytes [] (subst EndsInMethod (sym (append-nil bytes)) x)
+
+g_is_token : is_token_byte 71 ≡ true
+unfolding is_token_byte
+g_is_token = refl
+
+-- behind empty lines a method can begin, as G does
+method_after : (bytes : List ℕ) → AreEmptyLines bytes [] → EndsInMethod (bytes ++ 71 ∷ [])
+method_after bytes x = method_begins bytes 71 g_is_token x
+
+completed_return : (bytes : List ℕ) → AreEmptyLines bytes (13 ∷ []) → Completed bytes
+completed_return bytes x =
+    completed_by_method bytes (10 ∷ 71 ∷ [])
+    (subst EndsInMethod (append_assoc bytes (10 ∷ []) (71 ∷ [])) (method_after (bytes ++ 10 ∷ []) (empty_line_behind_return bytes x)))
+
 no_head_yet : (bytes : List ℕ) → Completed bytes → HasNoRequest bytes
 no_head_yet bytes x h rest reads =
     let same = request_unique (bytes ++ x.more) h x.head (rest ++ x.more) [] (ReadsRequest-append bytes h rest x.more reads) x.reads in
@@ -229,6 +307,9 @@ open_completed : (bytes : List ℕ) → length bytes < most_head → Completed b
 open_completed bytes short x = open_here bytes short (no_head_yet bytes x) (inr (x.more, x.head, [], x.reads))
 
 pub open_at : (bytes : List ℕ) (place : Place) → length bytes < most_head → EndsAt bytes place → IsOpen bytes
+open_at bytes Empty short x = open_completed bytes short (completed_by_method bytes (71 ∷ []) (method_after bytes x))
+open_at bytes EmptyReturn short x = open_completed bytes short (completed_return bytes x)
+open_at bytes Method short x = open_completed bytes short (completed_method bytes x)
 open_at bytes Target short x = open_here bytes short (target_has_no_head bytes x) (inl x)
 open_at bytes Line short x = open_completed bytes short (completed_lines bytes x)
 open_at bytes Name short x = open_completed bytes short (completed_name bytes x)

@@ -60,11 +60,11 @@ cannot_begin bytes never outside (inr completes) = never completes.0 completes.1
 -- ---- a front of bytes with which a head can begin
 
 -- the shortest head with this method
-abbrev short_head : List LineEnd → List ℕ → RequestHead
+abbrev pub short_head : List LineEnd → List ℕ → RequestHead
 short_head blank method =
     record { blank = blank; method = method; target = codes "/"; minor = 1; line_end = lf; fields = []; last = lf }
 
-short_head_reads : (blank : List LineEnd) (method bytes x : List ℕ) → IsToken method → print_blank blank ++ method ≡ bytes ++ x →
+pub short_head_reads : (blank : List LineEnd) (method bytes x : List ℕ) → IsToken method → print_blank blank ++ method ≡ bytes ++ x →
     ReadsRequest (bytes ++ (x ++ codes " / HTTP/1.1\n\n")) (short_head blank method) []
 short_head_reads blank method bytes x token e = (
   record {

@@ -1,11 +1,23 @@
--- Where bytes end that a head can begin with, once its method is there (RFC 9112 sections 2, 3 and 5).
+-- Where bytes end that a head can begin with (RFC 9112 sections 2, 3 and 5).
 use Rattle.std.specs.Prelude.{◌≡◌, ℕ, List, [], ◌∷◌, ◌++◌}
 use Rattle.std.specs.List.{flat_map}
 use Rattle.httparse.specs.Ascii.{carriage_return, colon, space}
-use Rattle.httparse.specs.Grammar.{AllPass, IsRequestHead, IsToken, RequestHead, is_value_byte, print_blank, print_end, print_field, print_version}
+use Rattle.httparse.specs.Grammar.{AllPass, IsRequestHead, IsToken, LineEnd, RequestHead, is_value_byte, print_blank, print_end, print_field, print_version}
 use Rattle.wk_wire_rules.specs.Messages.{EndsWithinTarget}
 use Rattle.wk_http.specs.declared.places.Place.{Place}
-use Rattle.wk_http.specs.declared.places.Place.TheVariants.{Target, Line, Name, Value, Return}
+use Rattle.wk_http.specs.declared.places.Place.TheVariants.{Empty, EmptyReturn, Method, Target, Line, Name, Value, Return}
+
+-- the bytes are empty lines, and then this tail
+pub record AreEmptyLines (bytes tail : List ℕ) : Type 0 where
+  pub blank : List LineEnd
+  pub bytes_are : bytes ≡ print_blank blank ++ tail
+
+-- the bytes are empty lines, and then a method
+pub record EndsInMethod (bytes : List ℕ) : Type 0 where
+  pub blank : List LineEnd
+  pub method : List ℕ
+  pub token : IsToken method
+  pub bytes_are : bytes ≡ print_blank blank ++ method
 
 -- a head up to its last line end
 abbrev pub lines_of : RequestHead → List ℕ
@@ -38,6 +50,9 @@ pub record EndsInValue (bytes tail : List ℕ) : Type 0 where
   pub bytes_are : bytes ≡ front ++ (name ++ colon ∷ (raw ++ tail))
 
 abbrev pub EndsAt : List ℕ → Place → Type 0
+EndsAt bytes Empty = AreEmptyLines bytes []
+EndsAt bytes EmptyReturn = AreEmptyLines bytes (carriage_return ∷ [])
+EndsAt bytes Method = EndsInMethod bytes
 EndsAt bytes Target = EndsWithinTarget bytes
 EndsAt bytes Line = AreLines bytes
 EndsAt bytes Name = EndsInName bytes

@@ -11,7 +11,6 @@ ghost use Rattle.wk_http.specs.Requests.{message_in, Gives};
 use crate::front::{Accepted, Front, MOST_HEAD, front_of};
 use crate::places::{Place, after, place_in};
 use crate::request::{HttpRequest, Next};
-use crate::target::ends_within_target;
 use std::alloc::Global;
 use std::marker::Model;
 use std::str;
@@ -102,9 +101,6 @@ fn known_open(alloc: Global, left: &[u8]) -> Result<Known, Memory>
     requires { IsOpen left.now }
     ensures { IfOk result (IsKnown left.now) }
 {
-    if ends_within_target(left) {
-        return Ok(Known::At(Place::Target, left.len()));
-    }
     match place_in(alloc, left)? {
         Some(place) => Ok(Known::At(place, left.len())),
         None => Ok(Known::OpenBelow(left.len() + 1)),

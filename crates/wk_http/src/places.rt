@@ -5,13 +5,19 @@ ghost use Rattle.wk_http.specs.Places.{EndsAt};
 
 use crate::front::MOST_HEADERS;
 use httparse::spans::{EMPTY_HEADER_SPAN, parse_request};
-use httparse::{Status, is_header_name_token, is_header_value_token};
+use httparse::{Status, is_header_name_token, is_header_value_token, is_method_token};
 use std::alloc::Global;
 use wk_memory::Memory;
 
 /// Where bytes end with which a head can begin.
 #[derive(Clone, Copy, Debug)]
 pub(crate) enum Place {
+    /// Behind empty lines, or where no byte is.
+    Empty,
+    /// Behind empty lines and a carriage return.
+    EmptyReturn,
+    /// Within the method.
+    Method,
     /// Within the target.
     Target,
     /// Behind whole lines, of which the first is that of the request.
@@ -22,6 +28,42 @@ pub(crate) enum Place {
     Value,
     /// Behind a field's value and a carriage return.
     Return,
+}
+
+fn after_empty(byte: u8) -> Option<Place>
+    ensures { IfSome result (λ next. (bytes : List ℕ) → EndsAt bytes Place.Empty → EndsAt (bytes ++ byte ∷ []) next) }
+{
+    if byte == b'\n' {
+        return Some(Place::Empty);
+    }
+    if byte == b'\r' {
+        return Some(Place::EmptyReturn);
+    }
+    if is_method_token(byte) {
+        return Some(Place::Method);
+    }
+    None
+}
+
+fn after_empty_return(byte: u8) -> Option<Place>
+    ensures { IfSome result (λ next. (bytes : List ℕ) → EndsAt bytes Place.EmptyReturn → EndsAt (bytes ++ byte ∷ []) next) }
+{
+    if byte == b'\n' {
+        return Some(Place::Empty);
+    }
+    None
+}
+
+fn after_method(byte: u8) -> Option<Place>
+    ensures { IfSome result (λ next. (bytes : List ℕ) → EndsAt bytes Place.Method → EndsAt (bytes ++ byte ∷ []) next) }
+{
+    if byte == b' ' {
+        return Some(Place::Target);
+    }
+    if is_method_token(byte) {
+        return Some(Place::Method);
+    }
+    None
 }
 
 fn after_target(byte: u8) -> Option<Place>
@@ -84,6 +126,9 @@ fn after_byte(place: Place, byte: u8) -> Option<Place>
     ensures { IfSome result (λ next. (bytes : List ℕ) → EndsAt bytes place → EndsAt (bytes ++ byte ∷ []) next) }
 {
     match place {
+        Place::Empty => after_empty(byte),
+        Place::EmptyReturn => after_empty_return(byte),
+        Place::Method => after_method(byte),
         Place::Target => after_target(byte),
         Place::Line => after_line(byte),
         Place::Name => after_name(byte),
@@ -152,8 +197,8 @@ fn are_lines(alloc: Global, bytes: &[u8]) -> Result<bool, Memory>
     Ok(is_head(&ended))
 }
 
-/// Where bytes end with which a head can begin, as far as that is found.
-pub(crate) fn place_in(alloc: Global, bytes: &[u8]) -> Result<Option<Place>, Memory>
+/// Where bytes end whose last whole line is one of a head.
+fn place_in_fields(alloc: Global, bytes: &[u8]) -> Result<Option<Place>, Memory>
     ensures { IfOk result (λ place. IfSome place (EndsAt bytes.now)) }
 {
     let end = line_end(bytes);
@@ -161,4 +206,14 @@ pub(crate) fn place_in(alloc: Global, bytes: &[u8]) -> Result<Option<Place>, Mem
         return Ok(None);
     }
     Ok(after(Place::Line, &bytes[end..]))
+}
+
+/// Where bytes end with which a head can begin, as far as that is found.
+pub(crate) fn place_in(alloc: Global, bytes: &[u8]) -> Result<Option<Place>, Memory>
+    ensures { IfOk result (λ place. IfSome place (EndsAt bytes.now)) }
+{
+    match after(Place::Empty, bytes) {
+        Some(place) => Ok(Some(place)),
+        None => place_in_fields(alloc, bytes),
+    }
 }

@@ -1,1 +1,2 @@
 pub mod MemLinks
+pub mod Sending

@@ -2,7 +2,7 @@
 ghost use Rattle.std.specs.Prelude.{◌≡◌, ◌≤◌, OnErr, OnOk};
 ghost use Rattle.std.specs.Io.KnownBytes.{Appends};
 ghost use Rattle.wk_base.specs.Faults.{Rose};
-ghost use Rattle.wk_base.specs.Writing.{AppendsPrefix};
+ghost use Rattle.wk_link.specs.Sending.{AppendsProperPrefix};
 
 use crate::Link;
 use wk_base::Failed;
@@ -11,10 +11,10 @@ use wk_base::Failed;
 /// stays as it is.
 ///
 /// `Failed` is that of the first write that fails, and comes only where the link's count of such faults rose in this call, or
-/// stands at its end. A prefix of the bytes was then taken, and no write was made after that one.
+/// stands at its end. A prefix of the bytes was then taken, never all of them, and no write was made after that one.
 pub fn send_all<L: Link>(link: &mut L, bytes: &[u8]) -> Result<(), Failed>
     ensures ok { OnOk result (Appends (L.Sink.taken link.old) (L.Sink.taken link.new) bytes.now) }
-    ensures err { OnErr result (AppendsPrefix (L.Sink.taken link.old) (L.Sink.taken link.new) bytes.now) }
+    ensures err { OnErr result (AppendsProperPrefix (L.Sink.taken link.old) (L.Sink.taken link.new) bytes.now) }
     ensures never_falls { L.Sink.faults link.old ≤ L.Sink.faults link.new }
     ensures no_fault { OnOk result (L.Sink.faults link.new ≡ L.Sink.faults link.old) }
     ensures cause { OnErr result (Rose (L.Sink.faults link.old) (L.Sink.faults link.new)) }

@@ -22,6 +22,7 @@ use Rattle.wk_cache.proofs.Lists.{found-among, found-passes, front-among, front-
 use Rattle.wk_read_laws.proofs.PageLaws.{kept-current, kept-longer, right-longer}
 use Rattle.wk_refreshes.specs.Looks.{HasLooked, HasRead, IsPresentRead, reading_of}
 use Rattle.wk_refreshes.proofs.LookLaws.{read-both, read-none}
+use Rattle.wk_refreshes.specs.Sought.{kept_read}
 use Rattle.wk_refreshes.specs.Worked.{HasWorked}
 use Rattle.wk_readers.specs.Readers.{AreRight, ReaderSeen}
 use Rattle.wk_readers.specs.declared.reader.Checked.TheVariants.{Current}
@@ -90,6 +91,12 @@ right-put pass most read entries right now own = λ start kept is among. elim (p
       subst (λ (x : Kept). IsKeptRead (seen_by start pass) (entry_kept x)) (sym fresh) one
 ]
 
+-- what is answered at the present point is right however the pass's start is told
+pub right-present : (shared : Begun Start) (pass : Pass) (page : PageTitle) (given : Option (List ℕ)) (read : PageRead) → IsOf shared pass → IsPresentRead shared pass page given read
+    → (start : Start) → pass.start ≡ Some start → IsReadAt (seen_by start pass) (reading_of read)
+right-present shared pass page given read of is start begun =
+    subst (λ (s : Start). IsReadAt (seen_by s pass) (reading_of read)) (same-start pass shared.start start of.1 begun) is.right
+
 -- ---- the order of entries
 
 marked-by : (page : PageTitle) (point uses : ℕ) (entries : List Kept) (o : Option Kept) → entry_of page entries ≡ o
@@ -154,7 +161,23 @@ module _ (shared : Begun Start) (page : PageTitle) (least : ℕ) where
     uses = inl served;
   }
 
-  refused-read : (old new : ReaderSeen) (refusal : ReadRefusal) → HasRead shared old.pass new.pass → IsLate least new.pass refusal → OnlyKeeps old.entries new.entries → IsPageRead shared page least old new (Err refusal)
+  pub checked-read : (old new : ReaderSeen) (read : PageRead) → HasRead shared old.pass new.pass → IsCheck shared page least old new (Current read) → IsPageRead shared page least old new (Ok read)
+  checked-read old new read pass is = elim is.1 [
+    | inl checked ↦ record {
+      pass = pass;
+      read = present-answer shared old.pass new.pass page None least read pass.seen is.0 checked.right;
+      late = tt;
+      uses = inr (inl checked);
+    }
+    | inr drafted ↦ record {
+      pass = pass;
+      read = present-answer shared old.pass new.pass page None least read pass.seen is.0 drafted.right;
+      late = tt;
+      uses = inr (inr drafted);
+    }
+  ]
+
+  pub refused-read : (old new : ReaderSeen) (refusal : ReadRefusal) → HasRead shared old.pass new.pass → IsLate least new.pass refusal → OnlyKeeps old.entries new.entries → IsPageRead shared page least old new (Err refusal)
   refused-read old new refusal pass late keeps = record {
     pass = pass;
     read = tt;
@@ -229,11 +252,17 @@ module _ (pass : Pass) (cache : CacheShown) (now : ReaderSeen) (view : shown pas
   pub turn-inside : (shared : Begun Start) → IsOf shared now.pass → IsOf shared pass
   turn-inside shared of = subst (λ (r : ReaderSeen). IsOf shared r.pass) (sym view) of
 
+  pub free-inside : now.pass.held ≡ None → pass.held ≡ None
+  free-inside free = ap (λ (r : ReaderSeen). r.pass.held) view ∙ free
+
   pub found-inside : (page : PageTitle) (kept : Kept) → entry_of page now.entries ≡ Some kept → entry_of page cache.entries ≡ Some kept
   found-inside page kept found = ap (λ (r : ReaderSeen). entry_of page r.entries) view ∙ found
 
   pub entries-shown : (new : CacheShown) (f : List Kept → List Kept) → new ≡ record cache { entries = f cache.entries } → shown pass new ≡ record now { entries = f now.entries }
   entries-shown new f is = ap (shown pass) is ∙ ap (λ (r : ReaderSeen). let s : ReaderSeen = record r { entries = f r.entries } in s) view
+
+  pub pass-shown : (new : Pass) (f : Pass → Pass) → new ≡ f pass → shown new cache ≡ record now { pass = f now.pass }
+  pass-shown new f is = ap (λ (p : Pass). shown p cache) is ∙ ap (λ (r : ReaderSeen). let s : ReaderSeen = record r { pass = f r.pass } in s) view
 
   pub entries-kept : cache.entries ≡ now.entries
   entries-kept = ap (λ (r : ReaderSeen). r.entries) view
@@ -275,15 +304,27 @@ module _ (pass : Pass) (cache : CacheShown) (now : ReaderSeen) (view : shown pas
       current-told least reached read is =
           let answered = is ∙ ap (answer_of_kept kept) at in (
             omega (arith, at, reached),
-            record {
+            inl (record {
               entry = kept;
               found = found;
               answered = answered;
               right = subst (IsPresentRead shared new page None) (sym answered)
                   (checked-answer page cache.entries kept (found-inside page kept found) shared pass new state (turn-inside shared of) looked right seen.formed none);
               left = marks-are ∙ ap (λ (r : ReaderSeen). marked page (length new.seen) 0 r.entries) view;
-            },
+            }),
           )
+
+-- what the wiki kept is answered, and kept by the reader too
+module _ (pass : Pass) (cache : CacheShown) (now : ReaderSeen) (view : shown pass cache ≡ now) (shared : Begun Start) (page : PageTitle) (mid : Pass) (point : ℕ) (at : point ≡ length mid.seen)
+    (least : ℕ) (reached : least ≤ point) (kept : Kept) (is : IsPresentRead shared mid page None (kept_read kept)) where
+  pub taken-told : (new : ReaderSeen) (read : PageRead) → read ≡ kept_read kept → new.pass ≡ mid → KeepsOrAdds cache.entries new.entries (fresh_entry (kept_read kept)) → IsCheck shared page least now new (Current read)
+  taken-told new read told same left = (
+    (let p = ap (λ (s : Pass). length s.seen) same in omega (arith, at, reached, p)),
+    inr (record {
+      right = (let back = sym same in let t = sym told in subst (λ (z : Pass × PageRead). IsPresentRead shared z.0 page None z.1) (λ i. (back i, t i)) is);
+      left = subst (λ (z : List Kept × PageRead). KeepsOrAdds z.0 new.entries (fresh_entry z.1)) (let e = entries-kept pass cache now view in let t = sym told in λ i. (e i, t i)) left;
+    }),
+  )
 
 -- ---- the wiki is taken and given back
 

@@ -56,8 +56,8 @@ pub record IsChecked (shared : Begun Start) (page : PageTitle) (old new : Reader
   pub right : IsPresentRead shared new.pass page None read
   pub left : new.entries ≡ marked page (length new.pass.seen) 0 old.entries
 
--- An answer that was drafted: it is right at the point that the pass has seen last, and what is kept of it has that point and
--- wasn't served.
+-- An answer that was drafted, or that the wiki kept and of which each read is current: it is right at the point that the pass
+-- has seen last, and what is kept of it has that point and wasn't served.
 pub record IsDrafted (shared : Begun Start) (page : PageTitle) (old new : ReaderSeen) (read : PageRead) : Type 0 where
   pub right : IsPresentRead shared new.pass page None read
   pub left : KeepsOrAdds old.entries new.entries (fresh_entry read)
@@ -72,9 +72,9 @@ abbrev pub IsLate : ℕ → Story Start Event → ReadRefusal → Type 0
 IsLate least pass (refusal.Future length_now) = (length_now < least) × (length_now ≡ length pass.seen)
 IsLate least pass refusal.Memory = Unit {0}
 
--- what a look at the page's entry comes to, and what it leaves
+-- what a look for what is current of a page comes to, and what it leaves
 abbrev pub IsCheck : Begun Start → PageTitle → ℕ → ReaderSeen → ReaderSeen → Checked → Type 0
-IsCheck shared page least old new (Current read) = (least ≤ length new.pass.seen) × IsChecked shared page old new read
+IsCheck shared page least old new (Current read) = (least ≤ length new.pass.seen) × (IsChecked shared page old new read ⊎ IsDrafted shared page old new read)
 IsCheck shared page least old new Stale = (least ≤ length new.pass.seen) × (new.entries ≡ old.entries)
 IsCheck shared page least old new (Late point) = IsLate least new.pass (refusal.Future point) × (new.entries ≡ old.entries)
 

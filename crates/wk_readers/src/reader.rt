@@ -10,6 +10,7 @@ ghost use Rattle.wk_turn.specs.Told.{IsOf};
 ghost use Rattle.wk_shared.specs.Calls.{seen_by};
 ghost use Rattle.wk_cache.specs.Entries.{entry_of, marked};
 ghost use Rattle.wk_refreshes.specs.Looks.{HasRead, IsPresentRead, reading_of};
+ghost use Rattle.wk_refreshes.specs.Sought.{kept_read};
 ghost use Rattle.wk_readers.specs.Readers.{AreRight};
 ghost use Rattle.wk_readers.specs.Reads.{IsCheck, IsDraftedAnew, IsLate, KeepsOrAdds, answer_of_kept, fresh_entry};
 
@@ -21,7 +22,7 @@ use wk_core::{Keeper, PageRead, ReadRefusal, Wiki};
 use wk_expand::{Root, Trees};
 use wk_gate::Gate;
 use wk_memory::Memory;
-use wk_refreshes::{drafted, look, look_at};
+use wk_refreshes::{Sought, drafted, look, look_for, look_new};
 use wk_shared::{Held, Pass, Shared};
 use wk_title::Title;
 
@@ -50,12 +51,12 @@ impl<K: Keeper> Model for Reader<K> {
     ghost invariant = { λ r. AreRight r.pass r.cache.entries };
 }
 
-/// What a look at an entry of a page comes to.
+/// What a look for what is current of a page comes to.
 #[derive(Drop)]
 pub enum Checked {
-    /// It is the answer.
+    /// What was found is the answer.
     Current(PageRead),
-    /// A title that was read for it has changed since.
+    /// Nothing is kept of which each read is current.
     Stale,
     /// The journal, which has this length, hasn't come to the least point.
     Late(u64),
@@ -179,8 +180,8 @@ impl<K: Keeper> Reader<K> {
         Ok(())
     }
 
-    /// Looks whether each read of an entry is current. The entry has the present point then, and wasn't served since. It
-    /// waits. No memory.
+    /// Looks for what is current of a page: its entry, or else what the wiki keeps. What is found has the present point then,
+    /// and wasn't served since. It waits.
     pub(crate) fn check<R: Wait>(
         &mut self,
         shared: &Shared<K>,
@@ -197,19 +198,45 @@ impl<K: Keeper> Reader<K> {
     {
         let made = kept.draft.draft();
         let _reads = made.reads();
-        let looked = look_at(shared, rt, &mut self.pass, made);
-        if looked.point < least {
-            return Checked::Late(looked.point);
+        let (sought, point) = look_for(shared, rt, &mut self.pass, title, made);
+        if point < least {
+            return Checked::Late(point);
         }
-        if !looked.current {
-            return Checked::Stale;
+        match sought {
+            Sought::Own => {
+                self.cache.set(title, point, 0);
+                Checked::Current(PageRead {
+                    draft: kept.draft,
+                    point,
+                    id: kept.id,
+                })
+            }
+            Sought::Shared(found) => Checked::Current(self.take_in(found)),
+            Sought::Nothing => Checked::Stale,
         }
-        self.cache.set(title, looked.point, 0);
-        Checked::Current(PageRead {
-            draft: kept.draft,
-            point: looked.point,
-            id: kept.id,
-        })
+    }
+
+    /// Looks for what is current of what the wiki keeps of a page of which the reader keeps nothing. It waits.
+    pub(crate) fn check_new<R: Wait>(
+        &mut self,
+        shared: &Shared<K>,
+        rt: &R,
+        title: &Title,
+        least: u64,
+    ) -> Checked
+        requires turn { IsOf shared.now self.old.pass }
+        requires free { self.old.pass.held ≡ None }
+        ensures pass { HasRead shared.now self.old.pass self.new.pass }
+        ensures check { IsCheck shared.now title.now least self.old self.new result }
+    {
+        let (found, point) = look_new(shared, rt, &mut self.pass, title);
+        if point < least {
+            return Checked::Late(point);
+        }
+        match found {
+            Some(found) => Checked::Current(self.take_in(found)),
+            None => Checked::Stale,
+        }
     }
 
     /// Keeps an answer to a read of a page. Where memory runs out it is passed over.
@@ -229,6 +256,23 @@ impl<K: Keeper> Reader<K> {
             id: read.id,
         };
         let _refused = self.cache.put(kept);
+    }
+
+    /// Keeps what the wiki keeps of a page, and answers it.
+    fn take_in(&mut self, kept: Kept) -> PageRead
+        requires right { (start : Start) → self.old.pass.start ≡ Some start → IsReadAt (seen_by start self.old.pass) (reading_of (kept_read kept)) }
+        requires own_text { kept.draft.given ≡ None }
+        ensures read { result ≡ kept_read kept }
+        ensures pass { self.new.pass ≡ self.old.pass }
+        ensures kept { KeepsOrAdds self.old.entries self.new.entries (fresh_entry (kept_read kept)) }
+    {
+        let read = PageRead {
+            draft: kept.draft,
+            point: kept.point,
+            id: kept.id,
+        };
+        self.keep(&read);
+        read
     }
 
     /// What the page, or a given text in the place of its own, expands to at the point that the pass has seen then. It waits.

@@ -16,7 +16,7 @@ use wk_gate::Gate;
 use wk_shared::Shared;
 use wk_title::Title;
 
-/// Reads a page of which nothing is kept. It waits.
+/// Reads a page of which the reader keeps nothing. It waits.
 fn read_new<K: Keeper, R: Wait, G: Gate>(
     shared: &Shared<K>,
     rt: &R,
@@ -29,13 +29,14 @@ fn read_new<K: Keeper, R: Wait, G: Gate>(
     requires free { reader.old.pass.held ≡ None }
     ensures { IsPageRead shared.now title.now least reader.old reader.new result }
 {
-    match reader.reach(shared, rt, least) {
-        Ok(()) => reader.draft_page(shared, rt, title, gate),
-        Err(refusal) => Err(refusal),
+    match reader.check_new(shared, rt, title, least) {
+        Checked::Current(read) => Ok(read),
+        Checked::Stale => reader.draft_page(shared, rt, title, gate),
+        Checked::Late(point) => Err(ReadRefusal::Future(point)),
     }
 }
 
-/// Reads a page of which this is kept. It waits.
+/// Reads a page of which the reader keeps this. It waits.
 fn read_kept<K: Keeper, R: Wait, G: Gate>(
     shared: &Shared<K>,
     rt: &R,
@@ -65,8 +66,9 @@ fn read_kept<K: Keeper, R: Wait, G: Gate>(
 /// Help:Templates; MediaWiki keeps a page's output in its parser cache). It makes no entry.
 ///
 /// What the reader keeps of the page is served as it is where it is new enough and was served less than 16 times since it was
-/// checked. Else it is served where each of its reads is current. Else the page is drafted without the turn, and the gate is
-/// passed between two reads; after three drafts that weren't current it is drafted with the turn held. The answer is kept.
+/// checked. Else it is served where each of its reads is current, and else so is what the wiki keeps of the page. Else the
+/// page is drafted without the turn, and the gate is passed between two reads; after three drafts that weren't current it is
+/// drafted with the turn held. The reader keeps the answer, and so does the wiki.
 ///
 /// `Future` exactly where `least` is above the journal's length at its step, which it carries; or `Memory`. It waits.
 pub fn read_page<K: Keeper, R: Wait, G: Gate>(

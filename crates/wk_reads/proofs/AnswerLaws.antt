@@ -23,7 +23,7 @@ use Rattle.wk_reads.specs.Looks.{HasLooked, HasRead, IsPresentRead, reading_of}
 abbrev Pass : Type 0
 Pass = Story Start Event
 
-in-world : (w : World) (page : PageTitle) (given : Option (List ℕ)) → drafted_in w page given ≡ drafted (of_world w) page given
+pub in-world : (w : World) (page : PageTitle) (given : Option (List ℕ)) → drafted_in w page given ≡ drafted (of_world w) page given
 in-world w page None = refl
 in-world w page (Some text) = refl
 

@@ -1,3 +1,4 @@
 pub mod AnswerLaws
 pub mod ApartLaws
+pub mod KeepLaws
 pub mod LookLaws

@@ -38,6 +38,17 @@ module _ {K : Type 0} (shared : Begun Start) (old mid : Pass) (wiki : WikiSeen K
       run = subst (λ (j : List Event). IsRun shared.start j wiki.state) (sym seen-is) taken.run;
     }
 
+  -- where the wiki is given back as another that is seen as the same
+  module _ (new : Pass) (after : WikiSeen K) (same : after ≡ wiki) (back : new ≡ record mid { seen = after.journal; held = None }) where
+    back-as : new ≡ record mid { seen = wiki.journal; held = None }
+    back-as = back ∙ ap (λ (w : WikiSeen K). let p : Pass = record mid { seen = w.journal; held = None } in p) same
+
+    pub seen-as : new.seen ≡ wiki.journal
+    seen-as = seen-is new back-as
+
+    pub looked-as : HasLooked shared old new wiki.state
+    looked-as = looked new back-as
+
 pub read-none : (shared : Begun Start) (pass : Pass) → IsOf shared pass → pass.held ≡ None → HasRead shared pass pass
 read-none shared pass of free = record { turn = of; free = free; seen = prefix_self pass.seen; own = λ i. pass.own }
 

@@ -1,12 +1,15 @@
 //! Answers that are drafted anew.
-ghost use Rattle.std.specs.Prelude.{◌≡◌, ℕ, IfOk, IfSome, None};
+ghost use Rattle.std.specs.Prelude.{◌≡◌, ℕ, IfOk, IfSome, IsTrue, length, None};
+ghost use Rattle.wk_state_rules.specs.States.{State, world_of};
+ghost use Rattle.wk_wiki_rules.specs.Passes.{shown_number};
+ghost use Rattle.wk_wiki_rules.specs.Staleness.{first_stale};
 ghost use Rattle.wk_expand.specs.Steps.{given_text};
 ghost use Rattle.wk_turn.specs.Told.{IsOf};
 ghost use Rattle.wk_read_laws.specs.Points.{AreReadSince};
-ghost use Rattle.wk_reads.specs.Looks.{HasRead, IsPresentRead};
+ghost use Rattle.wk_reads.specs.Looks.{HasLooked, HasRead, IsPresentRead};
 
 use crate::apart::draft_apart;
-use crate::looks::{draft_held, look_at, shared_draft};
+use crate::looks::{Found, draft_held, look_and_keep, look_at, shared_draft};
 use std::alloc::Global;
 use std::sync::Wait;
 use wk_core::{Keeper, PageRead, SharedDraft, Wiki};
@@ -19,22 +22,47 @@ use wk_title::Title;
 /// How often a draft is made without the turn before one is made with it.
 const MOST_TRIES: u8 = 3;
 
+/// Looks whether each read of a draft is current. The wiki keeps a draft of a page's own text then. It waits. No memory.
+fn look_behind<K: Keeper, R: Wait>(
+    shared: &Shared<K>,
+    rt: &R,
+    pass: &mut Pass<Wiki<K>>,
+    draft: &SharedDraft,
+    root: &Root,
+) -> Found
+    requires turn { IsOf shared.now pass.old }
+    requires free { pass.old.held ≡ None }
+    requires given { draft.now.given ≡ given_text root.now }
+    requires since { (from : ℕ) × AreReadSince shared.now.start pass.old.seen from draft.now.reads }
+    ensures point { result.point ≡ length pass.new.seen }
+    ensures looked { (state : State) × HasLooked shared.now pass.old pass.new state
+        × (result.id ≡ shown_number state.history draft.now.page)
+        × (IsTrue result.current → first_stale (world_of state) draft.now.reads ≡ None) }
+{
+    match root {
+        Root::Page => look_and_keep(shared, rt, pass, draft),
+        Root::Given(_) => look_at(shared, rt, pass, draft.draft()),
+    }
+}
+
 /// The answer that a draft gives, where each of its reads is current. It waits. No memory.
 fn accept<K: Keeper, R: Wait>(
     shared: &Shared<K>,
     rt: &R,
     pass: &mut Pass<Wiki<K>>,
     draft: SharedDraft,
+    root: &Root,
 ) -> Option<PageRead>
     requires turn { IsOf shared.now pass.old }
     requires free { pass.old.held ≡ None }
+    requires given { draft.given ≡ given_text root.now }
     requires since { (from : ℕ) × AreReadSince shared.now.start pass.old.seen from draft.reads }
     ensures pass { HasRead shared.now pass.old pass.new }
     ensures read { IfSome result (IsPresentRead shared.now pass.new draft.page draft.given) }
 {
     let made = draft.draft();
     let _page = made.page();
-    let found = look_at(shared, rt, pass, made);
+    let found = look_behind(shared, rt, pass, &draft, root);
     if !found.current {
         return None;
     }
@@ -63,7 +91,7 @@ fn try_draft<K: Keeper, R: Wait, G: Gate>(
 {
     let draft = draft_apart(shared, rt, alloc, pass, trees, title, root, gate)?;
     let draft = shared_draft(alloc, draft)?;
-    Ok(accept(shared, rt, pass, draft))
+    Ok(accept(shared, rt, pass, draft, root))
 }
 
 /// The answer that a draft gives which is made with the turn held. It waits.

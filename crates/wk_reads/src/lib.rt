@@ -5,10 +5,12 @@
 mod apart;
 mod desk;
 mod drafting;
+mod keeping;
 mod looks;
 
 pub use apart::draft_apart;
 pub use drafting::drafted;
-pub use looks::{Found, draft_held, look, look_at};
+pub use keeping::Sought;
+pub use looks::{Found, draft_held, look, look_at, look_for, look_new};
 pub use wk_core::PageRead;
 pub use wk_gate::{Gate, NoGate};

@@ -11,4 +11,4 @@ pub use outcome::Refreshed;
 pub use refresh::refresh_with;
 pub use wk_core::{Fanned, Kind};
 pub use wk_gate::{Gate, NoGate};
-pub use wk_reads::{drafted, look, look_at};
+pub use wk_reads::{Sought, drafted, look, look_for, look_new};

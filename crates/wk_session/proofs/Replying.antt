@@ -9,7 +9,7 @@ use Rattle.serde_json.specs.View.{view}
 use Rattle.serde_json.specs.Written.{compact_text}
 use Rattle.serde_json.specs.declared.value.Value.{Value}
 use Rattle.wk_memory.specs.declared.Memory.{Memory as WantOfMemory}
-use Rattle.wk_base.specs.Writing.{AppendsPrefix}
+use Rattle.wk_link.specs.Sending.{AppendsProperPrefix}
 use Rattle.wk_wire_rules.specs.Heads.{Message}
 use Rattle.wk_wire_rules.specs.Responses.{response}
 use Rattle.wk_wiki_rules.specs.Passes.{PassSeen}
@@ -29,14 +29,14 @@ use Rattle.wk_session.proofs.Passing.{Pass}
 -- ---- what is sent
 
 -- memory was wanting, and nothing was sent
-pub nothing-sent : (bytes : List ℕ) (taken : Option (List ℕ)) → IsSent bytes taken taken (Err Memory)
-nothing-sent bytes taken = (tt, (0, omega arith, Appends-nil taken))
+pub nothing-sent : (status : ℕ) (body : List ℕ) (close : Bool) (taken : Option (List ℕ)) → IsSent (response status body close) taken taken (Err Memory)
+nothing-sent status body close taken = (tt, (0, omega arith, Appends-nil taken))
 
 pub sent-whole : (bytes made : List ℕ) (taken later : Option (List ℕ)) → made ≡ bytes → Appends taken later made → IsSent bytes taken later (Ok tt)
 sent-whole bytes made taken later is appends = subst (Appends taken later) is appends
 
-pub sent-part : (bytes made : List ℕ) (taken later : Option (List ℕ)) (end : SessionEnd) → IsWritingEnd end → made ≡ bytes → AppendsPrefix taken later made → IsSent bytes taken later (Err end)
-sent-part bytes made taken later end writing is part = (writing, subst (λ (b : List ℕ). AppendsPrefix taken later b) is part)
+pub sent-part : (bytes made : List ℕ) (taken later : Option (List ℕ)) (end : SessionEnd) → IsWritingEnd end → made ≡ bytes → AppendsProperPrefix taken later made → IsSent bytes taken later (Err end)
+sent-part bytes made taken later end writing is part = (writing, subst (λ (b : List ℕ). AppendsProperPrefix taken later b) is part)
 
 -- the response is the one to the message
 pub sent-as : (message : Message) (reply : Reply) (status : ℕ) (body : List ℕ) (close : Bool) (taken later : Option (List ℕ)) (result : Result (Unit {0}) SessionEnd) → close ≡ message.last → status ≡ reply.status → body ≡ reply.body

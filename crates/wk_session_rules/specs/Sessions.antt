@@ -34,9 +34,9 @@ pub data BeginsWith : List ℕ → List Message → List ℕ → Type 0 where
   one_more : {bytes rest left : List ℕ} {message : Message} {messages : List Message} →
       IsMessage bytes message rest → message.last ≡ false → BeginsWith rest messages left → BeginsWith bytes (message ∷ messages) left
 
--- told bytes grow by the first ones, all of them, and then by a prefix of the others
+-- told bytes grow by the first ones, all of them, and then by a prefix of the others, which isn't all of these
 abbrev pub AppendsPart : Option (List ℕ) → Option (List ℕ) → List ℕ → List ℕ → Type 0
-AppendsPart taken later first others = (k : ℕ) × (k ≤ length others) × Appends taken later (first ++ take k others)
+AppendsPart taken later first others = (k : ℕ) × (k < length others) × Appends taken later (first ++ take k others)
 
 -- ---- ends
 

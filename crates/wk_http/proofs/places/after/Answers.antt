@@ -1,4 +1,4 @@
-use Rattle.std.proofs.Common.{ℕ, ◌+◌, List, ◌++◌, length, take, ap, sym, ◌∙◌, subst, append_assoc, arith}
+use Rattle.std.proofs.Common.{ℕ, List, ◌++◌, take, ap, sym, ◌∙◌, subst, append_assoc, arith}
 use Rattle.std.proofs.lemmas.List.{take_all, take_more}
 use Rattle.wk_http.specs.Places.{EndsAt}
 use Rattle.wk_http.proofs.places.after.Goals as goal

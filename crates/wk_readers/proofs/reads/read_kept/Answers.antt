@@ -1,5 +1,5 @@
 use Rattle.std.proofs.Common.{arith}
-use Rattle.wk_readers.proofs.ReaderLaws.{anew-read, served-read}
+use Rattle.wk_readers.proofs.ReaderLaws.{anew-read, checked-read, served-read}
 use Rattle.wk_readers.proofs.reads.read_kept.Goals as goal
 
 pub returns-then-is_fresh : goal.returns-then-is_fresh
@@ -20,3 +20,6 @@ pub returns-in-Stale : goal.returns-in-Stale
 returns-in-Stale g c =
     anew-read c.args.shared.now c.args.title.now c.args.least c.args.reader.now c.check.new.self c.draft_page.new.self c.draft_page.result c.in-Stale.ensures.pass c.in-Stale.ensures.check.1 c.in-Stale.ensures.check.0
     c.draft_page.ensures.pass c.draft_page.ensures.read
+
+pub returns-in-Current : goal.returns-in-Current
+returns-in-Current g c = checked-read c.args.shared.now c.args.title.now c.args.least c.args.reader.now c.check.new.self c.in-Current.read c.in-Current.ensures.pass c.in-Current.ensures.check

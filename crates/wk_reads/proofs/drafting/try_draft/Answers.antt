@@ -1,4 +1,4 @@
-use Rattle.std.proofs.Common.{length, subst, sym}
+use Rattle.std.proofs.Common.{length, subst, sym, ap, ◌∙◌}
 use Rattle.wk_expand.specs.Drafts.{DraftShown}
 use Rattle.wk_expand.specs.Steps.{given_text}
 use Rattle.wk_read_laws.specs.Points.{AreReadSince}
@@ -11,6 +11,9 @@ accept-requires-clause-since g c = (
   length c.args.pass.now.seen,
   subst (λ (d : DraftShown). AreReadSince c.args.shared.now.start c.draft_apart.new.pass.seen (length c.args.pass.now.seen) d.reads) (sym c.in_ok-draft-2.ensures) c.in_ok-draft.ensures.draft.since,
 )
+
+pub accept-requires-clause-given : goal.accept-requires-clause-given
+accept-requires-clause-given g c = ap (λ (d : DraftShown). d.given) c.in_ok-draft-2.ensures ∙ c.in_ok-draft.ensures.draft.given_is
 
 pub returns-clause-pass : goal.returns-clause-pass
 returns-clause-pass g c = read-both c.args.shared.now c.args.pass.now c.draft_apart.new.pass c.accept.new.pass c.in_ok-draft.ensures.pass c.accept.ensures.pass

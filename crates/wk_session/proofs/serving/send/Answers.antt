@@ -1,6 +1,5 @@
-use Rattle.wk_wire_rules.specs.Responses.{response}
 use Rattle.wk_session.proofs.Replying.{nothing-sent}
 use Rattle.wk_session.proofs.serving.send.Goals as goal
 
 pub returns-in-Err-clause-sent : goal.returns-in-Err-clause-sent
-returns-in-Err-clause-sent g c = nothing-sent (response c.args.status c.args.body.now c.args.close) _
+returns-in-Err-clause-sent g c = nothing-sent c.args.status c.args.body.now c.args.close _
