@@ -40,7 +40,7 @@ where
     V::Store: Send,
     D::Link: Send,
     requires journal { journal ≤ max_journal }
-    ensures served { (rest : Option (List ℕ)) → IsServedAt V.Store.told V.Store.faults V.Store.is_whole asked.address.now asked.most journal
+    ensures served { (rest : Option (List ℕ)) → IsServedAt V.Store.told V.Store.faults V.Store.is_whole asked.entry.address.now asked.entry.most journal
         (record { tables = V.told vault.old name.now; whole = V.opens_whole vault.old name.now }) (V.faults vault.old) (V.faults vault.new)
         (record { told = D.told door.old; faults = D.faults door.old }) (record { told = D.told door.new; faults = D.faults door.new })
         (record { rest = rest; moments = C.left clock.old; taken = O.taken output.old })

@@ -131,7 +131,7 @@ pub fn serve_links<
 where
     D::Link: Send,
     requires opened { HasOpened wiki wiki.start.limits }
-    ensures served { HasServedAt asked.address.now asked.most (D.told door.old) (D.told door.new) (D.faults door.old) (D.faults door.new) (O.taken output.old) (O.taken output.new) result.1 }
+    ensures served { HasServedAt asked.entry.address.now asked.entry.most (D.told door.old) (D.told door.new) (D.faults door.old) (D.faults door.new) (O.taken output.old) (O.taken output.new) result.1 }
     ensures wiki { IsServedFrom wiki result.0 }
     ensures never_falls { O.faults output.old ≤ O.faults output.new }
     ensures no_write_fault { result.1 ≢ CommandEnd.WriteFault → O.faults output.new ≡ O.faults output.old }

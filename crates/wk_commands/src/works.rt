@@ -183,7 +183,7 @@ pub fn serve_over<
 where
     D::Link: Send,
     requires journal { journal ≤ max_journal }
-    ensures served { IsServedOn K.told K.faults K.is_whole asked.address.now asked.most journal keeper result.keeper
+    ensures served { IsServedOn K.told K.faults K.is_whole asked.entry.address.now asked.entry.most journal keeper result.keeper
         (D.told door.old) (D.told door.new) (D.faults door.old) (D.faults door.new) (O.taken output.old) (O.taken output.new) result.end }
     ensures never_falls { O.faults output.old ≤ O.faults output.new }
     ensures no_write_fault { result.end ≢ Ok CommandEnd.WriteFault → O.faults output.new ≡ O.faults output.old }
