@@ -154,8 +154,8 @@ module _ {K : Type 0} {is_whole : K → Bool} {faults : K → ℕ} (none_at_end 
   store-holds : (old new : WikiSeen K) → StoreFailed is_whole faults old new → old.start.whole ≡ true → faults new.keeper ≡ 0 → ⊥
   store-holds old new (inl may) whole held =
       let one = may whole in
-      let below = none_at_end one.0 one.1.0 in
-      let at_end = one.1.1 in
+      let below = none_at_end one.0 one.1 in
+      let at_end = one.2 in
       omega (arith, below, at_end)
   store-holds old new (inr some) whole held = omega (arith, some, held)
 

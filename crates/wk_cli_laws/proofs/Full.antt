@@ -14,7 +14,7 @@ use Rattle.wk_tool_rules.specs.Generator.{generated}
 use Rattle.wk_tool_rules.specs.Saving.{SavesMade, saves_made}
 use Rattle.wk_revs.specs.Verdict.{refusal_of}
 use Rattle.wk_revs.specs.declared.verdict.SaveRefusal.{SaveRefusal}
-use Rattle.wk_revs.specs.declared.verdict.SaveRefusal.TheVariants as refusal
+use Rattle.wk_revs.specs.declared.verdict.SaveRefusal.TheVariants as saves
 use Rattle.wk_core.specs.Loads.{HasOpened}
 use Rattle.wk_core.specs.Seen.{WikiSeen, verdict_now}
 use Rattle.wk_core.specs.declared.outcomes.LoadCause.{LoadCause}
@@ -37,8 +37,6 @@ use Rattle.wk_commands.specs.declared.works.Work.TheVariants as asks
 use Rattle.wk_script.specs.declared.script.ScriptEnd.{ScriptEnd}
 use Rattle.wk_script.specs.declared.script.ScriptEnd.TheVariants as end
 use Rattle.wk_script_runs.specs.Outside.{Outside}
-use Rattle.wk_words.specs.Options.{pages}
-use Rattle.wk_words.specs.Answers.{IsWithin}
 use Rattle.wk_words.specs.Verdicts.{Wanted, refused, runs, shows_help, shows_version}
 use Rattle.wk_words.specs.declared.commands.Command.{Command}
 use Rattle.wk_words.specs.declared.commands.Command.TheVariants.{Script, Serve, Jobs, Check, Generate}
@@ -80,16 +78,16 @@ no-end-ten end.Bound is = omega (arith, is)
 -- ---- refusals
 
 -- a refusal at which the command finds no room is one of the rules
-refusal-named : (why : SaveRefusal) → command.Full ≡ end_of_refusal why → (cause : Refusal) × (refusal_of why ≡ Some cause)
-refusal-named refusal.InvalidTitle is = (judged.invalid_title, refl)
-refusal-named refusal.ContentTooBig is = (judged.content_too_big, refl)
-refusal-named refusal.ArticleExists is = (judged.article_exists, refl)
-refusal-named refusal.MissingTitle is = (judged.missing_title, refl)
-refusal-named (refusal.EditConflict current) is = (judged.edit_conflict current, refl)
-refusal-named (refusal.WikiFull limit) is = (judged.wiki_full limit, refl)
-refusal-named refusal.JournalFull is = (judged.journal_full, refl)
-refusal-named refusal.Memory is = absurd (let e : command.Full ≡ command.Memory = is in cc)
-refusal-named refusal.StoreFault is = absurd (let e : command.Full ≡ command.StoreFault = is in cc)
+refusal-named : (why : SaveRefusal) → command.Full ≡ end_of_refusal why → (found : Refusal) × (refusal_of why ≡ Some found)
+refusal-named saves.InvalidTitle is = (judged.invalid_title, refl)
+refusal-named saves.ContentTooBig is = (judged.content_too_big, refl)
+refusal-named saves.ArticleExists is = (judged.article_exists, refl)
+refusal-named saves.MissingTitle is = (judged.missing_title, refl)
+refusal-named (saves.EditConflict current) is = (judged.edit_conflict current, refl)
+refusal-named (saves.WikiFull limit) is = (judged.wiki_full limit, refl)
+refusal-named saves.JournalFull is = (judged.journal_full, refl)
+refusal-named saves.Memory is = absurd (let e : command.Full ≡ command.Memory = is in cc)
+refusal-named saves.StoreFault is = absurd (let e : command.Full ≡ command.StoreFault = is in cc)
 
 -- ---- jobs
 
@@ -152,17 +150,17 @@ module _ {K : Type 0} (journal : ℕ) where
         → IsRefusedForRoom journal old.state (generated pages number)
     refused-for-room new pages number left why few at is =
         let named = refusal-named why is in
-        let judged = subst (λ (r : Option Refusal). IfSome r (λ cause. (edit : EditAsked) × (slice_get (generated pages number) at.count ≡ Some edit) × (verdict_now new edit ≡ refuse cause))) named.1 at.cause in
-        let edits = take at.count (generated pages number) in
-        let verdict = sym (verdict-is new edits left at.later at.saved judged.0) ∙ judged.2 in record {
+        let edits = generated pages number in
+        let next = subst (λ (r : Option Refusal). IfSome r (λ found. (edit : EditAsked) × (slice_get edits at.count ≡ Some edit) × (verdict_now new edit ≡ refuse found))) named.1 at.cause in
+        let verdict = sym (verdict-is new (take at.count edits) left at.later at.saved next.0) ∙ next.2 in record {
           count = at.count;
           moments = at.saved.moments;
-          edit = judged.0;
+          edit = next.0;
           refusal = named.0;
-          next = judged.1;
-          saved = none-refused new edits left at.later at.saved;
+          next = next.1;
+          saved = none-refused new (take at.count edits) left at.later at.saved;
           verdict = verdict;
-          room = edit-refused (limits_with_journal journal) _ _ pages number at.count judged.0 named.0 few judged.1 verdict;
+          room = edit-refused (limits_with_journal journal) _ _ pages number at.count next.0 named.0 few next.1 verdict;
         }
 
 -- ---- works
@@ -203,67 +201,71 @@ opened-by : {K : Type 0} (told : K → Option StoreTables) (keeper : K) (state :
 opened-by told keeper state None had is = tt
 opened-by told keeper state (Some t) had is = (subst (λ (o : Option StoreTables). IfSome o (λ t. (first_broken t ≡ None) × (state ≡ opened t))) had is).1
 
-module _ {K L : Type 0} {told : K → Option StoreTables} {faults : K → ℕ} {is_whole : K → Bool} {journal : ℕ} {kept : VaultStore} {opens later : ℕ} {before after : Outside} {finish : Finish K} where
+module _ {K : Type 0} {told : K → Option StoreTables} {faults : K → ℕ} {is_whole : K → Bool} {journal : ℕ} {kept : VaultStore} {opens later : ℕ} {before after : Outside} {finish : Finish K} where
+  over-not-ten : {keeper : K} → IsOver told faults is_whole journal keeper before after finish → finish.status ≡ 10 → ⊥
+  over-not-ten (script.not_loaded o) ten = no-cause-ten o.why (sym o.status_is ∙ ten)
+  over-not-ten (script.ran o) ten = no-end-ten o.how (sym o.status_is ∙ ten)
+
   scripted-not-ten : IsScripted told faults is_whole journal kept opens later before after finish → finish.status ≡ 10 → ⊥
   scripted-not-ten (script.no_memory is none) ten = omega (arith, is, ten)
   scripted-not-ten (script.not_opened is rose none) ten = omega (arith, is, ten)
-  scripted-not-ten (script.over_a_store keeper had same (script.not_loaded o)) ten = no-cause-ten o.why (sym o.status_is ∙ ten)
-  scripted-not-ten (script.over_a_store keeper had same (script.ran o)) ten = no-end-ten o.how (sym o.status_is ∙ ten)
+  scripted-not-ten (script.over_a_store keeper had same over) ten = over-not-ten over ten
 
-  shown-not-ten : (text : List ℕ) → IsShown text before after finish → finish.status ≡ 10 → ⊥
-  shown-not-ten text shown ten = elim shown.written [ inl whole ↦ omega (arith, whole.0, ten) | inr cut ↦ omega (arith, cut.0, ten) ]
-
-  abbrev NoRoom : Work → Type 0
-  NoRoom asked = (state : State) × (IfSome kept.tables (λ tables. state ≡ opened tables)) × HasNoRoom asked journal state
-
-  on-store : (asked : Work) → IsFew asked → (keeper left : K) (moments moments_later taken taken_later : Option (List ℕ)) (end : Result CommandEnd LoadCause) → IsOpened told faults is_whole kept keeper
-      → IsWorkedOn told faults is_whole asked journal keeper left moments moments_later taken taken_later end → status_of_work end ≡ 10 → NoRoom asked
-  on-store asked few keeper left moments moments_later taken taken_later end had (worked.not_opened why is o) ten = absurd (no-cause-ten why (ap status_of_work (sym is) ∙ ten))
-  on-store asked few keeper left moments moments_later taken taken_later end had (worked.done how is o) ten =
+  on-store : (asked : Work) → IsFew asked → (keeper left : K) (end : Result CommandEnd LoadCause) → IsOpened told faults is_whole kept keeper
+      → IsWorkedOn told faults is_whole asked journal keeper left before.moments after.moments before.taken after.taken end → status_of_work end ≡ 10
+      → (state : State) × IfSome kept.tables (λ tables. state ≡ opened tables) × HasNoRoom asked journal state
+  on-store asked few keeper left end had (worked.not_opened why is o) ten = absurd (no-cause-ten why (ap status_of_work (sym is) ∙ ten))
+  on-store asked few keeper left end had (worked.done how is o) ten =
       let full = command-is-full how (ap status_of_work (sym is) ∙ ten) in (
         o.first.state,
-        (opened-by told keeper o.first.state kept.tables had.tables o.state, work-full is_whole faults journal o.first o.opened_is asked o.last moments moments_later taken taken_later how few o.worked full),
+        opened-by told keeper o.first.state kept.tables had.tables o.state,
+        work-full is_whole faults journal o.first o.opened_is asked o.last before.moments after.moments before.taken after.taken how few o.worked full,
       )
 
-  worked-full : (asked : Work) → IsFew asked → IsWorkedAt told faults is_whole asked journal kept opens later before after finish → finish.status ≡ 10 → NoRoom asked
+  worked-full : (asked : Work) → IsFew asked → IsWorkedAt told faults is_whole asked journal kept opens later before after finish → finish.status ≡ 10
+      → (state : State) × IfSome kept.tables (λ tables. state ≡ opened tables) × HasNoRoom asked journal state
   worked-full asked few (work.no_memory is none) ten = absurd (omega (arith, is, ten))
   worked-full asked few (work.not_opened is rose none) ten = absurd (omega (arith, is, ten))
-  worked-full asked few (work.over_a_store keeper had same over) ten =
-      on-store asked few keeper over.left before.moments after.moments before.taken after.taken over.end had over.worked (sym over.status_is ∙ ten)
+  worked-full asked few (work.over_a_store keeper had same over) ten = on-store asked few keeper over.left over.end had over.worked (sym over.status_is ∙ ten)
 
-  -- serving makes room for nothing
-  no-full : {told_door later_door : Option _} {address : List ℕ} {most door_faults door_faults_later : ℕ} {taken taken_later : Option (List ℕ)} {end : CommandEnd}
-      → HasServedAt {L = L} address most told_door later_door door_faults door_faults_later taken taken_later end → end ≡ command.Full → ⊥
-  no-full (served.served count given all same text) is = let e : command.Done ≡ command.Full = is in cc
-  no-full (served.broken count rose prefix) is = let e : command.DoorFault ≡ command.Full = is in cc
-  no-full (served.unwritten count prefix) is = let e : command.WriteFault ≡ command.Full = is in cc
-  no-full (served.no_memory count prefix) is = let e : command.Memory ≡ command.Full = is in cc
+module _ {K : Type 0} {text : List ℕ} {before after : Outside} {finish : Finish K} where
+  shown-not-ten : IsShown text before after finish → finish.status ≡ 10 → ⊥
+  shown-not-ten shown ten = elim shown.written [ inl whole ↦ omega (arith, whole.0, ten) | inr cut ↦ omega (arith, cut.0, ten) ]
 
-  module _ {door door_later : DoorSeen L} {address : List ℕ} {most : ℕ} where
-    serving-not-ten : {keeper left : K} {end : Result CommandEnd LoadCause} {taken taken_later : Option (List ℕ)}
-        → IsServedOn told faults is_whole address most journal keeper left door.told door_later.told door.faults door_later.faults taken taken_later end → status_of_work end ≡ 10 → ⊥
-    serving-not-ten (worked.not_loaded why is same_door same_faults o) ten = no-cause-ten why (ap status_of_work (sym is) ∙ ten)
-    serving-not-ten (worked.served_over how is o) ten = no-full o.served (command-is-full how (ap status_of_work (sym is) ∙ ten))
+-- serving makes room for nothing
+module _ {L : Type 0} (door later : DoorSeen L) {address : List ℕ} {most : ℕ} {before after : Option (List ℕ)} where
+  serving-not-full : {how : CommandEnd} → HasServedAt address most door.told later.told door.faults later.faults before after how → how ≡ command.Full → ⊥
+  serving-not-full (served.served count given all same written) is = let e : command.Done ≡ command.Full = is in cc
+  serving-not-full (served.broken count rose prefix) is = let e : command.DoorFault ≡ command.Full = is in cc
+  serving-not-full (served.unwritten count prefix) is = let e : command.WriteFault ≡ command.Full = is in cc
+  serving-not-full (served.no_memory count prefix) is = let e : command.Memory ≡ command.Full = is in cc
 
-    served-not-ten : IsServedAt told faults is_whole address most journal kept opens later door door_later before after finish → finish.status ≡ 10 → ⊥
-    served-not-ten (work.no_memory_to_open is none same) ten = omega (arith, is, ten)
-    served-not-ten (work.unopened is rose none same) ten = omega (arith, is, ten)
-    served-not-ten (work.over_the_store keeper had same over) ten = serving-not-ten over.served (sym over.status_is ∙ ten)
+module _ {K L : Type 0} {told : K → Option StoreTables} {faults : K → ℕ} {is_whole : K → Bool} {address : List ℕ} {most journal : ℕ} {kept : VaultStore} {opens later : ℕ} (door door_later : DoorSeen L)
+    {before after : Outside} {finish : Finish K} where
+  served-on-not-ten : (keeper left : K) (end : Result CommandEnd LoadCause)
+      → IsServedOn told faults is_whole address most journal keeper left door.told door_later.told door.faults door_later.faults before.taken after.taken end → status_of_work end ≡ 10 → ⊥
+  served-on-not-ten keeper left end (worked.not_loaded why is same_door same_faults o) ten = no-cause-ten why (ap status_of_work (sym is) ∙ ten)
+  served-on-not-ten keeper left end (worked.served_over how is o) ten = serving-not-full door door_later o.served (command-is-full how (ap status_of_work (sym is) ∙ ten))
+
+  served-not-ten : IsServedAt told faults is_whole address most journal kept opens later door door_later before after finish → finish.status ≡ 10 → ⊥
+  served-not-ten (work.no_memory_to_open is none same) ten = omega (arith, is, ten)
+  served-not-ten (work.unopened is rose none same) ten = omega (arith, is, ten)
+  served-not-ten (work.over_the_store keeper had same over) ten = served-on-not-ten keeper over.left over.end over.served (sym over.status_is ∙ ten)
 
 module _ {K L : Type 0} (told : K → Option StoreTables) (faults : K → ℕ) (is_whole : K → Bool) (opens later : ℕ) (door door_later : DoorSeen L) (before after : Outside) (finish : Finish K) where
   carried-full : (wanted : Wanted) (kept : VaultStore) → wanted.pages ≤ 10000 → IsCarriedOut told faults is_whole wanted kept opens later door door_later before after finish
       → finish.status ≡ 10 → FindsNoRoom wanted kept
-  carried-full wanted kept few (finished.scripted is done same) ten = absurd (scripted-not-ten {L = L} done ten)
-  carried-full wanted kept few (finished.served is done) ten = absurd (served-not-ten done ten)
+  carried-full wanted kept few (finished.scripted is done same) ten = absurd (scripted-not-ten done ten)
+  carried-full wanted kept few (finished.served is done) ten = absurd (served-not-ten door door_later done ten)
   carried-full wanted kept few (finished.worked asked is done same) ten =
-      let none = worked-full {L = L} asked (few-asked wanted.command wanted.pages wanted.number asked is few) done ten in
+      let none = worked-full asked (few-asked wanted.command wanted.pages wanted.number asked is few) done ten in
       record { state = none.0; asked = asked; asked_is = is; opened_is = none.1; no_room = none.2 }
 
   pub finished-full : (wanted : Wanted) (vault : VaultTold) → IsFinished told faults is_whole (runs wanted) vault opens later door door_later before after finish
       → finish.status ≡ 10 → FindsNoRoom wanted (store_named vault wanted.store)
   finished-full wanted vault (finished.no_memory is same same_door none) ten = absurd (omega (arith, is, ten))
   finished-full wanted vault (finished.not_taken not is same same_door none) ten = absurd (omega (arith, is, ten))
-  finished-full wanted vault (finished.shown text asks_for same same_door shown) ten = absurd (shown-not-ten {L = L} text shown ten)
+  finished-full wanted vault (finished.shown text asks_for same same_door shown) ten = absurd (shown-not-ten shown ten)
   finished-full wanted vault (finished.carried_out other is within done) ten =
-      let same : other ≡ wanted = (let e : runs wanted ≡ runs other = is in let equal : wanted ≡ other = cc in sym equal) in
+      let same : other ≡ wanted = (let equal : wanted ≡ other = (let e : runs wanted ≡ runs other = is in cc) in sym equal) in
       subst (λ (w : Wanted). FindsNoRoom w (store_named vault w.store)) same (carried-full other (store_named vault other.store) within.1 done ten)

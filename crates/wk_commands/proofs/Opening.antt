@@ -15,10 +15,6 @@ module _ {K : Type 0} where
   pub opened-as : (wiki : WikiSeen K) (most limits : MostHeld) → most ≡ limits → HasOpened wiki most → HasOpened wiki limits
   opened-as wiki most limits is opening = subst (HasOpened wiki) is opening
 
-  -- by its own limits
-  pub opened-own : (wiki : WikiSeen K) (most : MostHeld) → HasOpened wiki most → HasOpened wiki wiki.start.limits
-  opened-own wiki most opening = opened-as wiki most wiki.start.limits (sym opening.limits) opening
-
 -- nothing happened, and the keeper that is left has the tables
 pub unopened-left : {K : Type 0} (told : K → Option StoreTables) (faults : K → ℕ) (is_whole : K → Bool) (keeper left given : K) (moments before : Option (List ℕ)) (why : LoadCause) → left ≡ given → told given ≡ told keeper
     → IfSome (bad_store_of why) (λ row. IfSome (told keeper) (λ tables. first_broken tables ≡ Some row)) → (why ≡ cause.StoreFault → Rose (faults keeper) (faults given)) → faults keeper ≤ faults given

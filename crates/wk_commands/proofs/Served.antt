@@ -1,6 +1,7 @@
 -- What serving has written, and what it leaves of the wiki.
 use Rattle.std.proofs.Common.{◌≡◌, ◌≢◌, ◌⊎◌, ◌≤◌, ℕ, ◌+◌, true, List, [], ◌∷◌, ◌++◌, length, take, drop, Option, None, Some, Result, Ok, Err, refl, sym, ap, ◌∙◌, subst, inl, inr, arith, append-nil, length-append}
 use Rattle.std.proofs.Math.Seq.{take-append-add}
+use Rattle.std.proofs.lemmas.Bool.{false≢true}
 use Rattle.std.proofs.lemmas.List.{take-append-drop, take-append-le}
 use Rattle.std.specs.Io.KnownBytes.{Appends}
 use Rattle.std.specs.Prelude.{IfErr, OnOk}
@@ -33,24 +34,20 @@ use Rattle.wk_commands.proofs.Lives.{sound-on}
 -- ---- prefixes of two lines
 
 nothing-yet : (before : Option (List ℕ)) (text : List ℕ) → AppendsPrefix before before text
-nothing-yet before text = (0, (omega arith, Appends-nil before))
+nothing-yet before text = (0, omega arith, Appends-nil before)
 
 within-first : (before after : Option (List ℕ)) (line later : List ℕ) → AppendsPrefix before after line → AppendsPrefix before after (line ++ later)
-within-first before after line later p = (
-  p.0,
-  (
-    (let fits = p.1.0 in let both = length-append line later in omega (arith, fits, both)),
-    subst (Appends before after) (sym (take-append-le p.0 line later p.1.0)) p.1.1,
-  ),
+within-first before after line later (k, within, first) = (
+  k,
+  (let both = length-append line later in omega (arith, within, both)),
+  subst (Appends before after) (sym (take-append-le k line later within)) first,
 )
 
 within-second : (before middle after : Option (List ℕ)) (line later : List ℕ) → Appends before middle line → AppendsPrefix middle after later → AppendsPrefix before after (line ++ later)
-within-second before middle after line later first p = (
-  length line + p.0,
-  (
-    (let fits = p.1.0 in let both = length-append line later in omega (arith, fits, both)),
-    subst (Appends before after) (sym (take-append-add line later p.0)) (Appends-trans before middle after line (take p.0 later) first p.1.1),
-  ),
+within-second before middle after line later first (k, within, second) = (
+  length line + k,
+  (let both = length-append line later in omega (arith, within, both)),
+  subst (Appends before after) (sym (take-append-add line later k)) (Appends-trans before middle after line (take k later) first second),
 )
 
 -- the first line, and no more
@@ -113,7 +110,7 @@ module _ {L : Type 0} (address : List ℕ) (most : ℕ) (told middle later : Opt
       → EndsTaken shut count end between after → HasServedAt address most told later faults faults_later before after end
   as-taken None count end entered over ends =
       let fits = entered.within in
-      let all : count ≡ most = elim over [ inl none ↦ absurd none | inr full ↦ omega (arith, fits, full) ] in
+      let all : count ≡ most = elim over [ inl none ↦ absurd (false≢true none) | inr full ↦ omega (arith, fits, full) ] in
       to-the-end count end entered.given (inl all) (entered.going refl) ends
   as-taken (Some Empty) count end entered over ends = let none = entered.emptied refl in to-the-end count end entered.given (inr none.1) none.0 ends
   as-taken (Some Broken) count end entered over ends =

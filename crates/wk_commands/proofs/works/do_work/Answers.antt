@@ -8,13 +8,13 @@ pub returns-in-Check : goal.returns-in-Check
 returns-in-Check g c =
     let left = g.C.Clock.left c.args.clock.now in
     let wiki = c.args.wiki in record {
-      worked = subst (λ (w : Work). IsWorked g.K.Keeper.is_whole g.K.Keeper.faults w wiki wiki left left (g.O.Sink.taken c.args.output.now) (g.O.Sink.taken c.check_pages.new.output) c.check_pages.result)
-          (sym c.in-Check.is) (refl, c.check_pages.ensures.compared);
+      worked = subst (λ (w : Work). IsWorked g.K.Keeper.is_whole g.K.Keeper.faults w wiki wiki left left (g.O.Sink.taken c.args.output.now) (g.O.Sink.taken c.check_pages-end.new.output) c.check_pages-end.result)
+          (sym c.in-Check.is) (refl, c.check_pages-end.ensures.compared);
       lived = same-on wiki c.requires.opened;
       sound = λ sound. sound;
-      never_falls = c.check_pages.ensures.never_falls;
-      no_write_fault = c.check_pages.ensures.no_write_fault;
-      write_fault = c.check_pages.ensures.write_fault;
+      never_falls = c.check_pages-end.ensures.never_falls;
+      no_write_fault = c.check_pages-end.ensures.no_write_fault;
+      write_fault = c.check_pages-end.ensures.write_fault;
     }
 
 pub returns-in-Jobs : goal.returns-in-Jobs

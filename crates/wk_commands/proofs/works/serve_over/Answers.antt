@@ -1,31 +1,28 @@
 use Rattle.std.proofs.Common.{None, Ok, refl, sym, ap, ◌∙◌, arith}
 use Rattle.wk_commands.specs.Worked.{not_loaded, served_over}
-use Rattle.wk_commands.proofs.Opening.{err-is-not, ok-is, opened-as, opened-own, unopened-left}
+use Rattle.wk_commands.proofs.Opening.{err-is-not, ok-is, opened-as, unopened-left}
 use Rattle.wk_commands.proofs.works.serve_over.Goals as goal
 
 pub load-requires : goal.load-requires
 load-requires g c = record { within = c.limits_with_journal.ensures.within }
 
-pub serve_links-requires : goal.serve_links-requires
-serve_links-requires g c = record { opened = opened-own c.in-Ok.wiki _ c.in-Ok.ensures.opened }
-
 pub returns-in-Ok : goal.returns-in-Ok
 returns-in-Ok g c = record {
-  served = served_over c.serve_links.result.1 c.released.ensures.end (record {
+  served = served_over c.serve_links-wiki.result.1 c.released.ensures.end (record {
     first = c.in-Ok.wiki;
-    last = c.serve_links.result.0;
+    last = c.serve_links-wiki.result.0;
     opened_is = opened-as c.in-Ok.wiki _ _ c.limits_with_journal.ensures.limits c.in-Ok.ensures.opened;
     state = c.in-Ok.ensures.state;
     whole = sym c.facts.ensures.whole ∙ c.in-Ok.ensures.whole;
-    served = c.serve_links.ensures.served;
-    from = c.serve_links.ensures.wiki;
+    served = c.serve_links-wiki.ensures.served;
+    from = c.serve_links-wiki.ensures.wiki;
     keeper_is = c.released.ensures.keeper;
     tables = c.released.ensures.told;
   });
-  never_falls = c.serve_links.ensures.never_falls;
-  no_write_fault = λ not. c.serve_links.ensures.no_write_fault (λ is. not (c.released.ensures.end ∙ ap Ok is));
-  write_fault = λ is. c.serve_links.ensures.write_fault (ok-is _ _ (sym c.released.ensures.end ∙ is));
-  door_never_falls = c.serve_links.ensures.door_never_falls;
+  never_falls = c.serve_links-wiki.ensures.never_falls;
+  no_write_fault = λ not. c.serve_links-wiki.ensures.no_write_fault (λ is. not (c.released.ensures.end ∙ ap Ok is));
+  write_fault = λ is. c.serve_links-wiki.ensures.write_fault (ok-is _ _ (sym c.released.ensures.end ∙ is));
+  door_never_falls = c.serve_links-wiki.ensures.door_never_falls;
 }
 
 pub returns-in-Err : goal.returns-in-Err

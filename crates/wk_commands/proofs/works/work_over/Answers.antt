@@ -1,32 +1,29 @@
-use Rattle.std.proofs.Common.{Ok, refl, sym, ap, subst, ◌∙◌, arith}
+use Rattle.std.proofs.Common.{Ok, refl, sym, ap, ◌∙◌, arith}
 use Rattle.wk_commands.specs.Worked.{done, not_opened}
-use Rattle.wk_commands.proofs.Opening.{err-is-not, ok-is, opened-as, opened-own, unopened-left}
+use Rattle.wk_commands.proofs.Opening.{err-is-not, ok-is, opened-as, unopened-left}
 use Rattle.wk_commands.proofs.works.work_over.Goals as goal
 
 pub load-requires : goal.load-requires
 load-requires g c = record { within = c.limits_with_journal.ensures.within }
 
-pub do_work-requires : goal.do_work-requires
-do_work-requires g c = record { opened = opened-own c.in-Ok.wiki _ c.in-Ok.ensures.opened }
-
 pub returns-in-Ok : goal.returns-in-Ok
 returns-in-Ok g c = record {
-  worked = done c.do_work.result.1 c.released.ensures.end (record {
+  worked = done c.do_work-wiki.result.1 c.released.ensures.end (record {
     first = c.in-Ok.wiki;
-    last = c.do_work.result.0;
+    last = c.do_work-wiki.result.0;
     opened_is = opened-as c.in-Ok.wiki _ _ c.limits_with_journal.ensures.limits c.in-Ok.ensures.opened;
     state = c.in-Ok.ensures.state;
     whole = sym c.facts.ensures.whole ∙ c.in-Ok.ensures.whole;
     faults_at_first = c.in-Ok.ensures.no_fault;
-    worked = c.do_work.ensures.worked;
-    lived = c.do_work.ensures.lived;
-    sound = c.do_work.ensures.sound;
+    worked = c.do_work-wiki.ensures.worked;
+    lived = c.do_work-wiki.ensures.lived;
+    sound = c.do_work-wiki.ensures.sound;
     keeper_is = c.released.ensures.keeper;
     tables = c.released.ensures.told;
   });
-  never_falls = c.do_work.ensures.never_falls;
-  no_write_fault = λ not. c.do_work.ensures.no_write_fault (λ is. not (c.released.ensures.end ∙ ap Ok is));
-  write_fault = λ is. c.do_work.ensures.write_fault (ok-is _ _ (sym c.released.ensures.end ∙ is));
+  never_falls = c.do_work-wiki.ensures.never_falls;
+  no_write_fault = λ not. c.do_work-wiki.ensures.no_write_fault (λ is. not (c.released.ensures.end ∙ ap Ok is));
+  write_fault = λ is. c.do_work-wiki.ensures.write_fault (ok-is _ _ (sym c.released.ensures.end ∙ is));
 }
 
 pub returns-in-Err : goal.returns-in-Err
