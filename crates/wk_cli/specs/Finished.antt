@@ -7,7 +7,7 @@ use Rattle.wk_script_runs.specs.Outside.{Outside}
 use Rattle.wk_commands.specs.declared.works.Work.{Work}
 use Rattle.wk_commands.specs.declared.works.Work.TheVariants as work
 use Rattle.wk_words.specs.Answers.{IsWithin}
-use Rattle.wk_words.specs.Options.{pages}
+use Rattle.wk_words.specs.Options as option
 use Rattle.wk_words.specs.Verdicts.{Verdict, Wanted, refused, runs, shows_help, shows_version}
 use Rattle.wk_words.specs.declared.commands.Command.{Command}
 use Rattle.wk_words.specs.declared.commands.Command.TheVariants.{Script, Serve, Jobs, Check, Generate}
@@ -63,5 +63,5 @@ pub data IsFinished {K L : Type 0} (told : K → Option StoreTables) (faults : K
       IsFinished told faults is_whole verdict vault opens later door door_later before after finish
   shown : (text : List ℕ) → (verdict ≡ shows_help) ⊎ (verdict ≡ shows_version) → later ≡ opens → door_later ≡ door → IsShown text before after finish →
       IsFinished told faults is_whole verdict vault opens later door door_later before after finish
-  carried_out : (wanted : Wanted) → verdict ≡ runs wanted → IsWithin pages wanted.pages → IsCarriedOut told faults is_whole wanted (store_named vault wanted.store) opens later door door_later before after finish →
+  carried_out : (wanted : Wanted) → verdict ≡ runs wanted → IsWithin option.pages wanted.pages → IsCarriedOut told faults is_whole wanted (store_named vault wanted.store) opens later door door_later before after finish →
       IsFinished told faults is_whole verdict vault opens later door door_later before after finish

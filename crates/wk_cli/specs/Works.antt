@@ -1,5 +1,5 @@
 -- What the commands `check`, `jobs` and `gen` have done by their end (own).
-use Rattle.std.specs.Prelude.{◌≡◌, ℕ, Bool, [], Some, Result, Option}
+use Rattle.std.specs.Prelude.{◌≡◌, ℕ, Bool, List, [], Some, Result, Option}
 use Rattle.wk_base.specs.Faults.{Rose}
 use Rattle.wk_table_rules.specs.Rows.{StoreTables}
 use Rattle.wk_commands.specs.Worked.{IsServedOn, IsWorkedOn}
