@@ -92,12 +92,12 @@ pub fn drain_wiki<K: Keeper + Send, G: Gate + Copy + Send, R: Threads + Wait + S
     let Drained { wiki, end } = drain_sealed(rt, wiki, gate, procs);
     wiki.facts();
     match end {
+        Err(DrainRefusal::StoreFault) => (wiki, DrainEnd::StoreFault),
+        Err(DrainRefusal::Memory) => (wiki, DrainEnd::Memory),
         Ok(()) | Err(DrainRefusal::JournalFull) => {
             let mut wiki = wiki;
             let end = drain_here(&mut wiki);
             (wiki, end)
         }
-        Err(DrainRefusal::StoreFault) => (wiki, DrainEnd::StoreFault),
-        Err(DrainRefusal::Memory) => (wiki, DrainEnd::Memory),
     }
 }

@@ -11,6 +11,12 @@ use Rattle.wk_readers.proofs.reader.Reader.check.Goals as goal
 pub invariant_of-self : goal.invariant_of-self
 invariant_of-self g c = right-behind c.self.inside.pass c.self.inside.cache c.args.self.now c.self.view_is c.self.invariant c.args.shared.now c.look_for-sought.new.pass c.requires.turn c.look_for-sought.ensures.looked.1.read
 
+pub invariant_of-self-in-Shared : goal.invariant_of-self-in-Shared
+invariant_of-self-in-Shared g c = right-behind c.self.inside.pass c.self.inside.cache c.args.self.now c.self.view_is c.self.invariant c.args.shared.now c.look_for-sought.new.pass c.requires.turn c.look_for-sought.ensures.looked.1.read
+
+pub invariant_of-self-in-Nothing-1 : goal.invariant_of-self-in-Nothing-1
+invariant_of-self-in-Nothing-1 g c = right-behind c.self.inside.pass c.self.inside.cache c.args.self.now c.self.view_is c.self.invariant c.args.shared.now c.look_for-sought.new.pass c.requires.turn c.look_for-sought.ensures.looked.1.read
+
 pub invariant_of-self-in-Own : goal.invariant_of-self-in-Own
 invariant_of-self-in-Own g c =
     let looked = c.look_for-sought.ensures.looked in

@@ -9,6 +9,12 @@ use Rattle.wk_readers.proofs.reader.Reader.check_new.Goals as goal
 pub invariant_of-self : goal.invariant_of-self
 invariant_of-self g c = right-behind c.self.inside.pass c.self.inside.cache c.args.self.now c.self.view_is c.self.invariant c.args.shared.now c.look_new-found.new.pass c.requires.turn c.look_new-found.ensures.read
 
+pub invariant_of-self-in-Some : goal.invariant_of-self-in-Some
+invariant_of-self-in-Some g c = right-behind c.self.inside.pass c.self.inside.cache c.args.self.now c.self.view_is c.self.invariant c.args.shared.now c.look_new-found.new.pass c.requires.turn c.look_new-found.ensures.read
+
+pub invariant_of-self-in-None : goal.invariant_of-self-in-None
+invariant_of-self-in-None g c = right-behind c.self.inside.pass c.self.inside.cache c.args.self.now c.self.view_is c.self.invariant c.args.shared.now c.look_new-found.new.pass c.requires.turn c.look_new-found.ensures.read
+
 pub take_in-requires-clause-right : goal.take_in-requires-clause-right
 take_in-requires-clause-right g c =
     let kept = subst (λ o. IfSome o (λ (k : Kept). IsPresentRead c.args.shared.now c.look_new-found.new.pass c.args.title.now None (kept_read k) × (k.uses ≡ 0))) c.in-Some.is c.look_new-found.ensures.kept in
