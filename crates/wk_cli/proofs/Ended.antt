@@ -8,9 +8,12 @@ use Rattle.wk_core.specs.Seen.{WikiSeen}
 use Rattle.wk_core.specs.declared.outcomes.LoadCause.{LoadCause}
 use Rattle.wk_revs.specs.declared.verdict.SaveRefusal.{SaveRefusal}
 use Rattle.wk_revs.specs.declared.verdict.SaveRefusal.TheVariants as refusal
-use Rattle.wk_commands.specs.Generated.{IsGenerated, end_of_refusal, refused, settled}
-use Rattle.wk_commands.specs.Served.{HasServedAt, broken, no_memory as no_memory_left, served, unwritten}
-use Rattle.wk_commands.specs.Worked.{IsServedOn, IsWorked, IsWorkedOn, done, not_loaded as not_served, not_opened as not_opened_on, served_over}
+use Rattle.wk_commands.specs.Generated.{IsGenerated, end_of_refusal}
+use Rattle.wk_commands.specs.Generated as made
+use Rattle.wk_commands.specs.Served.{HasServedAt}
+use Rattle.wk_commands.specs.Served as serving
+use Rattle.wk_commands.specs.Worked.{IsServedOn, IsWorked, IsWorkedOn}
+use Rattle.wk_commands.specs.Worked as worked
 use Rattle.wk_commands.specs.declared.ends.CommandEnd.{CommandEnd}
 use Rattle.wk_commands.specs.declared.ends.CommandEnd.TheVariants.{Done, DoorFault, Memory, WriteFault}
 use Rattle.wk_commands.specs.declared.works.Work.{Work}
@@ -73,22 +76,21 @@ refusal-no-door refusal.JournalFull e = cc
 refusal-no-door refusal.Memory e = cc
 refusal-no-door refusal.StoreFault e = cc
 
-generated-no-door : {K : Type 0} {is_whole : K → Bool} {faults : K → ℕ} {edits : List EditAsked} {old new : WikiSeen K} {left later before after : Option (List ℕ)} {end : CommandEnd}
-    → IsGenerated is_whole faults edits old new left later before after end → end ≢ DoorFault
-generated-no-door (settled middle saved is) = is.no_door
-generated-no-door (refused why at is keeps fault) = λ door. refusal-no-door why (sym door ∙ is)
+module _ {K : Type 0} (is_whole : K → Bool) (faults : K → ℕ) (old new : WikiSeen K) (left later before after : Option (List ℕ)) (end : CommandEnd) where
+  generated-no-door : (edits : List EditAsked) → IsGenerated is_whole faults edits old new left later before after end → end ≢ DoorFault
+  generated-no-door edits (made.settled middle saved is) = is.no_door
+  generated-no-door edits (made.refused why at is keeps fault) = λ door. refusal-no-door why (sym door ∙ is)
 
--- no command but `serve` asks a door
-no-door-asked : {K : Type 0} {is_whole : K → Bool} {faults : K → ℕ} (asked : Work) {old new : WikiSeen K} {left later before after : Option (List ℕ)} {end : CommandEnd}
-    → IsWorked is_whole faults asked old new left later before after end → end ≢ DoorFault
-no-door-asked Check is = is.1.no_door
-no-door-asked Jobs is = is.no_door
-no-door-asked (Generate pages number) is = generated-no-door is
+  -- no command but `serve` asks a door
+  no-door-asked : (asked : Work) → IsWorked is_whole faults asked old new left later before after end → end ≢ DoorFault
+  no-door-asked Check is = is.1.no_door
+  no-door-asked Jobs is = is.no_door
+  no-door-asked (Generate pages number) is = generated-no-door _ is
 
-no-work-six : {K : Type 0} {told : K → Option StoreTables} {faults : K → ℕ} {is_whole : K → Bool} {asked : Work} {journal : ℕ} {keeper left : K} {moments later before after : Option (List ℕ)} {end : Result CommandEnd LoadCause}
-    → IsWorkedOn told faults is_whole asked journal keeper left moments later before after end → status_of_work end ≡ 6 → ⊥
-no-work-six (not_opened_on why is none) six = no-cause-six why (ap status_of_work (sym is) ∙ six)
-no-work-six {asked = asked} (done how is over) six = no-door-asked asked over.worked (command-is-door-fault how (ap status_of_work (sym is) ∙ six))
+module _ {K : Type 0} (told : K → Option StoreTables) (faults : K → ℕ) (is_whole : K → Bool) (asked : Work) (journal : ℕ) (keeper left : K) (moments later before after : Option (List ℕ)) (end : Result CommandEnd LoadCause) where
+  no-work-six : IsWorkedOn told faults is_whole asked journal keeper left moments later before after end → status_of_work end ≡ 6 → ⊥
+  no-work-six (worked.not_opened why is none) six = no-cause-six why (ap status_of_work (sym is) ∙ six)
+  no-work-six (worked.done how is over) six = no-door-asked is_whole faults over.first over.last moments later before after how asked over.worked (command-is-door-fault how (ap status_of_work (sym is) ∙ six))
 
 module _ {K : Type 0} {told : K → Option StoreTables} {faults : K → ℕ} {is_whole : K → Bool} {asked : Work} {journal : ℕ} {kept : VaultStore} {opens later : ℕ} {before after : Outside} {finish : Finish K} where
   pub work-known : IsWorkedAt told faults is_whole asked journal kept opens later before after finish → IsKnown finish.status
@@ -111,34 +113,36 @@ module _ {K : Type 0} {told : K → Option StoreTables} {faults : K → ℕ} {is
   pub work-not-six : IsWorkedAt told faults is_whole asked journal kept opens later before after finish → finish.status ≡ 6 → ⊥
   work-not-six (work.no_memory is none) six = omega (arith, is, six)
   work-not-six (work.not_opened is rose none) six = omega (arith, is, six)
-  work-not-six (work.over_a_store keeper had same over) six = no-work-six over.worked (sym over.status_is ∙ six)
+  work-not-six (work.over_a_store keeper had same over) six =
+      no-work-six told faults is_whole asked journal keeper over.left before.moments after.moments before.taken after.taken over.end over.worked (sym over.status_is ∙ six)
 
   pub work-opens : IsWorkedAt told faults is_whole asked journal kept opens later before after finish → finish.status ≡ 0 → later ≡ opens
   work-opens (work.no_memory is none) done = absurd (omega (arith, is, done))
   work-opens (work.not_opened is rose none) done = absurd (omega (arith, is, done))
   work-opens (work.over_a_store keeper had same over) done = same
 
-module _ {K L : Type 0} {told : K → Option StoreTables} {faults : K → ℕ} {is_whole : K → Bool} {address : List ℕ} {most journal : ℕ} {keeper left : K} {door later : Option (DoorTold L)} {door_faults door_faults_later : ℕ}
-    {before after : Option (List ℕ)} where
+module _ {L : Type 0} {address : List ℕ} {most : ℕ} {door later : Option (DoorTold L)} {door_faults door_faults_later : ℕ} {before after : Option (List ℕ)} where
   at-door-fault : {end : CommandEnd} → HasServedAt address most door later door_faults door_faults_later before after end → end ≡ DoorFault → Rose door_faults door_faults_later
-  at-door-fault (broken count rose prefix) is = rose
-  at-door-fault (served count given all same written) is = absurd (let e : Done ≡ DoorFault = is in cc)
-  at-door-fault (unwritten count prefix) is = absurd (let e : WriteFault ≡ DoorFault = is in cc)
-  at-door-fault (no_memory_left count prefix) is = absurd (let e : Memory ≡ DoorFault = is in cc)
+  at-door-fault (serving.broken count rose prefix) is = rose
+  at-door-fault (serving.served count given all same written) is = absurd (let e : Done ≡ DoorFault = is in cc)
+  at-door-fault (serving.unwritten count prefix) is = absurd (let e : WriteFault ≡ DoorFault = is in cc)
+  at-door-fault (serving.no_memory count prefix) is = absurd (let e : Memory ≡ DoorFault = is in cc)
 
   at-done : {end : CommandEnd} → HasServedAt address most door later door_faults door_faults_later before after end → end ≡ Done → door_faults_later ≡ door_faults
-  at-done (served count given all same written) is = same
-  at-done (broken count rose prefix) is = absurd (let e : DoorFault ≡ Done = is in cc)
-  at-done (unwritten count prefix) is = absurd (let e : WriteFault ≡ Done = is in cc)
-  at-done (no_memory_left count prefix) is = absurd (let e : Memory ≡ Done = is in cc)
+  at-done (serving.served count given all same written) is = same
+  at-done (serving.broken count rose prefix) is = absurd (let e : DoorFault ≡ Done = is in cc)
+  at-done (serving.unwritten count prefix) is = absurd (let e : WriteFault ≡ Done = is in cc)
+  at-done (serving.no_memory count prefix) is = absurd (let e : Memory ≡ Done = is in cc)
 
+module _ {K L : Type 0} {told : K → Option StoreTables} {faults : K → ℕ} {is_whole : K → Bool} {address : List ℕ} {most journal : ℕ} {keeper left : K} {door later : Option (DoorTold L)} {door_faults door_faults_later : ℕ}
+    {before after : Option (List ℕ)} where
   pub served-rose : {end : Result CommandEnd LoadCause} → IsServedOn told faults is_whole address most journal keeper left door later door_faults door_faults_later before after end → status_of_work end ≡ 6 → Rose door_faults door_faults_later
-  served-rose (not_served why is same_door same none) six = absurd (no-cause-six why (ap status_of_work (sym is) ∙ six))
-  served-rose (served_over how is over) six = at-door-fault over.served (command-is-door-fault how (ap status_of_work (sym is) ∙ six))
+  served-rose (worked.not_loaded why is same_door same none) six = absurd (no-cause-six why (ap status_of_work (sym is) ∙ six))
+  served-rose (worked.served_over how is over) six = at-door-fault over.served (command-is-door-fault how (ap status_of_work (sym is) ∙ six))
 
   pub served-same : {end : Result CommandEnd LoadCause} → IsServedOn told faults is_whole address most journal keeper left door later door_faults door_faults_later before after end → status_of_work end ≡ 0 → door_faults_later ≡ door_faults
-  served-same (not_served why is same_door same none) nil = same
-  served-same (served_over how is over) nil = at-done over.served (command-is-done how (ap status_of_work (sym is) ∙ nil))
+  served-same (worked.not_loaded why is same_door same none) nil = same
+  served-same (worked.served_over how is over) nil = at-done over.served (command-is-done how (ap status_of_work (sym is) ∙ nil))
 
 module _ {K L : Type 0} {told : K → Option StoreTables} {faults : K → ℕ} {is_whole : K → Bool} {address : List ℕ} {most journal : ℕ} {kept : VaultStore} {opens later : ℕ} {door door_later : DoorSeen L} {before after : Outside}
     {finish : Finish K} where
