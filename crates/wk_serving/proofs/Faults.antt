@@ -9,7 +9,7 @@ use Rattle.wk_refresh.specs.Drained.{End, HasEnded, MayDrain, WorkEnd, end_first
 use Rattle.wk_refresh.specs.declared.refusal.DrainRefusal.TheVariants.{Memory, StoreFault}
 
 module _ {K : Type 0} (is_whole : K → Bool) (faults : K → ℕ) (shared : Begun Start) where
-  first-fault : (olds : List (Story Start Event)) (ends : List WorkEnd) → AllZip (HasEnded is_whole faults shared) olds ends → first_refusal (map (λ w. w.end) ends) ≡ Err StoreFault → MayFail is_whole faults shared.start
+  first-fault : (olds : List (Story Start Event)) (ends : List WorkEnd) → AllZip (λ (pass : Story Start Event) (w : WorkEnd). HasEnded is_whole faults shared pass w.pass w.end) olds ends → first_refusal (map (λ w. w.end) ends) ≡ Err StoreFault → MayFail is_whole faults shared.start
   first-fault [] [] all is = absurd (let e : Ok tt ≡ Err StoreFault = is in cc)
   first-fault [] (e ∷ ends) all is = absurd all
   first-fault (o ∷ olds) [] all is = absurd all
