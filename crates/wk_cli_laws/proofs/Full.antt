@@ -1,5 +1,5 @@
 -- Why a command finds no room.
-use Rattle.std.proofs.Common.{◌≡◌, ◌≢◌, ◌≤◌, ◌<◌, ℕ, ◌+◌, ◌*◌, ◌⊎◌, Bool, List, ◌++◌, length, take, Option, Some, None, IfSome, Result, refl, sym, ap, ◌∙◌, subst, inl, inr, arith}
+use Rattle.std.proofs.Common.{◌≡◌, ◌≤◌, ◌<◌, ℕ, ◌+◌, ◌*◌, Bool, List, ◌++◌, length, take, Option, Some, None, IfSome, Result, refl, sym, ap, ◌∙◌, subst, inl, inr, arith}
 use Rattle.std.specs.Prelude.{slice_get}
 use Rattle.wk_page_rules.specs.Verdict.{EditAsked, MostHeld, Refusal, max_job, refuse}
 use Rattle.wk_page_rules.specs.Verdict as judged
@@ -21,7 +21,6 @@ use Rattle.wk_core.specs.declared.outcomes.LoadCause.{LoadCause}
 use Rattle.wk_core.specs.declared.outcomes.LoadCause.TheVariants as cause
 use Rattle.wk_tools.specs.Drains.{CanBeFull}
 use Rattle.wk_tools.specs.Saves.{HasSaved, IsRefusedAt, made_of}
-use Rattle.wk_command_laws.specs.Room.{IsForRoom}
 use Rattle.wk_command_laws.proofs.Ahead.{pages-ahead}
 use Rattle.wk_command_laws.proofs.Fits.{edit-refused}
 use Rattle.wk_commands.specs.Generated.{IsGenerated, end_of_refusal}
@@ -37,7 +36,7 @@ use Rattle.wk_commands.specs.declared.works.Work.TheVariants as asks
 use Rattle.wk_script.specs.declared.script.ScriptEnd.{ScriptEnd}
 use Rattle.wk_script.specs.declared.script.ScriptEnd.TheVariants as end
 use Rattle.wk_script_runs.specs.Outside.{Outside}
-use Rattle.wk_words.specs.Verdicts.{Wanted, refused, runs, shows_help, shows_version}
+use Rattle.wk_words.specs.Verdicts.{Wanted, runs}
 use Rattle.wk_words.specs.declared.commands.Command.{Command}
 use Rattle.wk_words.specs.declared.commands.Command.TheVariants.{Script, Serve, Jobs, Check, Generate}
 use Rattle.wk_cli.specs.Statuses.{status_of_cause, status_of_command, status_of_end, status_of_work}
