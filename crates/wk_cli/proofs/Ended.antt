@@ -1,5 +1,5 @@
 -- What follows from how the program ended.
-use Rattle.std.proofs.Common.{◌≡◌, ◌≢◌, ℕ, Bool, true, false, List, Option, Result, Ok, Err, refl, sym, ap, ◌∙◌, subst, inl, inr, arith}
+use Rattle.std.proofs.Common.{◌≡◌, ◌≢◌, ℕ, Bool, true, false, List, Option, Result, refl, sym, ap, ◌∙◌, subst, inl, inr, arith}
 use Rattle.wk_table_rules.specs.Rows.{StoreTables}
 use Rattle.wk_script_runs.specs.Outside.{Outside}
 use Rattle.wk_cli.specs.Scripted.{IsOver, IsScripted, VaultStore, no_memory, not_loaded, not_opened, over_a_store, ran}
@@ -23,11 +23,11 @@ use Rattle.wk_cli.specs.Finished.{IsCarriedOut, IsShown}
 use Rattle.wk_cli.specs.Finished as carried
 use Rattle.wk_base.specs.Faults.{Rose}
 use Rattle.wk_door.specs.Told.{DoorTold}
-use Rattle.wk_cli.specs.Statuses.{status_of_cause, status_of_command, status_of_work}
+use Rattle.wk_cli.specs.Statuses.{status_of_work}
 use Rattle.wk_cli.specs.Works.{DoorSeen, IsServedAt, IsWorkedAt}
 use Rattle.wk_cli.specs.Works as work
 use Rattle.wk_cli.specs.declared.ends.Finish.{Finish}
-use Rattle.wk_cli.proofs.Statuses.{IsKnown, command-is-done, command-is-door-fault, known-cause, known-end, known-work, no-cause-nil, no-cause-six, no-cause-two, no-end-six, no-end-two, no-work-three, no-work-two}
+use Rattle.wk_cli.proofs.Statuses.{IsKnown, command-is-done, command-is-door-fault, known-cause, known-end, known-work, no-cause-six, no-cause-two, no-end-six, no-end-two, no-work-three, no-work-two}
 
 module _ {K : Type 0} {told : K → Option StoreTables} {faults : K → ℕ} {is_whole : K → Bool} {journal : ℕ} {keeper : K} {before after : Outside} {finish : Finish K} where
   over-known : IsOver told faults is_whole journal keeper before after finish → IsKnown finish.status

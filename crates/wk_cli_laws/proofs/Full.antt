@@ -1,5 +1,5 @@
 -- Why a command finds no room.
-use Rattle.std.proofs.Common.{◌≡◌, ◌≢◌, ◌≤◌, ◌<◌, ℕ, ◌+◌, ◌*◌, ◌⊎◌, Bool, List, ◌++◌, length, take, Option, Some, None, IfSome, Result, refl, sym, ap, ◌∙◌, subst, inl, inr, arith}
+use Rattle.std.proofs.Common.{◌≡◌, ◌≤◌, ◌<◌, ℕ, ◌+◌, ◌*◌, Bool, List, ◌++◌, length, take, Option, Some, None, IfSome, Result, refl, sym, ap, ◌∙◌, subst, inl, inr, arith}
 use Rattle.std.specs.Prelude.{slice_get}
 use Rattle.wk_page_rules.specs.Verdict.{EditAsked, MostHeld, Refusal, max_job, refuse}
 use Rattle.wk_page_rules.specs.Verdict as judged
@@ -21,7 +21,6 @@ use Rattle.wk_core.specs.declared.outcomes.LoadCause.{LoadCause}
 use Rattle.wk_core.specs.declared.outcomes.LoadCause.TheVariants as cause
 use Rattle.wk_tools.specs.Drains.{CanBeFull}
 use Rattle.wk_tools.specs.Saves.{HasSaved, IsRefusedAt, made_of}
-use Rattle.wk_command_laws.specs.Room.{IsForRoom}
 use Rattle.wk_command_laws.proofs.Ahead.{pages-ahead}
 use Rattle.wk_command_laws.proofs.Fits.{edit-refused}
 use Rattle.wk_commands.specs.Generated.{IsGenerated, end_of_refusal}
@@ -37,7 +36,7 @@ use Rattle.wk_commands.specs.declared.works.Work.TheVariants as asks
 use Rattle.wk_script.specs.declared.script.ScriptEnd.{ScriptEnd}
 use Rattle.wk_script.specs.declared.script.ScriptEnd.TheVariants as end
 use Rattle.wk_script_runs.specs.Outside.{Outside}
-use Rattle.wk_words.specs.Verdicts.{Wanted, refused, runs, shows_help, shows_version}
+use Rattle.wk_words.specs.Verdicts.{Wanted, runs}
 use Rattle.wk_words.specs.declared.commands.Command.{Command}
 use Rattle.wk_words.specs.declared.commands.Command.TheVariants.{Script, Serve, Jobs, Check, Generate}
 use Rattle.wk_cli.specs.Statuses.{status_of_cause, status_of_command, status_of_end, status_of_work}
@@ -116,19 +115,19 @@ module _ {K : Type 0} (journal : ℕ) where
       abbrev first : SavesMade
       first = first_saves journal old.state edits saved.moments
 
-      same : made_of old edits saved.moments ≡ first
-      same = made-first edits saved.moments
+      as-first : made_of old edits saved.moments ≡ first
+      as-first = made-first edits saved.moments
 
       none-refused : first.refused ≡ None
-      none-refused = subst (λ (m : SavesMade). m.refused ≡ None) same saved.none_refused
+      none-refused = subst (λ (m : SavesMade). m.refused ≡ None) as-first saved.none_refused
 
       state-is : new.state ≡ first.after
-      state-is = saved.after ∙ ap (λ (m : SavesMade). m.after) same
+      state-is = saved.after ∙ ap (λ (m : SavesMade). m.after) as-first
 
       journal-is : new.journal ≡ first.events
       journal-is =
           saved.made.journal
-          ∙ (ap (λ (j : List Event). j ++ (made_of old edits saved.moments).events) opening.journal ∙ ap (λ (m : SavesMade). m.events) same)
+          ∙ (ap (λ (j : List Event). j ++ (made_of old edits saved.moments).events) opening.journal ∙ ap (λ (m : SavesMade). m.events) as-first)
 
       limits-are : new.start.limits ≡ limits_with_journal journal
       limits-are = ap (λ (s : Start). s.limits) saved.made.start ∙ opening.limits
@@ -160,7 +159,8 @@ module _ {K : Type 0} (journal : ℕ) where
           next = next.1;
           saved = none-refused new (take at.count edits) left at.later at.saved;
           verdict = verdict;
-          room = edit-refused (limits_with_journal journal) _ _ pages number at.count next.0 named.0 few next.1 verdict;
+          room = edit-refused (limits_with_journal journal) (first new (take at.count edits) left at.later at.saved).after (length (first new (take at.count edits) left at.later at.saved).events) pages number at.count next.0 named.0 few next.1
+              verdict;
         }
 
 -- ---- works
@@ -201,16 +201,18 @@ opened-by : {K : Type 0} (told : K → Option StoreTables) (keeper : K) (state :
 opened-by told keeper state None had is = tt
 opened-by told keeper state (Some t) had is = (subst (λ (o : Option StoreTables). IfSome o (λ t. (first_broken t ≡ None) × (state ≡ opened t))) had is).1
 
-module _ {K : Type 0} {told : K → Option StoreTables} {faults : K → ℕ} {is_whole : K → Bool} {journal : ℕ} {kept : VaultStore} {opens later : ℕ} {before after : Outside} {finish : Finish K} where
-  over-not-ten : {keeper : K} → IsOver told faults is_whole journal keeper before after finish → finish.status ≡ 10 → ⊥
+module _ {K : Type 0} {told : K → Option StoreTables} {faults : K → ℕ} {is_whole : K → Bool} {journal : ℕ} {keeper : K} {before after : Outside} {finish : Finish K} where
+  over-not-ten : IsOver told faults is_whole journal keeper before after finish → finish.status ≡ 10 → ⊥
   over-not-ten (script.not_loaded o) ten = no-cause-ten o.why (sym o.status_is ∙ ten)
   over-not-ten (script.ran o) ten = no-end-ten o.how (sym o.status_is ∙ ten)
 
+module _ {K : Type 0} {told : K → Option StoreTables} {faults : K → ℕ} {is_whole : K → Bool} {journal : ℕ} {kept : VaultStore} {opens later : ℕ} {before after : Outside} {finish : Finish K} where
   scripted-not-ten : IsScripted told faults is_whole journal kept opens later before after finish → finish.status ≡ 10 → ⊥
   scripted-not-ten (script.no_memory is none) ten = omega (arith, is, ten)
   scripted-not-ten (script.not_opened is rose none) ten = omega (arith, is, ten)
   scripted-not-ten (script.over_a_store keeper had same over) ten = over-not-ten over ten
 
+module _ {K : Type 0} (told : K → Option StoreTables) (faults : K → ℕ) (is_whole : K → Bool) (journal : ℕ) (kept : VaultStore) (before after : Outside) where
   on-store : (asked : Work) → IsFew asked → (keeper left : K) (end : Result CommandEnd LoadCause) → IsOpened told faults is_whole kept keeper
       → IsWorkedOn told faults is_whole asked journal keeper left before.moments after.moments before.taken after.taken end → status_of_work end ≡ 10
       → (state : State) × IfSome kept.tables (λ tables. state ≡ opened tables) × HasNoRoom asked journal state
@@ -222,11 +224,11 @@ module _ {K : Type 0} {told : K → Option StoreTables} {faults : K → ℕ} {is
         work-full is_whole faults journal o.first o.opened_is asked o.last before.moments after.moments before.taken after.taken how few o.worked full,
       )
 
-  worked-full : (asked : Work) → IsFew asked → IsWorkedAt told faults is_whole asked journal kept opens later before after finish → finish.status ≡ 10
+  worked-full : (opens later : ℕ) (finish : Finish K) (asked : Work) → IsFew asked → IsWorkedAt told faults is_whole asked journal kept opens later before after finish → finish.status ≡ 10
       → (state : State) × IfSome kept.tables (λ tables. state ≡ opened tables) × HasNoRoom asked journal state
-  worked-full asked few (work.no_memory is none) ten = absurd (omega (arith, is, ten))
-  worked-full asked few (work.not_opened is rose none) ten = absurd (omega (arith, is, ten))
-  worked-full asked few (work.over_a_store keeper had same over) ten = on-store asked few keeper over.left over.end had over.worked (sym over.status_is ∙ ten)
+  worked-full opens later finish asked few (work.no_memory is none) ten = absurd (omega (arith, is, ten))
+  worked-full opens later finish asked few (work.not_opened is rose none) ten = absurd (omega (arith, is, ten))
+  worked-full opens later finish asked few (work.over_a_store keeper had same over) ten = on-store asked few keeper over.left over.end had over.worked (sym over.status_is ∙ ten)
 
 module _ {K : Type 0} {text : List ℕ} {before after : Outside} {finish : Finish K} where
   shown-not-ten : IsShown text before after finish → finish.status ≡ 10 → ⊥
@@ -240,25 +242,24 @@ module _ {L : Type 0} (door later : DoorSeen L) {address : List ℕ} {most : ℕ
   serving-not-full (served.unwritten count prefix) is = let e : command.WriteFault ≡ command.Full = is in cc
   serving-not-full (served.no_memory count prefix) is = let e : command.Memory ≡ command.Full = is in cc
 
-module _ {K L : Type 0} {told : K → Option StoreTables} {faults : K → ℕ} {is_whole : K → Bool} {address : List ℕ} {most journal : ℕ} {kept : VaultStore} {opens later : ℕ} (door door_later : DoorSeen L)
-    {before after : Outside} {finish : Finish K} where
+module _ {K L : Type 0} (told : K → Option StoreTables) (faults : K → ℕ) (is_whole : K → Bool) (address : List ℕ) (most journal : ℕ) (door door_later : DoorSeen L) (before after : Outside) where
   served-on-not-ten : (keeper left : K) (end : Result CommandEnd LoadCause)
       → IsServedOn told faults is_whole address most journal keeper left door.told door_later.told door.faults door_later.faults before.taken after.taken end → status_of_work end ≡ 10 → ⊥
   served-on-not-ten keeper left end (worked.not_loaded why is same_door same_faults o) ten = no-cause-ten why (ap status_of_work (sym is) ∙ ten)
   served-on-not-ten keeper left end (worked.served_over how is o) ten = serving-not-full door door_later o.served (command-is-full how (ap status_of_work (sym is) ∙ ten))
 
-  served-not-ten : IsServedAt told faults is_whole address most journal kept opens later door door_later before after finish → finish.status ≡ 10 → ⊥
-  served-not-ten (work.no_memory_to_open is none same) ten = omega (arith, is, ten)
-  served-not-ten (work.unopened is rose none same) ten = omega (arith, is, ten)
-  served-not-ten (work.over_the_store keeper had same over) ten = served-on-not-ten keeper over.left over.end over.served (sym over.status_is ∙ ten)
+  served-not-ten : (kept : VaultStore) (opens later : ℕ) (finish : Finish K) → IsServedAt told faults is_whole address most journal kept opens later door door_later before after finish → finish.status ≡ 10 → ⊥
+  served-not-ten kept opens later finish (work.no_memory_to_open is none same) ten = omega (arith, is, ten)
+  served-not-ten kept opens later finish (work.unopened is rose none same) ten = omega (arith, is, ten)
+  served-not-ten kept opens later finish (work.over_the_store keeper had same over) ten = served-on-not-ten keeper over.left over.end over.served (sym over.status_is ∙ ten)
 
 module _ {K L : Type 0} (told : K → Option StoreTables) (faults : K → ℕ) (is_whole : K → Bool) (opens later : ℕ) (door door_later : DoorSeen L) (before after : Outside) (finish : Finish K) where
   carried-full : (wanted : Wanted) (kept : VaultStore) → wanted.pages ≤ 10000 → IsCarriedOut told faults is_whole wanted kept opens later door door_later before after finish
       → finish.status ≡ 10 → FindsNoRoom wanted kept
   carried-full wanted kept few (finished.scripted is done same) ten = absurd (scripted-not-ten done ten)
-  carried-full wanted kept few (finished.served is done) ten = absurd (served-not-ten door door_later done ten)
+  carried-full wanted kept few (finished.served is done) ten = absurd (served-not-ten told faults is_whole wanted.listen wanted.max_connections wanted.journal_limit door door_later before after kept opens later finish done ten)
   carried-full wanted kept few (finished.worked asked is done same) ten =
-      let none = worked-full asked (few-asked wanted.command wanted.pages wanted.number asked is few) done ten in
+      let none = worked-full told faults is_whole wanted.journal_limit kept before after opens later finish asked (few-asked wanted.command wanted.pages wanted.number asked is few) done ten in
       record { state = none.0; asked = asked; asked_is = is; opened_is = none.1; no_room = none.2 }
 
   pub finished-full : (wanted : Wanted) (vault : VaultTold) → IsFinished told faults is_whole (runs wanted) vault opens later door door_later before after finish

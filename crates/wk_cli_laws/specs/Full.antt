@@ -1,5 +1,5 @@
 -- Why a command finds no room for what it has to do (own).
-use Rattle.std.specs.Prelude.{◌≡◌, ◌⊎◌, ◌+◌, ◌*◌, ◌<◌, ℕ, List, length, slice_get, take, Option, None, Some, IfSome}
+use Rattle.std.specs.Prelude.{◌≡◌, ◌⊎◌, ◌+◌, ◌*◌, ◌<◌, ℕ, List, length, slice_get, take, None, Some, IfSome}
 use Rattle.wk_page_rules.specs.Verdict.{EditAsked, Refusal, max_job, refuse}
 use Rattle.wk_state_rules.specs.States.{State}
 use Rattle.wk_state_rules.specs.Lives.{opened}
