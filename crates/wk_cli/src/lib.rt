@@ -4,7 +4,6 @@
 mod ends;
 mod helps;
 mod scripts;
-mod serves;
 mod top;
 mod works;
 

@@ -3,4 +3,3 @@ pub mod Comparing
 pub mod Drained
 pub mod Generated
 pub mod Opening
-pub mod Served

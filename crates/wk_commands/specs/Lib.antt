@@ -4,5 +4,4 @@ pub mod Lived
 pub mod Checked
 pub mod Drained
 pub mod Generated
-pub mod Served
 pub mod Worked

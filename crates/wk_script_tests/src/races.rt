@@ -40,10 +40,9 @@ fn stops(case: &Case, ran: &Ran, status: u8, replies: u64) -> bool {
     ran.status == status && are_first(case, &ran.written, replies)
 }
 
-fn ran(rt: &HostRuntime, case: &Case, outside: Outside) -> Result<Ran, Memory> {
-    let alloc = rt.alloc();
+fn ran(alloc: Global, case: &Case, outside: Outside) -> Result<Ran, Memory> {
     script(
-        rt,
+        alloc,
         &mut ListVault::new(Vec::new(alloc)),
         case.lines.as_bytes(),
         outside,
@@ -51,10 +50,9 @@ fn ran(rt: &HostRuntime, case: &Case, outside: Outside) -> Result<Ran, Memory> {
 }
 
 /// A run over a new store, of which the call with this number fails: the first one loads it, as does the last.
-fn ran_over(rt: &HostRuntime, case: &Case, failed: u64) -> Result<Ran, Memory> {
-    let alloc = rt.alloc();
+fn ran_over(alloc: Global, case: &Case, failed: u64) -> Result<Ran, Memory> {
     let mut vault = vault(alloc, Tables::new(alloc), &[], &[failed])?;
-    script(rt, &mut vault, case.lines.as_bytes(), SOUND)
+    script(alloc, &mut vault, case.lines.as_bytes(), SOUND)
 }
 
 #[test]
@@ -67,7 +65,7 @@ fn each_read_fails_in_turn(rt: HostRuntime) -> Result<(), Fail> {
             failed_read,
             ..SOUND
         };
-        let ran = ran(&rt, &case, outside)?;
+        let ran = ran(alloc, &case, outside)?;
         assert!(rt; stops(&case, &ran, status, replies), "read {failed_read}");
     }
     Ok(())
@@ -83,7 +81,7 @@ fn each_write_fails_in_turn(rt: HostRuntime) -> Result<(), Fail> {
             failed_write,
             ..SOUND
         };
-        let ran = ran(&rt, &case, outside)?;
+        let ran = ran(alloc, &case, outside)?;
         let status = if replies < REPLIES { 4 } else { 0 };
         assert!(rt; stops(&case, &ran, status, replies), "write {failed_write}");
     }
@@ -96,7 +94,7 @@ fn each_load_fails_in_turn(rt: HostRuntime) -> Result<(), Fail> {
     let case = race(alloc)?;
     // (seven calls between them change the store)
     for (failed, status, replies) in [(1, 5, 0), (9, 5, 22), (10, 0, REPLIES)] {
-        let ran = ran_over(&rt, &case, failed)?;
+        let ran = ran_over(alloc, &case, failed)?;
         assert!(rt; stops(&case, &ran, status, replies), "call {failed}");
     }
     Ok(())
@@ -132,7 +130,7 @@ fn each_change_fails_in_turn(rt: HostRuntime) -> Result<(), Fail> {
     let case = race(alloc)?;
     // (four saves, and three refreshes that are done)
     for (failed, replies) in [(2, 0), (3, 1), (4, 2), (5, 6), (6, 11), (7, 14), (8, 19)] {
-        let ran = ran_over(&rt, &case, failed)?;
+        let ran = ran_over(alloc, &case, failed)?;
         assert!(rt; goes_on(&case, &ran, replies), "call {failed}");
     }
     Ok(())
