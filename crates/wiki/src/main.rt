@@ -4,10 +4,15 @@
 use std::alloc::Global;
 use std::process::ExitCode;
 use std::rt::Env;
+use std::sync::Wait;
+use std::thread::Threads;
 use std::{env, io};
 use wk_base::{Clock, Failed, ReadSource, Sink, Source, SystemClock, WriteSink};
 use wk_cli::{Finish, refusal_text, wiki_main};
 use wk_core::BadStore;
+use wk_door::Door;
+use wk_gate::NoGate;
+use wk_net::TcpDoor;
 use wk_vault::{FileVault, Stored};
 
 /// The words of the command line, the program's name first.
@@ -27,6 +32,7 @@ fn meaning(status: u8) -> &'static str {
         3 => "a read of the standard input failed",
         4 => "a write of the standard output failed",
         5 => "the store couldn't be opened, or failed",
+        6 => "the address couldn't be listened at, or a connection couldn't be accepted",
         7 => "the store is bad: a row breaks a rule",
         8 => "the link rows of a page aren't those of a new expansion",
         9 => "2^40 bytes were read",
@@ -77,20 +83,25 @@ struct Ended {
 }
 
 /// Makes the top call, and ends the store.
-fn ran<I: Source, O: Sink, C: Clock>(
+fn ran<I: Source, O: Sink, C: Clock + Send, D: Door + Send, R: Threads + Wait + Sync>(
+    rt: &R,
     alloc: Global,
     words: &[String],
     vault: &mut FileVault<'_>,
     input: &mut I,
     output: &mut O,
     clock: &mut C,
-) -> Ended {
+    door: &mut D,
+) -> Ended
+where
+    D::Link: Send,
+{
     let Finish {
         status,
         points: _,
         bad,
         store,
-    } = wiki_main(alloc, words, vault, input, output, clock);
+    } = wiki_main(rt, alloc, words, vault, input, output, clock, door, NoGate);
     let closed = close(store);
     Ended {
         status,
@@ -115,17 +126,20 @@ fn main(rt: HostRuntime) -> io::Result<ExitCode> {
     let mut input = ReadSource::new(rt.reader());
     let mut output = WriteSink::new(io::writer(&rt));
     let mut clock = SystemClock::new(&rt);
+    let mut door = TcpDoor::new(&rt);
     let Ended {
         status,
         bad,
         closed,
     } = ran(
+        &rt,
         rt.alloc(),
         &words,
         &mut vault,
         &mut input,
         &mut output,
         &mut clock,
+        &mut door,
     );
     tell_cause(&rt, &vault)?;
     tell(&rt, &words, status, bad)?;

@@ -1,16 +1,33 @@
 -- What follows from how the program ended.
-use Rattle.std.proofs.Common.{◌≡◌, ℕ, Bool, true, false, List, Option, refl, sym, ap, ◌∙◌, subst, inl, inr, arith}
+use Rattle.std.proofs.Common.{◌≡◌, ◌≢◌, ℕ, Bool, true, false, List, Option, Result, refl, sym, ap, ◌∙◌, subst, inl, inr, arith}
 use Rattle.wk_table_rules.specs.Rows.{StoreTables}
 use Rattle.wk_script_runs.specs.Outside.{Outside}
 use Rattle.wk_cli.specs.Scripted.{IsOver, IsScripted, VaultStore, no_memory, not_loaded, not_opened, over_a_store, ran}
+use Rattle.wk_page_rules.specs.Verdict.{EditAsked}
+use Rattle.wk_core.specs.Seen.{WikiSeen}
+use Rattle.wk_core.specs.declared.outcomes.LoadCause.{LoadCause}
+use Rattle.wk_revs.specs.declared.verdict.SaveRefusal.{SaveRefusal}
+use Rattle.wk_revs.specs.declared.verdict.SaveRefusal.TheVariants as refusal
+use Rattle.wk_commands.specs.Generated.{IsGenerated, end_of_refusal}
+use Rattle.wk_commands.specs.Generated as made
+use Rattle.wk_commands.specs.Served.{HasServedAt}
+use Rattle.wk_commands.specs.Served as serving
+use Rattle.wk_commands.specs.Worked.{IsServedOn, IsWorked, IsWorkedOn}
+use Rattle.wk_commands.specs.Worked as worked
+use Rattle.wk_commands.specs.declared.ends.CommandEnd.{CommandEnd}
+use Rattle.wk_commands.specs.declared.ends.CommandEnd.TheVariants.{Done, DoorFault, Memory, WriteFault}
 use Rattle.wk_commands.specs.declared.works.Work.{Work}
+use Rattle.wk_commands.specs.declared.works.Work.TheVariants.{Check, Jobs, Generate}
 use Rattle.wk_words.specs.Verdicts.{Verdict, Wanted, is_refused}
 use Rattle.wk_cli.specs.Finished.{IsCarriedOut, IsShown}
 use Rattle.wk_cli.specs.Finished as carried
-use Rattle.wk_cli.specs.Works.{IsWorkedAt}
+use Rattle.wk_base.specs.Faults.{Rose}
+use Rattle.wk_door.specs.Told.{DoorTold}
+use Rattle.wk_cli.specs.Statuses.{status_of_work}
+use Rattle.wk_cli.specs.Works.{DoorSeen, IsServedAt, IsWorkedAt}
 use Rattle.wk_cli.specs.Works as work
 use Rattle.wk_cli.specs.declared.ends.Finish.{Finish}
-use Rattle.wk_cli.proofs.Statuses.{IsKnown, known-cause, known-end, known-work, no-cause-two, no-end-two, no-work-three, no-work-two}
+use Rattle.wk_cli.proofs.Statuses.{IsKnown, command-is-done, command-is-door-fault, known-cause, known-end, known-work, no-cause-six, no-cause-two, no-end-six, no-end-two, no-work-three, no-work-two}
 
 module _ {K : Type 0} {told : K → Option StoreTables} {faults : K → ℕ} {is_whole : K → Bool} {journal : ℕ} {keeper : K} {before after : Outside} {finish : Finish K} where
   over-known : IsOver told faults is_whole journal keeper before after finish → IsKnown finish.status
@@ -20,6 +37,10 @@ module _ {K : Type 0} {told : K → Option StoreTables} {faults : K → ℕ} {is
   over-not-two : IsOver told faults is_whole journal keeper before after finish → finish.status ≡ 2 → ⊥
   over-not-two (not_loaded o) is = no-cause-two o.why (sym o.status_is ∙ is)
   over-not-two (ran o) is = no-end-two o.how (sym o.status_is ∙ is)
+
+  over-not-six : IsOver told faults is_whole journal keeper before after finish → finish.status ≡ 6 → ⊥
+  over-not-six (not_loaded o) is = no-cause-six o.why (sym o.status_is ∙ is)
+  over-not-six (ran o) is = no-end-six o.how (sym o.status_is ∙ is)
 
 module _ {K : Type 0} {told : K → Option StoreTables} {faults : K → ℕ} {is_whole : K → Bool} {journal : ℕ} {kept : VaultStore} {opens later : ℕ} {before after : Outside} {finish : Finish K} where
   pub script-known : IsScripted told faults is_whole journal kept opens later before after finish → IsKnown finish.status
@@ -32,11 +53,44 @@ module _ {K : Type 0} {told : K → Option StoreTables} {faults : K → ℕ} {is
   script-not-two (not_opened is rose none) two = omega (arith, is, two)
   script-not-two (over_a_store keeper had same over) two = over-not-two over two
 
+  -- no door is asked
+  pub script-not-six : IsScripted told faults is_whole journal kept opens later before after finish → finish.status ≡ 6 → ⊥
+  script-not-six (no_memory is none) six = omega (arith, is, six)
+  script-not-six (not_opened is rose none) six = omega (arith, is, six)
+  script-not-six (over_a_store keeper had same over) six = over-not-six over six
+
   -- at status 0 no call of the vault failed
   pub script-opens : IsScripted told faults is_whole journal kept opens later before after finish → finish.status ≡ 0 → later ≡ opens
   script-opens (no_memory is none) done = absurd (omega (arith, is, done))
   script-opens (not_opened is rose none) done = absurd (omega (arith, is, done))
   script-opens (over_a_store keeper had same over) done = same
+
+refusal-no-door : (why : SaveRefusal) → DoorFault ≡ end_of_refusal why → ⊥
+refusal-no-door refusal.InvalidTitle e = cc
+refusal-no-door refusal.ContentTooBig e = cc
+refusal-no-door refusal.ArticleExists e = cc
+refusal-no-door refusal.MissingTitle e = cc
+refusal-no-door (refusal.EditConflict current) e = cc
+refusal-no-door (refusal.WikiFull limit) e = cc
+refusal-no-door refusal.JournalFull e = cc
+refusal-no-door refusal.Memory e = cc
+refusal-no-door refusal.StoreFault e = cc
+
+module _ {K : Type 0} (is_whole : K → Bool) (faults : K → ℕ) (old new : WikiSeen K) (left later before after : Option (List ℕ)) (end : CommandEnd) where
+  generated-no-door : (edits : List EditAsked) → IsGenerated is_whole faults edits old new left later before after end → end ≢ DoorFault
+  generated-no-door edits (made.settled middle saved is) = is.no_door
+  generated-no-door edits (made.refused why at is keeps fault) = λ door. refusal-no-door why (sym door ∙ is)
+
+  -- no command but `serve` asks a door
+  no-door-asked : (asked : Work) → IsWorked is_whole faults asked old new left later before after end → end ≢ DoorFault
+  no-door-asked Check is = is.1.no_door
+  no-door-asked Jobs is = is.no_door
+  no-door-asked (Generate pages number) is = generated-no-door _ is
+
+module _ {K : Type 0} (told : K → Option StoreTables) (faults : K → ℕ) (is_whole : K → Bool) (asked : Work) (journal : ℕ) (keeper left : K) (moments later before after : Option (List ℕ)) (end : Result CommandEnd LoadCause) where
+  no-work-six : IsWorkedOn told faults is_whole asked journal keeper left moments later before after end → status_of_work end ≡ 6 → ⊥
+  no-work-six (worked.not_opened why is none) six = no-cause-six why (ap status_of_work (sym is) ∙ six)
+  no-work-six (worked.done how is over) six = no-door-asked is_whole faults over.first over.last moments later before after how asked over.worked (command-is-door-fault how (ap status_of_work (sym is) ∙ six))
 
 module _ {K : Type 0} {told : K → Option StoreTables} {faults : K → ℕ} {is_whole : K → Bool} {asked : Work} {journal : ℕ} {kept : VaultStore} {opens later : ℕ} {before after : Outside} {finish : Finish K} where
   pub work-known : IsWorkedAt told faults is_whole asked journal kept opens later before after finish → IsKnown finish.status
@@ -55,23 +109,78 @@ module _ {K : Type 0} {told : K → Option StoreTables} {faults : K → ℕ} {is
   work-not-three (work.not_opened is rose none) three = omega (arith, is, three)
   work-not-three (work.over_a_store keeper had same over) three = no-work-three over.end (sym over.status_is ∙ three)
 
+  -- no door is asked
+  pub work-not-six : IsWorkedAt told faults is_whole asked journal kept opens later before after finish → finish.status ≡ 6 → ⊥
+  work-not-six (work.no_memory is none) six = omega (arith, is, six)
+  work-not-six (work.not_opened is rose none) six = omega (arith, is, six)
+  work-not-six (work.over_a_store keeper had same over) six =
+      no-work-six told faults is_whole asked journal keeper over.left before.moments after.moments before.taken after.taken over.end over.worked (sym over.status_is ∙ six)
+
   pub work-opens : IsWorkedAt told faults is_whole asked journal kept opens later before after finish → finish.status ≡ 0 → later ≡ opens
   work-opens (work.no_memory is none) done = absurd (omega (arith, is, done))
   work-opens (work.not_opened is rose none) done = absurd (omega (arith, is, done))
   work-opens (work.over_a_store keeper had same over) done = same
 
-module _ {K : Type 0} {told : K → Option StoreTables} {faults : K → ℕ} {is_whole : K → Bool} {wanted : Wanted} {kept : VaultStore} {opens later : ℕ} {before after : Outside} {finish : Finish K} where
-  pub carried-known : IsCarriedOut told faults is_whole wanted kept opens later before after finish → IsKnown finish.status
-  carried-known (carried.scripted is done) = script-known done
-  carried-known (carried.worked asked is done) = work-known done
+module _ {L : Type 0} {address : List ℕ} {most : ℕ} {door later : Option (DoorTold L)} {door_faults door_faults_later : ℕ} {before after : Option (List ℕ)} where
+  at-door-fault : {end : CommandEnd} → HasServedAt address most door later door_faults door_faults_later before after end → end ≡ DoorFault → Rose door_faults door_faults_later
+  at-door-fault (serving.broken count rose prefix) is = rose
+  at-door-fault (serving.served count given all same written) is = absurd (let e : Done ≡ DoorFault = is in cc)
+  at-door-fault (serving.unwritten count prefix) is = absurd (let e : WriteFault ≡ DoorFault = is in cc)
+  at-door-fault (serving.no_memory count prefix) is = absurd (let e : Memory ≡ DoorFault = is in cc)
 
-  pub carried-not-two : IsCarriedOut told faults is_whole wanted kept opens later before after finish → finish.status ≡ 2 → ⊥
-  carried-not-two (carried.scripted is done) two = script-not-two done two
-  carried-not-two (carried.worked asked is done) two = work-not-two done two
+  at-done : {end : CommandEnd} → HasServedAt address most door later door_faults door_faults_later before after end → end ≡ Done → door_faults_later ≡ door_faults
+  at-done (serving.served count given all same written) is = same
+  at-done (serving.broken count rose prefix) is = absurd (let e : DoorFault ≡ Done = is in cc)
+  at-done (serving.unwritten count prefix) is = absurd (let e : WriteFault ≡ Done = is in cc)
+  at-done (serving.no_memory count prefix) is = absurd (let e : Memory ≡ Done = is in cc)
 
-  pub carried-opens : IsCarriedOut told faults is_whole wanted kept opens later before after finish → finish.status ≡ 0 → later ≡ opens
-  carried-opens (carried.scripted is done) nil = script-opens done nil
-  carried-opens (carried.worked asked is done) nil = work-opens done nil
+module _ {K L : Type 0} {told : K → Option StoreTables} {faults : K → ℕ} {is_whole : K → Bool} {address : List ℕ} {most journal : ℕ} {keeper left : K} {door later : Option (DoorTold L)} {door_faults door_faults_later : ℕ}
+    {before after : Option (List ℕ)} where
+  pub served-rose : {end : Result CommandEnd LoadCause} → IsServedOn told faults is_whole address most journal keeper left door later door_faults door_faults_later before after end → status_of_work end ≡ 6 → Rose door_faults door_faults_later
+  served-rose (worked.not_loaded why is same_door same none) six = absurd (no-cause-six why (ap status_of_work (sym is) ∙ six))
+  served-rose (worked.served_over how is over) six = at-door-fault over.served (command-is-door-fault how (ap status_of_work (sym is) ∙ six))
+
+  pub served-same : {end : Result CommandEnd LoadCause} → IsServedOn told faults is_whole address most journal keeper left door later door_faults door_faults_later before after end → status_of_work end ≡ 0 → door_faults_later ≡ door_faults
+  served-same (worked.not_loaded why is same_door same none) nil = same
+  served-same (worked.served_over how is over) nil = at-done over.served (command-is-done how (ap status_of_work (sym is) ∙ nil))
+
+module _ {K L : Type 0} {told : K → Option StoreTables} {faults : K → ℕ} {is_whole : K → Bool} {address : List ℕ} {most journal : ℕ} {kept : VaultStore} {opens later : ℕ} {door door_later : DoorSeen L} {before after : Outside}
+    {finish : Finish K} where
+  pub serve-known : IsServedAt told faults is_whole address most journal kept opens later door door_later before after finish → IsKnown finish.status
+  serve-known (work.no_memory_to_open is none same) = subst IsKnown (sym is) refl
+  serve-known (work.unopened is rose none same) = subst IsKnown (sym is) refl
+  serve-known (work.over_the_store keeper had same over) = known-work finish.status over.end over.status_is
+
+  pub serve-not-two : IsServedAt told faults is_whole address most journal kept opens later door door_later before after finish → finish.status ≡ 2 → ⊥
+  serve-not-two (work.no_memory_to_open is none same) two = omega (arith, is, two)
+  serve-not-two (work.unopened is rose none same) two = omega (arith, is, two)
+  serve-not-two (work.over_the_store keeper had same over) two = no-work-two over.end (sym over.status_is ∙ two)
+
+  pub serve-not-three : IsServedAt told faults is_whole address most journal kept opens later door door_later before after finish → finish.status ≡ 3 → ⊥
+  serve-not-three (work.no_memory_to_open is none same) three = omega (arith, is, three)
+  serve-not-three (work.unopened is rose none same) three = omega (arith, is, three)
+  serve-not-three (work.over_the_store keeper had same over) three = no-work-three over.end (sym over.status_is ∙ three)
+
+  pub serve-opens : IsServedAt told faults is_whole address most journal kept opens later door door_later before after finish → finish.status ≡ 0 → later ≡ opens
+  serve-opens (work.no_memory_to_open is none same) nil = absurd (omega (arith, is, nil))
+  serve-opens (work.unopened is rose none same) nil = absurd (omega (arith, is, nil))
+  serve-opens (work.over_the_store keeper had same over) nil = same
+
+module _ {K L : Type 0} {told : K → Option StoreTables} {faults : K → ℕ} {is_whole : K → Bool} {wanted : Wanted} {kept : VaultStore} {opens later : ℕ} {door door_later : DoorSeen L} {before after : Outside} {finish : Finish K} where
+  pub carried-known : IsCarriedOut told faults is_whole wanted kept opens later door door_later before after finish → IsKnown finish.status
+  carried-known (carried.scripted is done same) = script-known done
+  carried-known (carried.worked asked is done same) = work-known done
+  carried-known (carried.served is done) = serve-known done
+
+  pub carried-not-two : IsCarriedOut told faults is_whole wanted kept opens later door door_later before after finish → finish.status ≡ 2 → ⊥
+  carried-not-two (carried.scripted is done same) two = script-not-two done two
+  carried-not-two (carried.worked asked is done same) two = work-not-two done two
+  carried-not-two (carried.served is done) two = serve-not-two done two
+
+  pub carried-opens : IsCarriedOut told faults is_whole wanted kept opens later door door_later before after finish → finish.status ≡ 0 → later ≡ opens
+  carried-opens (carried.scripted is done same) nil = script-opens done nil
+  carried-opens (carried.worked asked is done same) nil = work-opens done nil
+  carried-opens (carried.served is done) nil = serve-opens done nil
 
 module _ {K : Type 0} {text : List ℕ} {before after : Outside} {finish : Finish K} where
   pub shown-known : IsShown text before after finish → IsKnown finish.status
@@ -79,6 +188,9 @@ module _ {K : Type 0} {text : List ℕ} {before after : Outside} {finish : Finis
 
   pub shown-not-two : IsShown text before after finish → finish.status ≡ 2 → ⊥
   shown-not-two shown two = elim shown.written [ inl whole ↦ omega (arith, whole.0, two) | inr cut ↦ omega (arith, cut.0, two) ]
+
+  pub shown-not-six : IsShown text before after finish → finish.status ≡ 6 → ⊥
+  shown-not-six shown six = elim shown.written [ inl whole ↦ omega (arith, whole.0, six) | inr cut ↦ omega (arith, cut.0, six) ]
 
   pub shown-not-three : IsShown text before after finish → finish.status ≡ 3 → ⊥
   shown-not-three shown three = elim shown.written [ inl whole ↦ omega (arith, whole.0, three) | inr cut ↦ omega (arith, cut.0, three) ]

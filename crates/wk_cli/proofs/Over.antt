@@ -1,5 +1,5 @@
 -- A script over the store that was opened.
-use Rattle.std.proofs.Common.{◌≡◌, ◌≤◌, ℕ, Bool, true, List, [], Option, Some, None, Result, IfSome, is_some, refl, sym, ◌∙◌, subst, arith}
+use Rattle.std.proofs.Common.{◌≡◌, ◌≤◌, ℕ, Bool, true, List, [], Option, Some, None, Result, IfSome, is_some, refl, sym, ◌∙◌, subst}
 use Rattle.wk_base.specs.Faults.{Rose}
 use Rattle.wk_page_rules.specs.Verdict.{MostHeld}
 use Rattle.wk_table_rules.specs.GoodStore.{first_broken}

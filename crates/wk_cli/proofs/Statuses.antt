@@ -94,6 +94,7 @@ known-command command.WriteFault = refl
 known-command command.StoreFault = refl
 known-command command.Differs = refl
 known-command command.Full = refl
+known-command command.DoorFault = refl
 
 pub known-work : (status : ℕ) (end : Result CommandEnd LoadCause) → status ≡ status_of_work end → IsKnown status
 known-work status (Ok how) is = subst IsKnown (sym is) (known-command how)
@@ -106,6 +107,7 @@ no-command-two command.WriteFault is = omega (arith, is)
 no-command-two command.StoreFault is = omega (arith, is)
 no-command-two command.Differs is = omega (arith, is)
 no-command-two command.Full is = omega (arith, is)
+no-command-two command.DoorFault is = omega (arith, is)
 
 pub no-work-two : (end : Result CommandEnd LoadCause) → status_of_work end ≡ 2 → ⊥
 no-work-two (Ok how) is = no-command-two how is
@@ -118,6 +120,7 @@ no-command-three command.WriteFault is = omega (arith, is)
 no-command-three command.StoreFault is = omega (arith, is)
 no-command-three command.Differs is = omega (arith, is)
 no-command-three command.Full is = omega (arith, is)
+no-command-three command.DoorFault is = omega (arith, is)
 
 pub no-work-three : (end : Result CommandEnd LoadCause) → status_of_work end ≡ 3 → ⊥
 no-work-three (Ok how) is = no-command-three how is
@@ -130,6 +133,7 @@ command-is-write-fault command.WriteFault is = refl
 command-is-write-fault command.StoreFault is = absurd (omega (arith, is))
 command-is-write-fault command.Differs is = absurd (omega (arith, is))
 command-is-write-fault command.Full is = absurd (omega (arith, is))
+command-is-write-fault command.DoorFault is = absurd (omega (arith, is))
 
 pub work-is-write-fault : (end : Result CommandEnd LoadCause) → status_of_work end ≡ 4 → end ≡ Ok command.WriteFault
 work-is-write-fault (Ok how) is = ap (λ (h : CommandEnd). Ok h) (command-is-write-fault how is)
@@ -137,3 +141,42 @@ work-is-write-fault (Err why) is = absurd (no-cause-four why is)
 
 pub work-without-write-fault : (end : Result CommandEnd LoadCause) → status_of_work end ≡ 0 → end ≡ Ok command.WriteFault → ⊥
 work-without-write-fault end done is = let four : status_of_work end ≡ 4 = ap status_of_work is in omega (arith, done, four)
+
+-- ---- a door that fails
+
+pub no-end-six : (how : ScriptEnd) → status_of_end how ≡ 6 → ⊥
+no-end-six end.Done is = omega (arith, is)
+no-end-six end.Memory is = omega (arith, is)
+no-end-six end.ReadFault is = omega (arith, is)
+no-end-six end.WriteFault is = omega (arith, is)
+no-end-six end.StoreFault is = omega (arith, is)
+no-end-six (end.BadStore bad) is = omega (arith, is)
+no-end-six end.Bound is = omega (arith, is)
+
+pub no-cause-six : (why : LoadCause) → status_of_cause why ≡ 6 → ⊥
+no-cause-six cause.Memory is = omega (arith, is)
+no-cause-six cause.StoreFault is = omega (arith, is)
+no-cause-six (cause.BadStore bad) is = omega (arith, is)
+
+pub no-cause-nil : (why : LoadCause) → status_of_cause why ≡ 0 → ⊥
+no-cause-nil cause.Memory is = omega (arith, is)
+no-cause-nil cause.StoreFault is = omega (arith, is)
+no-cause-nil (cause.BadStore bad) is = omega (arith, is)
+
+pub command-is-door-fault : (how : CommandEnd) → status_of_command how ≡ 6 → how ≡ command.DoorFault
+command-is-door-fault command.Done is = absurd (omega (arith, is))
+command-is-door-fault command.Memory is = absurd (omega (arith, is))
+command-is-door-fault command.WriteFault is = absurd (omega (arith, is))
+command-is-door-fault command.StoreFault is = absurd (omega (arith, is))
+command-is-door-fault command.Differs is = absurd (omega (arith, is))
+command-is-door-fault command.Full is = absurd (omega (arith, is))
+command-is-door-fault command.DoorFault is = refl
+
+pub command-is-done : (how : CommandEnd) → status_of_command how ≡ 0 → how ≡ command.Done
+command-is-done command.Done is = refl
+command-is-done command.Memory is = absurd (omega (arith, is))
+command-is-done command.WriteFault is = absurd (omega (arith, is))
+command-is-done command.StoreFault is = absurd (omega (arith, is))
+command-is-done command.Differs is = absurd (omega (arith, is))
+command-is-done command.Full is = absurd (omega (arith, is))
+command-is-done command.DoorFault is = absurd (omega (arith, is))

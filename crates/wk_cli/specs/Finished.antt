@@ -6,11 +6,13 @@ use Rattle.wk_table_rules.specs.Rows.{StoreTables}
 use Rattle.wk_script_runs.specs.Outside.{Outside}
 use Rattle.wk_commands.specs.declared.works.Work.{Work}
 use Rattle.wk_commands.specs.declared.works.Work.TheVariants as work
+use Rattle.wk_words.specs.Answers.{IsWithin}
+use Rattle.wk_words.specs.Options as option
 use Rattle.wk_words.specs.Verdicts.{Verdict, Wanted, refused, runs, shows_help, shows_version}
 use Rattle.wk_words.specs.declared.commands.Command.{Command}
-use Rattle.wk_words.specs.declared.commands.Command.TheVariants.{Script, Jobs, Check, Generate}
+use Rattle.wk_words.specs.declared.commands.Command.TheVariants.{Script, Serve, Jobs, Check, Generate}
 use Rattle.wk_cli.specs.Scripted.{HasNoStore, IsScripted, VaultStore}
-use Rattle.wk_cli.specs.Works.{IsWorkedAt}
+use Rattle.wk_cli.specs.Works.{DoorSeen, IsServedAt, IsWorkedAt}
 use Rattle.wk_cli.specs.declared.ends.Finish.{Finish}
 
 -- what a vault tells of the stores that it has, by their names
@@ -31,31 +33,35 @@ pub record IsShown {K : Type 0} (text : List ℕ) (before after : Outside) (fini
   pub not_bad : finish.bad ≡ None
   pub no_store : finish.store ≡ None
 
--- the work that a command is, where it is none on the lines of the input
+-- the work that a command is, where it is neither on the lines of the input nor on connections
 abbrev pub work_of : Command → ℕ → ℕ → Option Work
 work_of Script pages number = None
+work_of Serve pages number = None
 work_of Jobs pages number = Some work.Jobs
 work_of Check pages number = Some work.Check
 work_of Generate pages number = Some (work.Generate pages number)
 
--- the command was carried out over the store of the name that is wanted, with a journal of at most so many events
-pub data IsCarriedOut {K : Type 0} (told : K → Option StoreTables) (faults : K → ℕ) (is_whole : K → Bool) (wanted : Wanted) (kept : VaultStore)
-    (opens later : ℕ) (before after : Outside) (finish : Finish K) : Type 0 where
-  scripted : wanted.command ≡ Script → IsScripted told faults is_whole wanted.journal_limit kept opens later before after finish →
-      IsCarriedOut told faults is_whole wanted kept opens later before after finish
+-- the command was carried out over the store of the name that is wanted, with a journal of at most so many events; the door is touched by `serve` alone
+pub data IsCarriedOut {K L : Type 0} (told : K → Option StoreTables) (faults : K → ℕ) (is_whole : K → Bool) (wanted : Wanted) (kept : VaultStore)
+    (opens later : ℕ) (door door_later : DoorSeen L) (before after : Outside) (finish : Finish K) : Type 0 where
+  scripted : wanted.command ≡ Script → IsScripted told faults is_whole wanted.journal_limit kept opens later before after finish → door_later ≡ door →
+      IsCarriedOut told faults is_whole wanted kept opens later door door_later before after finish
   worked : (asked : Work) → work_of wanted.command wanted.pages wanted.number ≡ Some asked →
-      IsWorkedAt told faults is_whole asked wanted.journal_limit kept opens later before after finish →
-      IsCarriedOut told faults is_whole wanted kept opens later before after finish
+      IsWorkedAt told faults is_whole asked wanted.journal_limit kept opens later before after finish → door_later ≡ door →
+      IsCarriedOut told faults is_whole wanted kept opens later door door_later before after finish
+  served : wanted.command ≡ Serve →
+      IsServedAt told faults is_whole wanted.listen wanted.max_connections wanted.journal_limit kept opens later door door_later before after finish →
+      IsCarriedOut told faults is_whole wanted kept opens later door door_later before after finish
 
 -- Memory ran out for the words; or they were refused, and nothing was touched; or they asked for help or the version, which
 -- was written; or for a command, which was carried out.
-pub data IsFinished {K : Type 0} (told : K → Option StoreTables) (faults : K → ℕ) (is_whole : K → Bool) (verdict : Verdict) (vault : VaultTold)
-    (opens later : ℕ) (before after : Outside) (finish : Finish K) : Type 0 where
-  no_memory : finish.status ≡ 1 → later ≡ opens → HasNoStore before after finish →
-      IsFinished told faults is_whole verdict vault opens later before after finish
-  not_taken : verdict ≡ refused → finish.status ≡ 2 → later ≡ opens → HasNoStore before after finish →
-      IsFinished told faults is_whole verdict vault opens later before after finish
-  shown : (text : List ℕ) → (verdict ≡ shows_help) ⊎ (verdict ≡ shows_version) → later ≡ opens → IsShown text before after finish →
-      IsFinished told faults is_whole verdict vault opens later before after finish
-  carried_out : (wanted : Wanted) → verdict ≡ runs wanted → IsCarriedOut told faults is_whole wanted (store_named vault wanted.store) opens later before after finish →
-      IsFinished told faults is_whole verdict vault opens later before after finish
+pub data IsFinished {K L : Type 0} (told : K → Option StoreTables) (faults : K → ℕ) (is_whole : K → Bool) (verdict : Verdict) (vault : VaultTold)
+    (opens later : ℕ) (door door_later : DoorSeen L) (before after : Outside) (finish : Finish K) : Type 0 where
+  no_memory : finish.status ≡ 1 → later ≡ opens → door_later ≡ door → HasNoStore before after finish →
+      IsFinished told faults is_whole verdict vault opens later door door_later before after finish
+  not_taken : verdict ≡ refused → finish.status ≡ 2 → later ≡ opens → door_later ≡ door → HasNoStore before after finish →
+      IsFinished told faults is_whole verdict vault opens later door door_later before after finish
+  shown : (text : List ℕ) → (verdict ≡ shows_help) ⊎ (verdict ≡ shows_version) → later ≡ opens → door_later ≡ door → IsShown text before after finish →
+      IsFinished told faults is_whole verdict vault opens later door door_later before after finish
+  carried_out : (wanted : Wanted) → verdict ≡ runs wanted → IsWithin option.pages wanted.pages → IsCarriedOut told faults is_whole wanted (store_named vault wanted.store) opens later door door_later before after finish →
+      IsFinished told faults is_whole verdict vault opens later door door_later before after finish

@@ -11,7 +11,7 @@ use Rattle.wk_script.specs.declared.script.ScriptEnd.TheVariants as end
 
 -- those that come
 abbrev pub statuses : List ℕ
-statuses = 0 ∷ 1 ∷ 2 ∷ 3 ∷ 4 ∷ 5 ∷ 7 ∷ 8 ∷ 9 ∷ 10 ∷ []
+statuses = 0 ∷ 1 ∷ 2 ∷ 3 ∷ 4 ∷ 5 ∷ 6 ∷ 7 ∷ 8 ∷ 9 ∷ 10 ∷ []
 
 -- where a store isn't opened
 abbrev pub status_of_cause : LoadCause → ℕ
@@ -35,6 +35,7 @@ status_of_command command.Done = 0
 status_of_command command.Memory = 1
 status_of_command command.WriteFault = 4
 status_of_command command.StoreFault = 5
+status_of_command command.DoorFault = 6
 status_of_command command.Differs = 8
 status_of_command command.Full = 10
 

@@ -4,6 +4,7 @@
 mod ends;
 mod helps;
 mod scripts;
+mod serves;
 mod top;
 mod works;
 

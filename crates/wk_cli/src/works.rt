@@ -7,9 +7,12 @@ ghost use Rattle.wk_cli.specs.Works.{IsWorkedAt};
 
 use crate::ends::{Finish, bad_of_cause, status_of_cause, unopened};
 use std::alloc::Global;
+use std::sync::Wait;
+use std::thread::Threads;
 use wk_base::{Clock, Sink};
-use wk_commands::{CommandEnd, Work, Worked, work_over};
+use wk_commands::{CommandEnd, Hands, Work, Worked, work_over};
 use wk_core::{BadStore, LoadCause};
+use wk_gate::Gate;
 use wk_keeper::{OpenRefusal, Vault};
 
 /// The status with which a command over a wiki ends.
@@ -21,6 +24,7 @@ fn status_of_command(end: CommandEnd) -> u8
         CommandEnd::Memory => 1,
         CommandEnd::WriteFault => 4,
         CommandEnd::StoreFault => 5,
+        CommandEnd::DoorFault => 6,
         CommandEnd::Differs => 8,
         CommandEnd::Full => 10,
     }
@@ -47,7 +51,7 @@ fn bad_of_work(end: Result<CommandEnd, LoadCause>) -> Option<BadStore>
 }
 
 /// The end of a command over a store.
-fn ended<K>(alloc: Global, worked: Worked<K>) -> Finish<K>
+pub(crate) fn ended<K>(alloc: Global, worked: Worked<K>) -> Finish<K>
     ensures status { result.status ≡ status_of_work worked.end }
     ensures points { result.points.items ≡ [] }
     ensures bad { result.bad ≡ bad_of_work worked.end }
@@ -63,16 +67,20 @@ fn ended<K>(alloc: Global, worked: Worked<K>) -> Finish<K>
 }
 
 /// Opens the store of a name and does what is asked of its wiki, whose journal takes at most so many events
-/// ([`work_over`]).
-pub(crate) fn work<V: Vault, O: Sink, C: Clock>(
+/// ([`work_over`]). It waits.
+pub(crate) fn work<V: Vault, G: Gate + Copy + Send, O: Sink, C: Clock, R: Threads + Wait + Sync>(
+    rt: &R,
     alloc: Global,
     vault: &mut V,
     name: &str,
     journal: u64,
     work: Work,
+    hands: Hands<G>,
     output: &mut O,
     clock: &mut C,
 ) -> Finish<V::Store>
+where
+    V::Store: Send,
     requires journal { journal ≤ max_journal }
     ensures worked { (rest : Option (List ℕ)) → IsWorkedAt V.Store.told V.Store.faults V.Store.is_whole work journal
         (record { tables = V.told vault.old name.now; whole = V.opens_whole vault.old name.now }) (V.faults vault.old) (V.faults vault.new)
@@ -84,7 +92,10 @@ pub(crate) fn work<V: Vault, O: Sink, C: Clock>(
     ensures opens_never_fall { V.faults vault.old ≤ V.faults vault.new }
 {
     match vault.open(name) {
-        Ok(store) => ended(alloc, work_over(alloc, store, journal, work, output, clock)),
+        Ok(store) => ended(
+            alloc,
+            work_over(rt, alloc, store, journal, work, hands, output, clock),
+        ),
         Err(OpenRefusal::Failed) => unopened(alloc, 5),
         Err(OpenRefusal::Memory) => unopened(alloc, 1),
     }

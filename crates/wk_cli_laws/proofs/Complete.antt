@@ -1,5 +1,5 @@
 -- Which ends need a fault.
-use Rattle.std.proofs.Common.{◌≡◌, ◌≢◌, ◌≤◌, ℕ, ◌+◌, ◌⊎◌, Bool, true, List, [], ◌∷◌, Option, Some, None, Result, IfSome, is_some, refl, sym, ap, ◌∙◌, subst, inl, inr, arith}
+use Rattle.std.proofs.Common.{◌≡◌, ◌≢◌, ◌≤◌, ◌<◌, ℕ, ◌+◌, ◌-◌, ◌^◌, ◌⊎◌, Bool, true, List, [], ◌∷◌, Option, Some, None, Result, IfSome, is_some, refl, sym, ap, ◌∙◌, subst, inl, inr, arith}
 use Rattle.wk_base.specs.Faults.{Rose}
 use Rattle.wk_table_rules.specs.GoodStore.{first_broken}
 use Rattle.wk_table_rules.specs.Rows.{StoreTables}
@@ -13,10 +13,12 @@ use Rattle.wk_core.specs.Seen.{WikiSeen}
 use Rattle.wk_core.specs.declared.outcomes.LoadCause.{LoadCause}
 use Rattle.wk_core.specs.declared.outcomes.LoadCause.TheVariants as cause
 use Rattle.wk_commands.specs.Checked.{IsCompared}
-use Rattle.wk_commands.specs.Drained.{IsDrained}
+use Rattle.wk_commands.specs.Drained.{IsDrained, StoreFailed}
 use Rattle.wk_commands.specs.Generated.{IsGenerated, end_of_refusal}
 use Rattle.wk_commands.specs.Generated as made
-use Rattle.wk_commands.specs.Worked.{IsWorked, IsWorkedOn}
+use Rattle.wk_commands.specs.Served.{HasServedAt}
+use Rattle.wk_commands.specs.Served as served
+use Rattle.wk_commands.specs.Worked.{IsServedOn, IsWorked, IsWorkedOn}
 use Rattle.wk_commands.specs.Worked as worked
 use Rattle.wk_commands.specs.declared.ends.CommandEnd.{CommandEnd}
 use Rattle.wk_commands.specs.declared.ends.CommandEnd.TheVariants as command
@@ -30,11 +32,11 @@ use Rattle.wk_script.specs.declared.script.ScriptEnd.{ScriptEnd}
 use Rattle.wk_script.specs.declared.script.ScriptEnd.TheVariants as end
 use Rattle.wk_words.specs.Verdicts.{Wanted, refused, runs, shows_help, shows_version}
 use Rattle.wk_words.specs.declared.commands.Command.{Command}
-use Rattle.wk_words.specs.declared.commands.Command.TheVariants.{Script, Jobs, Check, Generate}
+use Rattle.wk_words.specs.declared.commands.Command.TheVariants.{Script, Serve, Jobs, Check, Generate}
 use Rattle.wk_cli.specs.Statuses.{status_of_cause, status_of_command, status_of_end, status_of_work}
 use Rattle.wk_cli.specs.Scripted.{IsOpened, IsOver, IsScripted, VaultStore}
 use Rattle.wk_cli.specs.Scripted as script
-use Rattle.wk_cli.specs.Works.{IsWorkedAt, IsWorkedOver}
+use Rattle.wk_cli.specs.Works.{DoorSeen, IsServedAt, IsServedBy, IsWorkedAt}
 use Rattle.wk_cli.specs.Works as work
 use Rattle.wk_cli.specs.Finished.{IsCarriedOut, IsFinished, VaultTold, store_named, work_of}
 use Rattle.wk_cli.specs.Finished as finished
@@ -60,6 +62,7 @@ no-faults (reply ∷ replies) = passed_over (no-faults replies)
 -- each command may end for want of memory
 memory-ends : (asked : Command) → EndsWithoutFault asked 1
 memory-ends Script = refl
+memory-ends Serve = refl
 memory-ends Jobs = refl
 memory-ends Check = refl
 memory-ends Generate = refl
@@ -75,6 +78,7 @@ command_of (asks.Generate pages number) = Generate
 
 named : (c : Command) (pages number : ℕ) (asked : Work) → work_of c pages number ≡ Some asked → command_of asked ≡ c
 named Script pages number asked is = absurd (let e : None ≡ Some asked = is in cc)
+named Serve pages number asked is = absurd (let e : None ≡ Some asked = is in cc)
 named Jobs pages number asked is = let same : asks.Jobs ≡ asked = (let e : Some asks.Jobs ≡ Some asked = is in cc) in ap command_of (sym same)
 named Check pages number asked is = let same : asks.Check ≡ asked = (let e : Some asks.Check ≡ Some asked = is in cc) in ap command_of (sym same)
 named Generate pages number asked is =
@@ -139,16 +143,31 @@ compared-ends state text before after command.Differs status done written is = a
 compared-ends state text before after command.WriteFault status done written is = absurd (written is)
 compared-ends state text before after command.StoreFault status done written is = absurd (done.no_fault refl)
 compared-ends state text before after command.Full status done written is = absurd (done.not_full refl)
+compared-ends state text before after command.DoorFault status done written is = absurd (done.no_door refl)
 
-module _ {K : Type 0} {told : K → Option StoreTables} {faults : K → ℕ} where
+-- No whole store's count stands at its end.
+abbrev NoneAtEnd : {K : Type 0} → (K → Bool) → (K → ℕ) → Type 0
+NoneAtEnd {K = K} is_whole faults = (keeper : K) → is_whole keeper ≡ true → faults keeper < 2 ^ 64 - 1
+
+module _ {K : Type 0} {is_whole : K → Bool} {faults : K → ℕ} (none_at_end : NoneAtEnd is_whole faults) where
+  -- so a wiki over a whole store doesn't fail, unless the count of its store isn't 0
+  store-holds : (old new : WikiSeen K) → StoreFailed is_whole faults old new → old.start.whole ≡ true → faults new.keeper ≡ 0 → ⊥
+  store-holds old new (inl may) whole held =
+      let one = may whole in
+      let below = none_at_end one.0 one.1 in
+      let at_end = one.2 in
+      omega (arith, below, at_end)
+  store-holds old new (inr some) whole held = omega (arith, some, held)
+
   drained-ends : (old new : WikiSeen K) (before after : Option (List ℕ)) (how : CommandEnd) (status : ℕ)
-      → IsDrained told faults old new before after how → faults new.keeper ≡ 0 → status ≢ 4 → status ≡ status_of_command how → EndsWithoutFault Jobs status
-  drained-ends old new before after command.Done status done held written is = at-status Jobs status 0 is refl
-  drained-ends old new before after command.Memory status done held written is = at-status Jobs status 1 is refl
-  drained-ends old new before after command.Full status done held written is = at-status Jobs status 10 is refl
-  drained-ends old new before after command.WriteFault status done held written is = absurd (written is)
-  drained-ends old new before after command.StoreFault status done held written is = absurd (not-risen (faults old.keeper) (faults new.keeper) held (done.fault refl))
-  drained-ends old new before after command.Differs status done held written is = absurd (done.compares_nothing refl)
+      → IsDrained is_whole faults old new before after how → old.start.whole ≡ true → faults new.keeper ≡ 0 → status ≢ 4 → status ≡ status_of_command how → EndsWithoutFault Jobs status
+  drained-ends old new before after command.Done status done whole held written is = at-status Jobs status 0 is refl
+  drained-ends old new before after command.Memory status done whole held written is = at-status Jobs status 1 is refl
+  drained-ends old new before after command.Full status done whole held written is = at-status Jobs status 10 is refl
+  drained-ends old new before after command.WriteFault status done whole held written is = absurd (written is)
+  drained-ends old new before after command.StoreFault status done whole held written is = absurd (store-holds old new (done.fault refl) whole held)
+  drained-ends old new before after command.Differs status done whole held written is = absurd (done.compares_nothing refl)
+  drained-ends old new before after command.DoorFault status done whole held written is = absurd (done.no_door refl)
 
 -- a refusal of a save that ends as a fault of the store is one
 refused-by-fault : (why : SaveRefusal) → command.StoreFault ≡ end_of_refusal why → why ≡ refusal.StoreFault
@@ -162,38 +181,68 @@ refused-by-fault (refusal.EditConflict current) is = absurd (let e : command.Sto
 refused-by-fault (refusal.WikiFull limit) is = absurd (let e : command.StoreFault ≡ command.Full = is in cc)
 refused-by-fault refusal.JournalFull is = absurd (let e : command.StoreFault ≡ command.Full = is in cc)
 
-module _ {K : Type 0} {faults : K → ℕ} {edits : List EditAsked} {left later before after : Option (List ℕ)} where
-  generated-fault : (old new : WikiSeen K) → IsGenerated faults edits old new left later before after command.StoreFault → faults new.keeper ≡ 0 → ⊥
-  generated-fault old new (made.settled middle saved done) held = not-risen (faults middle.keeper) (faults new.keeper) held (done.fault refl)
-  generated-fault old new (made.refused why at is kept fault) held = not-risen (faults old.keeper) (faults new.keeper) held (fault (refused-by-fault why is))
+-- no refusal of a save ends as a fault of a door
+refused-by-door : (why : SaveRefusal) → command.DoorFault ≡ end_of_refusal why → ⊥
+refused-by-door refusal.StoreFault is = let e : command.DoorFault ≡ command.StoreFault = is in cc
+refused-by-door refusal.Memory is = let e : command.DoorFault ≡ command.Memory = is in cc
+refused-by-door refusal.InvalidTitle is = let e : command.DoorFault ≡ command.Full = is in cc
+refused-by-door refusal.ContentTooBig is = let e : command.DoorFault ≡ command.Full = is in cc
+refused-by-door refusal.ArticleExists is = let e : command.DoorFault ≡ command.Full = is in cc
+refused-by-door refusal.MissingTitle is = let e : command.DoorFault ≡ command.Full = is in cc
+refused-by-door (refusal.EditConflict current) is = let e : command.DoorFault ≡ command.Full = is in cc
+refused-by-door (refusal.WikiFull limit) is = let e : command.DoorFault ≡ command.Full = is in cc
+refused-by-door refusal.JournalFull is = let e : command.DoorFault ≡ command.Full = is in cc
+
+module _ {K : Type 0} {is_whole : K → Bool} {faults : K → ℕ} (none_at_end : NoneAtEnd is_whole faults) {edits : List EditAsked} {left later before after : Option (List ℕ)} where
+  generated-fault : (old new : WikiSeen K) → IsGenerated is_whole faults edits old new left later before after command.StoreFault → old.start.whole ≡ true → faults new.keeper ≡ 0 → ⊥
+  generated-fault old new (made.settled middle saved done) whole held = store-holds none_at_end middle new (done.fault refl) (ap (λ s. s.whole) saved.made.start ∙ whole) held
+  generated-fault old new (made.refused why at is kept fault) whole held = not-risen (faults old.keeper) (faults new.keeper) held (fault (refused-by-fault why is))
+
+  generated-door : (old new : WikiSeen K) → IsGenerated is_whole faults edits old new left later before after command.DoorFault → ⊥
+  generated-door old new (made.settled middle saved done) = done.no_door refl
+  generated-door old new (made.refused why at is kept fault) = refused-by-door why is
 
   generated-ends : (old new : WikiSeen K) (how : CommandEnd) (status : ℕ)
-      → IsGenerated faults edits old new left later before after how → faults new.keeper ≡ 0 → status ≢ 4 → status ≡ status_of_command how → EndsWithoutFault Generate status
-  generated-ends old new command.Done status done held written is = at-status Generate status 0 is refl
-  generated-ends old new command.Memory status done held written is = at-status Generate status 1 is refl
-  generated-ends old new command.Differs status done held written is = at-status Generate status 8 is refl
-  generated-ends old new command.Full status done held written is = at-status Generate status 10 is refl
-  generated-ends old new command.WriteFault status done held written is = absurd (written is)
-  generated-ends old new command.StoreFault status done held written is = absurd (generated-fault old new done held)
+      → IsGenerated is_whole faults edits old new left later before after how → old.start.whole ≡ true → faults new.keeper ≡ 0 → status ≢ 4 → status ≡ status_of_command how → EndsWithoutFault Generate status
+  generated-ends old new command.Done status done whole held written is = at-status Generate status 0 is refl
+  generated-ends old new command.Memory status done whole held written is = at-status Generate status 1 is refl
+  generated-ends old new command.Differs status done whole held written is = at-status Generate status 8 is refl
+  generated-ends old new command.Full status done whole held written is = at-status Generate status 10 is refl
+  generated-ends old new command.WriteFault status done whole held written is = absurd (written is)
+  generated-ends old new command.StoreFault status done whole held written is = absurd (generated-fault old new done whole held)
+  generated-ends old new command.DoorFault status done whole held written is = absurd (generated-door old new done)
 
-module _ {K : Type 0} (told : K → Option StoreTables) (faults : K → ℕ) (left later before after : Option (List ℕ)) where
+module _ {K : Type 0} (is_whole : K → Bool) (faults : K → ℕ) (none_at_end : NoneAtEnd is_whole faults) (left later before after : Option (List ℕ)) where
   done-ends : (asked : Work) (old new : WikiSeen K) (how : CommandEnd) (status : ℕ)
-      → IsWorked told faults asked old new left later before after how → faults new.keeper ≡ 0 → status ≢ 4 → status ≡ status_of_command how
+      → IsWorked is_whole faults asked old new left later before after how → old.start.whole ≡ true → faults new.keeper ≡ 0 → status ≢ 4 → status ≡ status_of_command how
       → EndsWithoutFault (command_of asked) status
-  done-ends asks.Check old new how status done held written is = compared-ends old.state _ before after how status done.1 written is
-  done-ends asks.Jobs old new how status done held written is = drained-ends old new before after how status done held written is
-  done-ends (asks.Generate pages number) old new how status done held written is = generated-ends old new how status done held written is
+  done-ends asks.Check old new how status done whole held written is = compared-ends old.state _ before after how status done.1 written is
+  done-ends asks.Jobs old new how status done whole held written is = drained-ends none_at_end old new before after how status done whole held written is
+  done-ends (asks.Generate pages number) old new how status done whole held written is = generated-ends none_at_end old new how status done whole held written is
+
+-- ---- serving
+
+module _ {L : Type 0} (door later : DoorSeen L) {address : List ℕ} {most : ℕ} {before after : Option (List ℕ)} where
+  served-ends : {how : CommandEnd} (status : ℕ) → HasServedAt address most door.told later.told door.faults later.faults before after how → (Rose door.faults later.faults → ⊥) → status ≢ 4 → status ≡ status_of_command how
+      → EndsWithoutFault Serve status
+  served-ends status (served.served count given all same text) not_risen written is = at-status Serve status 0 is refl
+  served-ends status (served.broken count rose prefix) not_risen written is = absurd (not_risen rose)
+  served-ends status (served.unwritten count prefix) not_risen written is = absurd (written is)
+  served-ends status (served.no_memory count prefix) not_risen written is = at-status Serve status 1 is refl
 
 -- ---- the commands
 
-module _ {K : Type 0} (told : K → Option StoreTables) (faults : K → ℕ) (is_whole : K → Bool) (journal : ℕ) (kept : VaultStore) (opens later : ℕ)
+module _ {K L : Type 0} (told : K → Option StoreTables) (faults : K → ℕ) (is_whole : K → Bool) (journal : ℕ) (kept : VaultStore) (opens later : ℕ) (door door_later : DoorSeen L)
     (before after : Outside) (finish : Finish K) where
+  abbrev Fine : Type 0
+  Fine = HasNoFault faults is_whole kept opens later door door_later finish
+
   -- the tables that the store of the vault tells
-  told-of : (keeper : K) → IsOpened told faults is_whole kept keeper → (fine : HasNoFault faults kept opens later finish) → told keeper ≡ Some fine.tables
+  told-of : (keeper : K) → IsOpened told faults is_whole kept keeper → (fine : Fine) → told keeper ≡ Some fine.tables
   told-of keeper had fine = subst (λ (o : Option StoreTables). IfSome o (λ t. told keeper ≡ Some t)) fine.told_is had.tables
 
   over-ends : (keeper : K) → IsOpened told faults is_whole kept keeper → IsOver told faults is_whole journal keeper before after finish
-      → HasNoFault faults kept opens later finish → EndsWithoutFault Script finish.status
+      → Fine → EndsWithoutFault Script finish.status
   over-ends keeper had (script.not_loaded o) fine =
       let held = held-of faults finish.store o.left o.store_is fine.no_store_fault in
       at-status Script finish.status 1 (o.status_is ∙ load-ends told faults keeper o.left fine.tables o.why (told-of keeper had fine) fine.good o.broken o.fault held) refl
@@ -202,7 +251,7 @@ module _ {K : Type 0} (told : K → Option StoreTables) (faults : K → ℕ) (is
       run-ends told faults before after o.wiki o.how finish.points.items o.handed finish.status o.run held (o.not_bad (ap is_some (told-of keeper had fine)))
       fine.no_read_fault fine.no_write_fault o.status_is
 
-  scripted-ends : IsScripted told faults is_whole journal kept opens later before after finish → HasNoFault faults kept opens later finish → EndsWithoutFault Script finish.status
+  scripted-ends : IsScripted told faults is_whole journal kept opens later before after finish → Fine → EndsWithoutFault Script finish.status
   scripted-ends (script.no_memory is none) fine = at-status Script finish.status 1 is refl
   scripted-ends (script.not_opened is rose none) fine = absurd (fine.no_open_fault rose)
   scripted-ends (script.over_a_store keeper had same over) fine = over-ends keeper had over fine
@@ -223,7 +272,7 @@ module _ {K : Type 0} (told : K → Option StoreTables) (faults : K → ℕ) (is
     worked-ends : (keeper left : K) (end : Result CommandEnd LoadCause) → IsOpened told faults is_whole kept keeper
         → IsWorkedOn told faults is_whole asked journal keeper left before.moments after.moments before.taken after.taken end
         → finish.status ≡ status_of_work end → finish.store ≡ Some left
-        → HasNoFault faults kept opens later finish → EndsWithoutFault (command_of asked) finish.status
+        → Fine → EndsWithoutFault (command_of asked) finish.status
     worked-ends keeper left end had (worked.not_opened why is o) status_is store_is fine =
         let held = held-of faults finish.store left store_is fine.no_store_fault in
         let status : finish.status ≡ status_of_cause why = status_is ∙ ap status_of_work is in
@@ -232,35 +281,78 @@ module _ {K : Type 0} (told : K → Option StoreTables) (faults : K → ℕ) (is
     worked-ends keeper left end had (worked.done how is o) status_is store_is fine =
         let held = held-of faults finish.store left store_is fine.no_store_fault in
         let status : finish.status ≡ status_of_command how = status_is ∙ ap status_of_work is in
-        done-ends told faults before.moments after.moments before.taken after.taken asked o.first o.last how finish.status o.worked (sym (ap faults o.keeper_is) ∙ held) fine.no_write_fault status
+        done-ends is_whole faults fine.none_at_end before.moments after.moments before.taken after.taken asked o.first o.last how finish.status o.worked (o.whole ∙ had.whole fine.whole) (sym (ap faults o.keeper_is) ∙ held)
+        fine.no_write_fault status
 
-    work-ends : IsWorkedAt told faults is_whole asked journal kept opens later before after finish → HasNoFault faults kept opens later finish
-        → EndsWithoutFault (command_of asked) finish.status
+    work-ends : IsWorkedAt told faults is_whole asked journal kept opens later before after finish → Fine → EndsWithoutFault (command_of asked) finish.status
     work-ends (work.no_memory is none) fine = at-status (command_of asked) finish.status 1 is (memory-ends (command_of asked))
     work-ends (work.not_opened is rose none) fine = absurd (fine.no_open_fault rose)
     work-ends (work.over_a_store keeper had same over) fine = worked-ends keeper over.left over.end had over.worked over.status_is over.store_is fine
 
-    work-whole : IsWorkedAt told faults is_whole asked journal kept opens later before after finish → kept.whole ≡ true → IfSome finish.store (λ left. faults left ≡ 0)
-    work-whole (work.no_memory is none) whole = held-none faults finish.store none.no_store
-    work-whole (work.not_opened is rose none) whole = held-none faults finish.store none.no_store
-    work-whole (work.over_a_store keeper had same over) whole = held-by faults finish.store over.left over.store_is (over.whole (had.whole whole) ∙ had.no_fault)
+  -- a comparison changes nothing of the store
+  compared-whole : (keeper left : K) (end : Result CommandEnd LoadCause) → IsOpened told faults is_whole kept keeper
+      → IsWorkedOn told faults is_whole asks.Check journal keeper left before.moments after.moments before.taken after.taken end → kept.whole ≡ true → faults left ≡ 0
+  compared-whole keeper left end had (worked.not_opened why is o) whole = o.whole (had.whole whole) ∙ had.no_fault
+  compared-whole keeper left end had (worked.done how is o) whole =
+      ap faults o.keeper_is ∙ (ap (λ (w : WikiSeen K). faults w.keeper) o.worked.0 ∙ (o.faults_at_first ∙ had.no_fault))
 
-module _ {K : Type 0} (told : K → Option StoreTables) (faults : K → ℕ) (is_whole : K → Bool) (opens later : ℕ) (before after : Outside) (finish : Finish K) where
-  carried-ends : (wanted : Wanted) (kept : VaultStore) → IsCarriedOut told faults is_whole wanted kept opens later before after finish
-      → HasNoFault faults kept opens later finish → EndsWithoutFault wanted.command finish.status
-  carried-ends wanted kept (finished.scripted is done) fine =
+  check-whole : IsWorkedAt told faults is_whole asks.Check journal kept opens later before after finish → kept.whole ≡ true → IfSome finish.store (λ left. faults left ≡ 0)
+  check-whole (work.no_memory is none) whole = held-none faults finish.store none.no_store
+  check-whole (work.not_opened is rose none) whole = held-none faults finish.store none.no_store
+  check-whole (work.over_a_store keeper had same over) whole = held-by faults finish.store over.left over.store_is (compared-whole keeper over.left over.end had over.worked whole)
+
+  module _ (address : List ℕ) (most : ℕ) where
+    serving-ends : (keeper left : K) (end : Result CommandEnd LoadCause) → IsOpened told faults is_whole kept keeper
+        → IsServedOn told faults is_whole address most journal keeper left door.told door_later.told door.faults door_later.faults before.taken after.taken end
+        → finish.status ≡ status_of_work end → finish.store ≡ Some left → Fine → EndsWithoutFault Serve finish.status
+    serving-ends keeper left end had (worked.not_loaded why is same_door same_faults o) status_is store_is fine =
+        let held = held-of faults finish.store left store_is fine.no_store_fault in
+        let status : finish.status ≡ status_of_cause why = status_is ∙ ap status_of_work is in
+        at-status Serve finish.status 1
+        (status ∙ load-ends told faults keeper left fine.tables why (told-of keeper had fine) fine.good o.broken o.fault held) (memory-ends Serve)
+    serving-ends keeper left end had (worked.served_over how is o) status_is store_is fine =
+        served-ends door door_later finish.status o.served fine.no_door_fault fine.no_write_fault (status_is ∙ ap status_of_work is)
+
+    serve-ends : IsServedAt told faults is_whole address most journal kept opens later door door_later before after finish → Fine → EndsWithoutFault Serve finish.status
+    serve-ends (work.no_memory_to_open is none same) fine = at-status Serve finish.status 1 is (memory-ends Serve)
+    serve-ends (work.unopened is rose none same) fine = absurd (fine.no_open_fault rose)
+    serve-ends (work.over_the_store keeper had same over) fine = serving-ends keeper over.left over.end had over.served over.status_is over.store_is fine
+
+-- the work that `check` asks for
+asks-to-check : (c : Command) (pages number : ℕ) (asked : Work) → work_of c pages number ≡ Some asked → (c ≡ Script) ⊎ (c ≡ Check) → asked ≡ asks.Check
+asks-to-check Script pages number asked is one = absurd (let e : None ≡ Some asked = is in cc)
+asks-to-check Serve pages number asked is one = absurd (let e : None ≡ Some asked = is in cc)
+asks-to-check Check pages number asked is one = let e : Some asks.Check ≡ Some asked = is in let same : asks.Check ≡ asked = cc in sym same
+asks-to-check Jobs pages number asked is (inl one) = absurd (let e : Jobs ≡ Script = one in cc)
+asks-to-check Jobs pages number asked is (inr one) = absurd (let e : Jobs ≡ Check = one in cc)
+asks-to-check Generate pages number asked is (inl one) = absurd (let e : Generate ≡ Script = one in cc)
+asks-to-check Generate pages number asked is (inr one) = absurd (let e : Generate ≡ Check = one in cc)
+
+no-serving : (c : Command) → c ≡ Serve → (c ≡ Script) ⊎ (c ≡ Check) → ⊥
+no-serving c is (inl one) = let e : Serve ≡ Script = sym is ∙ one in cc
+no-serving c is (inr one) = let e : Serve ≡ Check = sym is ∙ one in cc
+
+module _ {K L : Type 0} (told : K → Option StoreTables) (faults : K → ℕ) (is_whole : K → Bool) (opens later : ℕ) (door door_later : DoorSeen L) (before after : Outside) (finish : Finish K) where
+  carried-ends : (wanted : Wanted) (kept : VaultStore) → IsCarriedOut told faults is_whole wanted kept opens later door door_later before after finish
+      → HasNoFault faults is_whole kept opens later door door_later finish → EndsWithoutFault wanted.command finish.status
+  carried-ends wanted kept (finished.scripted is done same) fine =
       subst (λ (c : Command). EndsWithoutFault c finish.status) (sym is)
-      (scripted-ends told faults is_whole wanted.journal_limit kept opens later before after finish done fine)
-  carried-ends wanted kept (finished.worked asked is done) fine =
+      (scripted-ends told faults is_whole wanted.journal_limit kept opens later door door_later before after finish done fine)
+  carried-ends wanted kept (finished.worked asked is done same) fine =
       subst (λ (c : Command). EndsWithoutFault c finish.status) (named wanted.command wanted.pages wanted.number asked is)
-      (work-ends told faults is_whole wanted.journal_limit kept opens later before after finish asked done fine)
+      (work-ends told faults is_whole wanted.journal_limit kept opens later door door_later before after finish asked done fine)
+  carried-ends wanted kept (finished.served is done) fine =
+      subst (λ (c : Command). EndsWithoutFault c finish.status) (sym is)
+      (serve-ends told faults is_whole wanted.journal_limit kept opens later door door_later before after finish wanted.listen wanted.max_connections done fine)
 
-  carried-whole : (wanted : Wanted) (kept : VaultStore) → IsCarriedOut told faults is_whole wanted kept opens later before after finish
-      → kept.whole ≡ true → IfSome finish.store (λ left. faults left ≡ 0)
-  carried-whole wanted kept (finished.scripted is done) whole =
-      scripted-whole told faults is_whole wanted.journal_limit kept opens later before after finish done whole
-  carried-whole wanted kept (finished.worked asked is done) whole =
-      work-whole told faults is_whole wanted.journal_limit kept opens later before after finish asked done whole
+  carried-whole : (wanted : Wanted) (kept : VaultStore) → IsCarriedOut told faults is_whole wanted kept opens later door door_later before after finish
+      → (wanted.command ≡ Script) ⊎ (wanted.command ≡ Check) → kept.whole ≡ true → IfSome finish.store (λ left. faults left ≡ 0)
+  carried-whole wanted kept (finished.scripted is done same) one whole =
+      scripted-whole told faults is_whole wanted.journal_limit kept opens later door door_later before after finish done whole
+  carried-whole wanted kept (finished.worked asked is done same) one whole =
+      check-whole told faults is_whole wanted.journal_limit kept opens later door door_later before after finish
+      (subst (λ (w : Work). IsWorkedAt told faults is_whole w wanted.journal_limit kept opens later before after finish) (asks-to-check wanted.command wanted.pages wanted.number asked is one) done) whole
+  carried-whole wanted kept (finished.served is done) one whole = absurd (no-serving wanted.command is one)
 
   same-wanted : (wanted other : Wanted) → runs wanted ≡ runs other → other ≡ wanted
   same-wanted wanted other is = let same : wanted ≡ other = cc in sym same
@@ -272,20 +364,20 @@ module _ {K : Type 0} (told : K → Option StoreTables) (faults : K → ℕ) (is
   not-shown wanted (inl is) = cc
   not-shown wanted (inr is) = cc
 
-  pub finished-ends : (wanted : Wanted) (vault : VaultTold) → IsFinished told faults is_whole (runs wanted) vault opens later before after finish
-      → HasNoFault faults (store_named vault wanted.store) opens later finish → EndsWithoutFault wanted.command finish.status
-  finished-ends wanted vault (finished.no_memory is same none) fine = at-status wanted.command finish.status 1 is (memory-ends wanted.command)
-  finished-ends wanted vault (finished.not_taken not is same none) fine = absurd (not-refused wanted not)
-  finished-ends wanted vault (finished.shown text asks same shown) fine = absurd (not-shown wanted asks)
-  finished-ends wanted vault (finished.carried_out other is done) fine =
+  pub finished-ends : (wanted : Wanted) (vault : VaultTold) → IsFinished told faults is_whole (runs wanted) vault opens later door door_later before after finish
+      → HasNoFault faults is_whole (store_named vault wanted.store) opens later door door_later finish → EndsWithoutFault wanted.command finish.status
+  finished-ends wanted vault (finished.no_memory is same same_door none) fine = at-status wanted.command finish.status 1 is (memory-ends wanted.command)
+  finished-ends wanted vault (finished.not_taken not is same same_door none) fine = absurd (not-refused wanted not)
+  finished-ends wanted vault (finished.shown text asks same same_door shown) fine = absurd (not-shown wanted asks)
+  finished-ends wanted vault (finished.carried_out other is within done) fine =
       carried-ends wanted (store_named vault wanted.store)
-      (subst (λ (w : Wanted). IsCarriedOut told faults is_whole w (store_named vault w.store) opens later before after finish) (same-wanted wanted other is) done) fine
+      (subst (λ (w : Wanted). IsCarriedOut told faults is_whole w (store_named vault w.store) opens later door door_later before after finish) (same-wanted wanted other is) done) fine
 
-  pub finished-whole : (wanted : Wanted) (vault : VaultTold) → IsFinished told faults is_whole (runs wanted) vault opens later before after finish
-      → vault.whole wanted.store ≡ true → IfSome finish.store (λ left. faults left ≡ 0)
-  finished-whole wanted vault (finished.no_memory is same none) whole = held-none faults finish.store none.no_store
-  finished-whole wanted vault (finished.not_taken not is same none) whole = absurd (not-refused wanted not)
-  finished-whole wanted vault (finished.shown text asks same shown) whole = absurd (not-shown wanted asks)
-  finished-whole wanted vault (finished.carried_out other is done) whole =
+  pub finished-whole : (wanted : Wanted) (vault : VaultTold) → IsFinished told faults is_whole (runs wanted) vault opens later door door_later before after finish
+      → (wanted.command ≡ Script) ⊎ (wanted.command ≡ Check) → vault.whole wanted.store ≡ true → IfSome finish.store (λ left. faults left ≡ 0)
+  finished-whole wanted vault (finished.no_memory is same same_door none) one whole = held-none faults finish.store none.no_store
+  finished-whole wanted vault (finished.not_taken not is same same_door none) one whole = absurd (not-refused wanted not)
+  finished-whole wanted vault (finished.shown text asks same same_door shown) one whole = absurd (not-shown wanted asks)
+  finished-whole wanted vault (finished.carried_out other is within done) one whole =
       carried-whole wanted (store_named vault wanted.store)
-      (subst (λ (w : Wanted). IsCarriedOut told faults is_whole w (store_named vault w.store) opens later before after finish) (same-wanted wanted other is) done) whole
+      (subst (λ (w : Wanted). IsCarriedOut told faults is_whole w (store_named vault w.store) opens later door door_later before after finish) (same-wanted wanted other is) done) one whole

@@ -7,8 +7,8 @@ use wk_memory::Memory;
 use wk_tables::{BadStore, PageRow, TableRows, Tables};
 
 /// A run over an empty store.
-fn ran(alloc: Global, words: &str, fails: Fails) -> Result<Ran, Memory> {
-    run(alloc, words, "", Tables::new(alloc), fails)
+fn ran(rt: &HostRuntime, words: &str, fails: Fails) -> Result<Ran, Memory> {
+    run(rt, words, "", Tables::new(rt.alloc()), fails)
 }
 
 /// Each command with a call that fails: of the vault, of the store, of the output. A load is the store's first call.
@@ -26,9 +26,8 @@ const FAILS: [(&str, Fails, u8, &str); 9] = [
 
 #[test]
 fn a_call_that_fails_ends_the_program(rt: HostRuntime) -> Result<(), Fail> {
-    let alloc = rt.alloc();
     for (words, fails, status, written) in &FAILS {
-        let ran = ran(alloc, words, *fails)?;
+        let ran = ran(&rt, words, *fails)?;
         assert!(rt; ran.ends(*status, written) && ran.points == 0, "{words}");
     }
     Ok(())
@@ -53,7 +52,7 @@ fn bad_tables(alloc: Global) -> Result<Tables, Memory> {
 fn a_bad_store_is_told(rt: HostRuntime) -> Result<(), Fail> {
     let alloc = rt.alloc();
     for words in ["wiki check", "wiki jobs", "wiki gen --pages 1"] {
-        let ran = run(alloc, words, "", bad_tables(alloc)?, NONE)?;
+        let ran = run(&rt, words, "", bad_tables(alloc)?, NONE)?;
         assert!(rt; ran.ends(7, ""), "{words}");
         assert_eq!(rt; ran.bad, Some(BadStore { rule: 2, row: 2 }), "{words}");
     }

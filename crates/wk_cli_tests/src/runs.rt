@@ -2,6 +2,8 @@
 use std::alloc::Global;
 use wk_base::{ListClock, MemSink, MemSource};
 use wk_cli::{Finish, wiki_main};
+use wk_door::MemDoor;
+use wk_gate::NoGate;
 use wk_keeper::{Keeper, MemVault};
 use wk_memory::Memory;
 use wk_tables::{BadStore, Tables};
@@ -67,24 +69,29 @@ fn vault(alloc: Global, tables: Tables, fails: Fails) -> Result<MemVault, Memory
 
 /// A run on these words and this input, over a store with these tables.
 pub fn run(
-    alloc: Global,
+    rt: &HostRuntime,
     text: &str,
     input: &str,
     tables: Tables,
     fails: Fails,
 ) -> Result<Ran, Memory> {
+    let alloc = rt.alloc();
     let words = words(alloc, text)?;
     let mut vault = vault(alloc, tables, fails)?;
     let mut source = MemSource::new(input.as_bytes().to_vec(alloc)?, Vec::new(alloc));
     let mut sink = MemSink::new(alloc, 65_536, [fails.write].to_vec(alloc)?)?;
     let mut clock = ListClock::new([7, 8].to_vec(alloc)?);
+    let mut door = MemDoor::new(alloc, Vec::new(alloc), 0, Vec::new(alloc))?;
     let finish = wiki_main(
+        rt,
         alloc,
         &words,
         &mut vault,
         &mut source,
         &mut sink,
         &mut clock,
+        &mut door,
+        NoGate,
     );
     let Finish {
         status,
@@ -107,10 +114,14 @@ pub fn run(
 
 /// Runs one after the other over these tables: the tables that they leave, or the number of the first run, from 1 on, that
 /// ended otherwise than is expected.
-pub fn chain(alloc: Global, tables: Tables, runs: &[Run]) -> Result<Result<Tables, usize>, Memory> {
+pub fn chain(
+    rt: &HostRuntime,
+    tables: Tables,
+    runs: &[Run],
+) -> Result<Result<Tables, usize>, Memory> {
     let mut tables = tables;
     for (place, (words, input, status, written)) in runs.iter().enumerate() {
-        let ran = run(alloc, words, input, tables, NONE)?;
+        let ran = run(rt, words, input, tables, NONE)?;
         if !ran.ends(*status, written) {
             return Ok(Err(place + 1));
         }

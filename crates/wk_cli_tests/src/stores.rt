@@ -20,7 +20,7 @@ const GENERATED: [Run; 2] = [
 #[test]
 fn pages_are_generated(rt: HostRuntime) -> Result<(), Fail> {
     let alloc = rt.alloc();
-    let left = chain(alloc, Tables::new(alloc), &GENERATED)?;
+    let left = chain(&rt, Tables::new(alloc), &GENERATED)?;
     assert!(rt; left.is_ok_and(|tables| tables.revisions().len() == 52 && has_no_job(&tables)));
     Ok(())
 }
@@ -53,7 +53,7 @@ const LIMITED: [Run; 5] = [
 #[test]
 fn a_short_journal_begins_anew(rt: HostRuntime) -> Result<(), Fail> {
     let alloc = rt.alloc();
-    let left = chain(alloc, Tables::new(alloc), &LIMITED)?;
+    let left = chain(&rt, Tables::new(alloc), &LIMITED)?;
     assert!(rt; left.is_ok_and(|tables| tables.revisions().len() == 4));
     Ok(())
 }
@@ -88,7 +88,7 @@ api action=edit&title=D&text=d&token=%2B%5C
 #[test]
 fn a_script_meets_a_short_journal(rt: HostRuntime) -> Result<(), Fail> {
     let alloc = rt.alloc();
-    let left = chain(alloc, Tables::new(alloc), &SHORT)?;
+    let left = chain(&rt, Tables::new(alloc), &SHORT)?;
     assert!(rt; left.is_ok_and(|tables| tables.pages().len() == 4 && has_no_job(&tables)));
     Ok(())
 }
@@ -159,7 +159,7 @@ const DIFFERS: [Run; 4] = [
 #[test]
 fn a_page_that_differs_is_told(rt: HostRuntime) -> Result<(), Fail> {
     let alloc = rt.alloc();
-    let left = chain(alloc, tables_with_link(alloc, 2, "x")?, &DIFFERS)?;
+    let left = chain(&rt, tables_with_link(alloc, 2, "x")?, &DIFFERS)?;
     assert!(rt; left.is_ok());
     Ok(())
 }
@@ -180,7 +180,7 @@ const OLD: [Run; 4] = [
 #[test]
 fn a_store_of_version_one_is_brought_up(rt: HostRuntime) -> Result<(), Fail> {
     let alloc = rt.alloc();
-    let left = chain(alloc, tables_with_link(alloc, 1, "#REDIRECT [[B]]")?, &OLD)?;
+    let left = chain(&rt, tables_with_link(alloc, 1, "#REDIRECT [[B]]")?, &OLD)?;
     assert!(rt; left.is_ok());
     Ok(())
 }

@@ -7,7 +7,7 @@ use Rattle.wk_tool_rules.specs.Checks.{differing}
 use Rattle.wk_commands.specs.Checked.{IsCompared}
 use Rattle.wk_commands.specs.Written.{HasWritten, end_of_comparison}
 use Rattle.wk_commands.specs.declared.ends.CommandEnd.{CommandEnd}
-use Rattle.wk_commands.specs.declared.ends.CommandEnd.TheVariants.{Done, Differs, Full, StoreFault, WriteFault, Memory}
+use Rattle.wk_commands.specs.declared.ends.CommandEnd.TheVariants.{Done, Differs, DoorFault, Full, StoreFault, WriteFault, Memory}
 
 -- ---- the end of a text that is written
 
@@ -23,6 +23,7 @@ not-full Differs same is = λ e. cc
 not-full StoreFault same is = λ e. cc
 not-full WriteFault same is = λ e. cc
 not-full Memory same is = λ e. cc
+not-full DoorFault same is = λ e. cc
 
 pub no-fault : (end : CommandEnd) (same : Bool) → IsAt (end_of_comparison same) end → end ≢ StoreFault
 no-fault StoreFault true is = λ _. let e : StoreFault ≡ Done = is (λ w. cc) in cc
@@ -32,6 +33,17 @@ no-fault Differs same is = λ e. cc
 no-fault Full same is = λ e. cc
 no-fault WriteFault same is = λ e. cc
 no-fault Memory same is = λ e. cc
+no-fault DoorFault same is = λ e. cc
+
+pub no-door : (end : CommandEnd) (same : Bool) → IsAt (end_of_comparison same) end → end ≢ DoorFault
+no-door DoorFault true is = λ _. let e : DoorFault ≡ Done = is (λ w. cc) in cc
+no-door DoorFault false is = λ _. let e : DoorFault ≡ Differs = is (λ w. cc) in cc
+no-door Done same is = λ e. cc
+no-door Differs same is = λ e. cc
+no-door Full same is = λ e. cc
+no-door StoreFault same is = λ e. cc
+no-door WriteFault same is = λ e. cc
+no-door Memory same is = λ e. cc
 
 pub same-at : (end : CommandEnd) (same : Bool) → IsAt (end_of_comparison same) end → end ≡ Done → same ≡ true
 same-at end true is done = refl
@@ -65,6 +77,7 @@ compared state text told before after end same is_told is_same written is = reco
   differs = λ differs. some-of (differing state) (sym is_same ∙ differs-at end same is differs);
   not_full = not-full end same is;
   no_fault = no-fault end same is;
+  no_door = no-door end same is;
 }
 
 -- want of memory, before anything is written
@@ -75,4 +88,5 @@ uncompared state text before = record {
   differs = λ (e : Memory ≡ Differs). absurd cc;
   not_full = λ e. cc;
   no_fault = λ e. cc;
+  no_door = λ e. cc;
 }

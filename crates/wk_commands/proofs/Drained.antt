@@ -1,47 +1,63 @@
 -- What a drain does as a command.
-use Rattle.std.proofs.Common.{◌≡◌, ◌≢◌, ℕ, true, List, Option, inl, inr}
-use Rattle.wk_base.specs.Faults.{Rose}
-use Rattle.wk_table_rules.specs.Rows.{StoreTables}
+use Rattle.std.proofs.Common.{◌≡◌, ◌≢◌, ℕ, Bool, List, Option, inl, inr, refl, sym, ◌∙◌, subst}
+use Rattle.std.specs.Io.KnownBytes.{Keeps}
+use Rattle.std.proofs.KnownBytes.{Keeps-refl}
 use Rattle.wk_tool_rules.specs.Checks.{jobs_text}
 use Rattle.wk_life_laws.specs.Runs.{IsRun}
 use Rattle.wk_core.specs.Loads.{HasOpened}
 use Rattle.wk_core.specs.Seen.{WikiSeen}
-use Rattle.wk_core.specs.Steps.{GoesOn}
-use Rattle.wk_tools.specs.Drains.{CanBeFull, HasNoJob}
-use Rattle.wk_tools.specs.Lived.{HasLived}
-use Rattle.wk_commands.specs.Drained.{IsDrained}
+use Rattle.wk_serving.specs.Drains.{IsDrainedBy}
+use Rattle.wk_tools.specs.Drains.{CanBeFull}
+use Rattle.wk_tools.specs.declared.drains.DrainEnd.{DrainEnd}
+use Rattle.wk_tools.specs.declared.drains.DrainEnd.TheVariants as drain
+use Rattle.wk_commands.specs.Drained.{EndsJobs, IsDrained, StoreFailed}
 use Rattle.wk_commands.specs.Written.{HasWritten}
 use Rattle.wk_commands.specs.declared.ends.CommandEnd.{CommandEnd}
-use Rattle.wk_commands.specs.declared.ends.CommandEnd.TheVariants.{Done, Differs, Full, StoreFault, WriteFault}
-use Rattle.wk_commands.proofs.Comparing.{IsAt, differs-at, no-fault, not-full}
+use Rattle.wk_commands.specs.declared.ends.CommandEnd.TheVariants.{Done, Differs, DoorFault, Full, Memory, StoreFault, WriteFault}
 use Rattle.wk_commands.proofs.Lives.{lived-on, sound-on}
 
-module _ {K : Type 0} (told : K → Option StoreTables) (faults : K → ℕ) (old new : WikiSeen K) (opening : HasOpened old old.start.limits) (run : IsRun old.start old.journal old.state)
-    (lived : HasLived old new) (history : new.state.history ≡ old.state.history) (keeper : GoesOn told faults old new) where
-  pub drained-whole : (before after : Option (List ℕ)) (end : CommandEnd) → HasNoJob new.state → HasWritten end jobs_text before after → IsAt Done end → IsDrained told faults old new before after end
-  drained-whole before after end none written is = record {
-    lived = lived-on old opening new lived;
-    history = history;
-    sound = sound-on old opening new.state run (lived-on old opening new lived);
-    keeper = keeper;
-    none_left = λ _. none;
-    written = written;
-    full = λ full. absurd (not-full end true is full);
-    fault = λ fault. absurd (no-fault end true is fault);
-    compares_nothing = λ differs. let e = differs-at end true is differs in cc;
-  }
+-- an end that is no failed write is `Done`, so it is no other
+whole-not : (end other : CommandEnd) → (end ≢ WriteFault → end ≡ Done) → other ≢ WriteFault → Done ≢ other → end ≢ other
+whole-not end other done no_write no_done is = no_done (sym (done (λ write. no_write (sym is ∙ write))) ∙ is)
 
+kept : (before after : Option (List ℕ)) → after ≡ before → Keeps before after
+kept before after is = subst (Keeps before) (sym is) (Keeps-refl before)
+
+module _ {K : Type 0} (is_whole : K → Bool) (faults : K → ℕ) (old new : WikiSeen K) (opening : HasOpened old old.start.limits) (run : IsRun old.start old.journal old.state)
+    (before after : Option (List ℕ)) (end : CommandEnd) where
   -- before the end
-  pub drained-until : (before : Option (List ℕ)) (end : CommandEnd) → end ≢ Done → end ≢ WriteFault → end ≢ Differs → HasWritten end jobs_text before before
-      → (end ≡ Full → CanBeFull old) → (end ≡ StoreFault → Rose (faults old.keeper) (faults new.keeper)) → IsDrained told faults old new before before end
-  drained-until before end not_done not_write not_differs written full fault = record {
-    lived = lived-on old opening new lived;
-    history = history;
-    sound = sound-on old opening new.state run (lived-on old opening new lived);
-    keeper = keeper;
-    none_left = λ ended. elim ended [ inl done ↦ absurd (not_done done) | inr write ↦ absurd (not_write write) ];
-    written = written;
+  until : (at : CommandEnd) (drained : DrainEnd) → IsDrainedBy is_whole faults old new drained → end ≡ at → Done ≢ at → WriteFault ≢ at → Differs ≢ at → DoorFault ≢ at → HasWritten at jobs_text before after
+      → (end ≡ Full → CanBeFull old) → (end ≡ StoreFault → StoreFailed is_whole faults old new) → IsDrained is_whole faults old new before after end
+  until at drained by is not_done not_write not_differs not_door written full fault = record {
+    lived = lived-on old opening new by.lived;
+    history = by.history;
+    sound = sound-on old opening new.state run (lived-on old opening new by.lived);
+    none_left = λ ended. elim ended [ inl done ↦ absurd (not_done (sym done ∙ is)) | inr write ↦ absurd (not_write (sym write ∙ is)) ];
+    written = subst (λ e. HasWritten e jobs_text before after) (sym is) written;
     full = full;
     fault = fault;
-    compares_nothing = not_differs;
+    compares_nothing = λ differs. not_differs (sym differs ∙ is);
+    no_door = λ door. not_door (sym door ∙ is);
   }
+
+  pub drained-by : (drained : DrainEnd) → IsDrainedBy is_whole faults old new drained → EndsJobs drained end before after → IsDrained is_whole faults old new before after end
+  drained-by drain.Done by ends = record {
+    lived = lived-on old opening new by.lived;
+    history = by.history;
+    sound = sound-on old opening new.state run (lived-on old opening new by.lived);
+    none_left = λ _. by.done refl;
+    written = ends.0;
+    full = λ full. absurd (whole-not end Full ends.1 (λ e. cc) (λ e. cc) full);
+    fault = λ fault. absurd (whole-not end StoreFault ends.1 (λ e. cc) (λ e. cc) fault);
+    compares_nothing = whole-not end Differs ends.1 (λ e. cc) (λ e. cc);
+    no_door = whole-not end DoorFault ends.1 (λ e. cc) (λ e. cc);
+  }
+  drained-by drain.JournalFull by ends =
+      until Full drain.JournalFull by ends.0 (λ e. cc) (λ e. cc) (λ e. cc) (λ e. cc) (kept before after ends.1) (λ _. by.full refl)
+      (λ fault. absurd (let e : Full ≡ StoreFault = sym ends.0 ∙ fault in cc))
+  drained-by drain.StoreFault by ends =
+      until StoreFault drain.StoreFault by ends.0 (λ e. cc) (λ e. cc) (λ e. cc) (λ e. cc) (kept before after ends.1) (λ full. absurd (let e : StoreFault ≡ Full = sym ends.0 ∙ full in cc))
+      (λ _. by.fault refl)
+  drained-by drain.Memory by ends =
+      until Memory drain.Memory by ends.0 (λ e. cc) (λ e. cc) (λ e. cc) (λ e. cc) (kept before after ends.1) (λ full. absurd (let e : Memory ≡ Full = sym ends.0 ∙ full in cc))
+      (λ fault. absurd (let e : Memory ≡ StoreFault = sym ends.0 ∙ fault in cc))

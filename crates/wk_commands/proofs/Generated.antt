@@ -1,6 +1,7 @@
 -- What the generator does as a command.
-use Rattle.std.proofs.Common.{◌≡◌, ◌≢◌, ℕ, List, take, Option, sym, ◌∙◌, inl, inr}
-use Rattle.wk_base.specs.Faults.{Rose}
+use Rattle.std.proofs.Common.{◌≡◌, ◌≢◌, ℕ, Bool, List, take, Option, refl, sym, ◌∙◌, inl, inr, subst}
+use Rattle.std.specs.Io.KnownBytes.{Keeps}
+use Rattle.std.proofs.KnownBytes.{Keeps-refl}
 use Rattle.wk_page_rules.specs.Verdict.{EditAsked}
 use Rattle.wk_state_rules.specs.Soundness.{IsSound}
 use Rattle.wk_tool_rules.specs.Checks.{gen_text}
@@ -9,48 +10,65 @@ use Rattle.wk_core.specs.Loads.{HasOpened}
 use Rattle.wk_core.specs.Seen.{WikiSeen}
 use Rattle.wk_revs.specs.declared.verdict.SaveRefusal.{SaveRefusal}
 use Rattle.wk_revs.specs.declared.verdict.SaveRefusal.TheVariants as refusal
-use Rattle.wk_tools.specs.Drains.{CanBeFull, HasNoJob}
+use Rattle.wk_serving.specs.Drains.{IsDrainedBy}
+use Rattle.wk_tools.specs.Drains.{CanBeFull}
+use Rattle.wk_tools.specs.declared.drains.DrainEnd.{DrainEnd}
+use Rattle.wk_tools.specs.declared.drains.DrainEnd.TheVariants as drain
 use Rattle.wk_tools.specs.Lived.{HasLived}
 use Rattle.wk_tools.specs.Saves.{HasSaved, IsRefusedAt, made_of}
-use Rattle.wk_commands.specs.Checked.{IsCompared}
-use Rattle.wk_commands.specs.Generated.{IsSettled, end_of_refusal}
+use Rattle.wk_commands.specs.Drained.{StoreFailed}
+use Rattle.wk_commands.specs.Generated.{EndsDrain, IsSettled, end_of_refusal}
 use Rattle.wk_commands.specs.Lived.{HasLivedOn}
 use Rattle.wk_commands.specs.Written.{HasWritten}
 use Rattle.wk_commands.specs.declared.ends.CommandEnd.{CommandEnd}
-use Rattle.wk_commands.specs.declared.ends.CommandEnd.TheVariants.{Done, Differs, Full, StoreFault, WriteFault}
+use Rattle.wk_commands.specs.declared.ends.CommandEnd.TheVariants.{Done, Differs, DoorFault, Full, Memory, StoreFault, WriteFault}
 use Rattle.wk_commands.proofs.Lives.{made-on, made-then-lived}
 
-module _ {K : Type 0} (faults : K → ℕ) (old new : WikiSeen K) (lived : HasLived old new) (history : new.state.history ≡ old.state.history) where
-  -- the drain went to its end, and the pages were compared
-  pub settled-whole : (before after : Option (List ℕ)) (end : CommandEnd) → HasNoJob new.state → IsCompared new.state (gen_text new.state) before after end → IsSettled faults old new before after end
-  settled-whole before after end none compared = record {
-    lived = lived;
-    history = history;
-    none_left = λ _. none;
+kept : (before after : Option (List ℕ)) → after ≡ before → Keeps before after
+kept before after is = subst (Keeps before) (sym is) (Keeps-refl before)
+
+module _ {K : Type 0} (is_whole : K → Bool) (faults : K → ℕ) (old new : WikiSeen K) (before after : Option (List ℕ)) (end : CommandEnd) where
+  -- the drain ended before
+  until : (at : CommandEnd) (drained : DrainEnd) → IsDrainedBy is_whole faults old new drained → end ≡ at → Done ≢ at → WriteFault ≢ at → Differs ≢ at → DoorFault ≢ at → HasWritten at (gen_text new.state) before after
+      → (end ≡ Full → CanBeFull old) → (end ≡ StoreFault → StoreFailed is_whole faults old new) → IsSettled is_whole faults old new before after end
+  until at drained by is not_done not_write not_differs not_door written full fault = record {
+    lived = by.lived;
+    history = by.history;
+    none_left = λ ended. elim ended [ inl done ↦ absurd (not_done (sym done ∙ is)) | inr other ↦ absurd (elim other [ inl differs ↦ not_differs (sym differs ∙ is) | inr write ↦ not_write (sym write ∙ is) ]) ];
+    written = subst (λ e. HasWritten e (gen_text new.state) before after) (sym is) written;
+    same = λ done. absurd (not_done (sym done ∙ is));
+    differs = λ differs. absurd (not_differs (sym differs ∙ is));
+    full = full;
+    fault = fault;
+    no_door = λ door. not_door (sym door ∙ is);
+  }
+
+  -- the drain went to its end, and the pages were compared; or it ended before
+  pub settled-by : (drained : DrainEnd) → IsDrainedBy is_whole faults old new drained → EndsDrain new.state drained end before after → IsSettled is_whole faults old new before after end
+  settled-by drain.Done by compared = record {
+    lived = by.lived;
+    history = by.history;
+    none_left = λ _. by.done refl;
     written = compared.written;
     same = compared.same;
     differs = compared.differs;
     full = λ full. absurd (compared.not_full full);
     fault = λ fault. absurd (compared.no_fault fault);
+    no_door = compared.no_door;
   }
-
-  -- it ended before
-  pub settled-until : (before : Option (List ℕ)) (end : CommandEnd) → end ≢ Done → end ≢ Differs → end ≢ WriteFault → HasWritten end (gen_text new.state) before before
-      → (end ≡ Full → CanBeFull old) → (end ≡ StoreFault → Rose (faults old.keeper) (faults new.keeper)) → IsSettled faults old new before before end
-  settled-until before end not_done not_differs not_write written full fault = record {
-    lived = lived;
-    history = history;
-    none_left = λ ended. elim ended [ inl done ↦ absurd (not_done done) | inr other ↦ absurd (elim other [ inl differs ↦ not_differs differs | inr write ↦ not_write write ]) ];
-    written = written;
-    same = λ done. absurd (not_done done);
-    differs = λ differs. absurd (not_differs differs);
-    full = full;
-    fault = fault;
-  }
+  settled-by drain.JournalFull by ends =
+      until Full drain.JournalFull by ends.0 (λ e. cc) (λ e. cc) (λ e. cc) (λ e. cc) (kept before after ends.1) (λ _. by.full refl)
+      (λ fault. absurd (let e : Full ≡ StoreFault = sym ends.0 ∙ fault in cc))
+  settled-by drain.StoreFault by ends =
+      until StoreFault drain.StoreFault by ends.0 (λ e. cc) (λ e. cc) (λ e. cc) (λ e. cc) (kept before after ends.1) (λ full. absurd (let e : StoreFault ≡ Full = sym ends.0 ∙ full in cc))
+      (λ _. by.fault refl)
+  settled-by drain.Memory by ends =
+      until Memory drain.Memory by ends.0 (λ e. cc) (λ e. cc) (λ e. cc) (λ e. cc) (kept before after ends.1) (λ full. absurd (let e : Memory ≡ Full = sym ends.0 ∙ full in cc))
+      (λ fault. absurd (let e : Memory ≡ StoreFault = sym ends.0 ∙ fault in cc))
 
 -- a wiki that is sound and has no job left has no page that differs
-pub agrees : {K : Type 0} (faults : K → ℕ) (old new : WikiSeen K) (before after : Option (List ℕ)) (end : CommandEnd) → IsSettled faults old new before after end → IsSound new.state → end ≢ Differs
-agrees faults old new before after end settled sound differs =
+pub agrees : {K : Type 0} (is_whole : K → Bool) (faults : K → ℕ) (old new : WikiSeen K) (before after : Option (List ℕ)) (end : CommandEnd) → IsSettled is_whole faults old new before after end → IsSound new.state → end ≢ Differs
+agrees is_whole faults old new before after end settled sound differs =
     let none = settled.none_left (inr (inl differs)) in
     settled.differs differs (none-differs new.state sound none.refreshes none.fans)
 

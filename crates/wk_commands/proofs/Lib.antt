@@ -3,3 +3,4 @@ pub mod Comparing
 pub mod Drained
 pub mod Generated
 pub mod Opening
+pub mod Served

@@ -1,26 +1,37 @@
 -- What a drain does as a command (own).
-use Rattle.std.specs.Prelude.{◌≡◌, ◌≢◌, ◌⊎◌, ℕ, List, Option}
-use Rattle.wk_base.specs.Faults.{Rose}
-use Rattle.wk_table_rules.specs.Rows.{StoreTables}
+use Rattle.std.specs.Prelude.{◌≡◌, ◌≢◌, ◌⊎◌, ℕ, ◌≤◌, Bool, List, Option}
 use Rattle.wk_state_rules.specs.Soundness.{IsSound}
 use Rattle.wk_tool_rules.specs.Checks.{jobs_text}
 use Rattle.wk_core.specs.Seen.{WikiSeen}
-use Rattle.wk_core.specs.Steps.{GoesOn}
+use Rattle.wk_shared.specs.Calls.{MayFail}
 use Rattle.wk_tools.specs.Drains.{CanBeFull, HasNoJob}
+use Rattle.wk_tools.specs.declared.drains.DrainEnd.{DrainEnd}
+use Rattle.wk_tools.specs.declared.drains.DrainEnd.TheVariants as end
 use Rattle.wk_commands.specs.Lived.{HasLivedOn}
 use Rattle.wk_commands.specs.Written.{HasWritten}
 use Rattle.wk_commands.specs.declared.ends.CommandEnd.{CommandEnd}
-use Rattle.wk_commands.specs.declared.ends.CommandEnd.TheVariants.{Done, Differs, Full, StoreFault, WriteFault}
+use Rattle.wk_commands.specs.declared.ends.CommandEnd.TheVariants.{Done, Differs, DoorFault, Full, Memory, StoreFault, WriteFault}
+
+-- the command ended because the store failed: the keeper at the start may, or that which is left has failed
+abbrev pub StoreFailed : {K : Type 0} → (K → Bool) → (K → ℕ) → WikiSeen K → WikiSeen K → Type 0
+StoreFailed is_whole faults old new = MayFail is_whole faults old.start ⊎ (1 ≤ faults new.keeper)
+
+-- how the command ends where its drain ended so, and what it writes
+abbrev pub EndsJobs : DrainEnd → CommandEnd → Option (List ℕ) → Option (List ℕ) → Type 0
+EndsJobs end.Done ended before after = HasWritten ended jobs_text before after × (ended ≢ WriteFault → ended ≡ Done)
+EndsJobs end.JournalFull ended before after = (ended ≡ Full) × (after ≡ before)
+EndsJobs end.StoreFault ended before after = (ended ≡ StoreFault) × (after ≡ before)
+EndsJobs end.Memory ended before after = (ended ≡ Memory) × (after ≡ before)
 
 -- The jobs of a wiki that was just opened were done, to the end or until the drain ended before it: nothing was saved.
-pub record IsDrained {K : Type 0} (told : K → Option StoreTables) (faults : K → ℕ) (old new : WikiSeen K) (before after : Option (List ℕ)) (end : CommandEnd) : Type 0 where
+pub record IsDrained {K : Type 0} (is_whole : K → Bool) (faults : K → ℕ) (old new : WikiSeen K) (before after : Option (List ℕ)) (end : CommandEnd) : Type 0 where
   pub lived : HasLivedOn old.state new.state
   pub history : new.state.history ≡ old.state.history
   pub sound : IsSound old.state → IsSound new.state
-  pub keeper : GoesOn told faults old new
   -- what was written tells that no job is left, and nothing is written before that is so
   pub none_left : (end ≡ Done) ⊎ (end ≡ WriteFault) → HasNoJob new.state
   pub written : HasWritten end jobs_text before after
   pub full : end ≡ Full → CanBeFull old
-  pub fault : end ≡ StoreFault → Rose (faults old.keeper) (faults new.keeper)
+  pub fault : end ≡ StoreFault → StoreFailed is_whole faults old new
   pub compares_nothing : end ≢ Differs
+  pub no_door : end ≢ DoorFault

@@ -4,4 +4,5 @@ pub mod Lived
 pub mod Checked
 pub mod Drained
 pub mod Generated
+pub mod Served
 pub mod Worked

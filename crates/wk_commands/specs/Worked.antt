@@ -1,5 +1,5 @@
 -- What a command does over the store of a keeper (own).
-use Rattle.std.specs.Prelude.{◌≡◌, ℕ, Bool, List, Option, None, Some, Result, Ok, Err, IfSome}
+use Rattle.std.specs.Prelude.{◌≡◌, ◌≤◌, ℕ, Bool, true, List, Option, None, Some, Result, Ok, Err, IfSome}
 use Rattle.wk_base.specs.Faults.{Rose}
 use Rattle.wk_page_rules.specs.Verdict.{MostHeld, full_limits}
 use Rattle.wk_table_rules.specs.GoodStore.{first_broken}
@@ -15,28 +15,32 @@ use Rattle.wk_core.specs.declared.outcomes.LoadCause.TheVariants as cause
 use Rattle.wk_commands.specs.Checked.{IsCompared}
 use Rattle.wk_commands.specs.Drained.{IsDrained}
 use Rattle.wk_commands.specs.Generated.{IsGenerated}
+use Rattle.wk_door.specs.Told.{DoorTold}
 use Rattle.wk_commands.specs.Lived.{HasLivedOn}
+use Rattle.wk_commands.specs.Served.{HasServedAt, IsServedFrom}
 use Rattle.wk_commands.specs.declared.ends.CommandEnd.{CommandEnd}
 use Rattle.wk_commands.specs.declared.works.Work.{Work}
 use Rattle.wk_commands.specs.declared.works.Work.TheVariants.{Check, Jobs, Generate}
 
 -- what was asked was done of a wiki that was just opened
-abbrev pub IsWorked : {K : Type 0} → (K → Option StoreTables) → (K → ℕ) → Work → WikiSeen K → WikiSeen K → Option (List ℕ) → Option (List ℕ) → Option (List ℕ) → Option (List ℕ) → CommandEnd → Type 0
-IsWorked told faults Check old new left later before after end = (new ≡ old) × IsCompared old.state (check_text old.state) before after end
-IsWorked told faults Jobs old new left later before after end = IsDrained told faults old new before after end
-IsWorked told faults (Generate pages number) old new left later before after end =
-    IsGenerated faults (generated pages number) old new left later before after end
+abbrev pub IsWorked : {K : Type 0} → (K → Bool) → (K → ℕ) → Work → WikiSeen K → WikiSeen K → Option (List ℕ) → Option (List ℕ) → Option (List ℕ) → Option (List ℕ) → CommandEnd → Type 0
+IsWorked is_whole faults Check old new left later before after end = (new ≡ old) × IsCompared old.state (check_text old.state) before after end
+IsWorked is_whole faults Jobs old new left later before after end = IsDrained is_whole faults old new before after end
+IsWorked is_whole faults (Generate pages number) old new left later before after end =
+    IsGenerated is_whole faults (generated pages number) old new left later before after end
 
 abbrev pub limits_with_journal : ℕ → MostHeld
 limits_with_journal journal = record full_limits { journal = journal }
 
 -- The store wasn't opened, for this cause: no moment was taken and nothing written, and the keeper has its tables.
-pub record IsNotOpened {K : Type 0} (told : K → Option StoreTables) (faults : K → ℕ) (keeper left : K) (moments later before after : Option (List ℕ)) (why : LoadCause) : Type 0 where
+pub record IsNotOpened {K : Type 0} (told : K → Option StoreTables) (faults : K → ℕ) (is_whole : K → Bool) (keeper left : K) (moments later before after : Option (List ℕ)) (why : LoadCause) : Type 0 where
   pub no_moment : later ≡ moments
   pub nothing_written : after ≡ before
   pub tables : told left ≡ told keeper
   pub broken : IfSome (bad_store_of why) (λ row. IfSome (told keeper) (λ tables. first_broken tables ≡ Some row))
   pub fault : why ≡ cause.StoreFault → Rose (faults keeper) (faults left)
+  pub never_falls : faults keeper ≤ faults left
+  pub whole : is_whole keeper ≡ true → faults left ≡ faults keeper
 
 -- A wiki was opened over the keeper's tables, and what was asked was done of it. The keeper has the tables of its last state.
 pub record IsDoneOver {K : Type 0} (told : K → Option StoreTables) (faults : K → ℕ) (is_whole : K → Bool) (work : Work) (journal : ℕ) (keeper left : K)
@@ -47,7 +51,7 @@ pub record IsDoneOver {K : Type 0} (told : K → Option StoreTables) (faults : K
   pub state : IfSome (told keeper) (λ tables. (first_broken tables ≡ None) × (first.state ≡ opened tables))
   pub whole : first.start.whole ≡ is_whole keeper
   pub faults_at_first : faults first.keeper ≡ faults keeper
-  pub worked : IsWorked told faults work first last moments later before after end
+  pub worked : IsWorked is_whole faults work first last moments later before after end
   pub lived : HasLivedOn first.state last.state
   pub sound : IsSound first.state → IsSound last.state
   pub keeper_is : left ≡ last.keeper
@@ -55,7 +59,32 @@ pub record IsDoneOver {K : Type 0} (told : K → Option StoreTables) (faults : K
 
 pub data IsWorkedOn {K : Type 0} (told : K → Option StoreTables) (faults : K → ℕ) (is_whole : K → Bool) (work : Work) (journal : ℕ) (keeper left : K)
     (moments later before after : Option (List ℕ)) (end : Result CommandEnd LoadCause) : Type 0 where
-  not_opened : (why : LoadCause) → end ≡ Err why → IsNotOpened told faults keeper left moments later before after why →
+  not_opened : (why : LoadCause) → end ≡ Err why → IsNotOpened told faults is_whole keeper left moments later before after why →
       IsWorkedOn told faults is_whole work journal keeper left moments later before after end
   done : (how : CommandEnd) → end ≡ Ok how → IsDoneOver told faults is_whole work journal keeper left moments later before after how →
       IsWorkedOn told faults is_whole work journal keeper left moments later before after end
+
+-- ---- serving
+
+-- A wiki was opened over the keeper's tables, and served at an address. The keeper has the tables of its last state.
+pub record IsServedOver {K L : Type 0} (told : K → Option StoreTables) (faults : K → ℕ) (is_whole : K → Bool) (address : List ℕ) (most journal : ℕ) (keeper left : K)
+    (door door_later : Option (DoorTold L)) (door_faults door_faults_later : ℕ) (before after : Option (List ℕ)) (end : CommandEnd) : Type 0 where
+  pub first : WikiSeen K
+  pub last : WikiSeen K
+  pub opened_is : HasOpened first (limits_with_journal journal)
+  pub state : IfSome (told keeper) (λ tables. (first_broken tables ≡ None) × (first.state ≡ opened tables))
+  pub whole : first.start.whole ≡ is_whole keeper
+  pub served : HasServedAt address most door door_later door_faults door_faults_later before after end
+  pub from : IsServedFrom first last
+  pub keeper_is : left ≡ last.keeper
+  pub tables : IsTold told last.state left
+
+pub data IsServedOn {K L : Type 0} (told : K → Option StoreTables) (faults : K → ℕ) (is_whole : K → Bool) (address : List ℕ) (most journal : ℕ) (keeper left : K)
+    (door door_later : Option (DoorTold L)) (door_faults door_faults_later : ℕ) (before after : Option (List ℕ)) (end : Result CommandEnd LoadCause) : Type 0 where
+  -- nothing was asked of the door
+  not_loaded : (why : LoadCause) → end ≡ Err why → door_later ≡ door → door_faults_later ≡ door_faults →
+      IsNotOpened told faults is_whole keeper left None None before after why →
+      IsServedOn told faults is_whole address most journal keeper left door door_later door_faults door_faults_later before after end
+  served_over : (how : CommandEnd) → end ≡ Ok how →
+      IsServedOver told faults is_whole address most journal keeper left door door_later door_faults door_faults_later before after how →
+      IsServedOn told faults is_whole address most journal keeper left door door_later door_faults door_faults_later before after end

@@ -18,6 +18,8 @@ pub enum CommandEnd {
     StoreFault,
     /// A write of the output failed.
     WriteFault,
+    /// A call of the door failed.
+    DoorFault,
     /// Memory ran out.
     Memory,
 }

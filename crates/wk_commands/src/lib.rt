@@ -1,4 +1,5 @@
-//! What the program's commands do over a wiki that was just opened, on one thread: `check`, `jobs` and `gen`.
+//! What the program's commands do over a wiki that was just opened: `check` on one thread, and `jobs`, `gen` and `serve` by workers on
+//! threads of their own.
 #![tactic(auto)]
 
 mod checks;
@@ -6,10 +7,12 @@ mod drains;
 mod ends;
 mod generates;
 mod lines;
+mod serves;
 mod works;
 
 pub use checks::check_pages;
 pub use drains::drain_jobs;
 pub use ends::CommandEnd;
 pub use generates::generate_pages;
-pub use works::{Work, Worked, limits_with_journal, work_over};
+pub use serves::{Serving, serve_links};
+pub use works::{Hands, Work, Worked, limits_with_journal, serve_over, work_over};

@@ -1,22 +1,27 @@
 //! The commands over the store of a keeper.
-ghost use Rattle.std.specs.Prelude.{◌≡◌, ◌≢◌, ◌≤◌, true, Ok, Err, is_some};
+ghost use Rattle.std.specs.Prelude.{◌≡◌, ◌≢◌, ◌≤◌, Ok, Err};
 ghost use Rattle.wk_base.specs.Faults.{Rose};
 ghost use Rattle.wk_page_rules.specs.Verdict.{max_journal};
 ghost use Rattle.wk_revs.specs.Edit.{most_held};
 ghost use Rattle.wk_core.specs.Limits.{AreWithinFull};
 ghost use Rattle.wk_core.specs.Loads.{HasOpened};
-ghost use Rattle.wk_core.specs.Steps.{GoesOn};
+ghost use Rattle.wk_core.specs.Seen.{IsTold};
 ghost use Rattle.wk_state_rules.specs.Soundness.{IsSound};
 ghost use Rattle.wk_commands.specs.Lived.{HasLivedOn};
-ghost use Rattle.wk_commands.specs.Worked.{IsWorked, IsWorkedOn, limits_with_journal};
+ghost use Rattle.wk_commands.specs.Worked.{IsServedOn, IsWorked, IsWorkedOn, limits_with_journal};
 
 use crate::checks::check_pages;
 use crate::drains::drain_jobs;
 use crate::ends::CommandEnd;
 use crate::generates::generate_pages;
+use crate::serves::{Serving, serve_links};
 use std::alloc::Global;
+use std::sync::Wait;
+use std::thread::Threads;
 use wk_base::{Clock, Sink};
 use wk_core::{Keeper, Limits, LoadCause, LoadRefusal, Wiki};
+use wk_door::Door;
+use wk_gate::Gate;
 
 /// What is asked of a wiki.
 #[derive(Clone, Copy, Debug, PartialEq, Eq)]
@@ -43,26 +48,42 @@ pub struct Worked<K> {
     pub end: Result<CommandEnd, LoadCause>,
 }
 
-/// Does what is asked of a wiki that was just opened.
-fn do_work<K: Keeper, O: Sink, C: Clock>(
-    wiki: &mut Wiki<K>,
+/// The workers of a command: how many, and the gate of which each has a copy.
+#[derive(Clone, Copy, Debug, PartialEq, Eq)]
+pub struct Hands<G> {
+    /// How many workers do the jobs.
+    pub procs: u64,
+    /// Their gate.
+    pub gate: G,
+}
+
+/// Does what is asked of a wiki that was just opened. It waits.
+fn do_work<K: Keeper + Send, G: Gate + Copy + Send, O: Sink, C: Clock, R: Threads + Wait + Sync>(
+    rt: &R,
+    wiki: Wiki<K>,
     work: Work,
+    hands: Hands<G>,
     output: &mut O,
     clock: &mut C,
-) -> CommandEnd
-    requires opened { HasOpened wiki.old wiki.old.start.limits }
-    ensures worked { IsWorked K.told K.faults work wiki.old wiki.new (C.left clock.old) (C.left clock.new) (O.taken output.old) (O.taken output.new) result }
-    ensures lived { HasLivedOn wiki.old.state wiki.new.state }
-    ensures sound { IsSound wiki.old.state → IsSound wiki.new.state }
-    ensures keeper { GoesOn K.told K.faults wiki.old wiki.new }
+) -> (Wiki<K>, CommandEnd)
+    requires opened { HasOpened wiki wiki.start.limits }
+    ensures worked { IsWorked K.is_whole K.faults work wiki result.0 (C.left clock.old) (C.left clock.new) (O.taken output.old) (O.taken output.new) result.1 }
+    ensures lived { HasLivedOn wiki.state result.0.state }
+    ensures sound { IsSound wiki.state → IsSound result.0.state }
     ensures never_falls { O.faults output.old ≤ O.faults output.new }
-    ensures no_write_fault { result ≢ CommandEnd.WriteFault → O.faults output.new ≡ O.faults output.old }
-    ensures write_fault { result ≡ CommandEnd.WriteFault → Rose (O.faults output.old) (O.faults output.new) }
+    ensures no_write_fault { result.1 ≢ CommandEnd.WriteFault → O.faults output.new ≡ O.faults output.old }
+    ensures write_fault { result.1 ≡ CommandEnd.WriteFault → Rose (O.faults output.old) (O.faults output.new) }
 {
+    let Hands { procs, gate } = hands;
     match work {
-        Work::Check => check_pages(wiki, output),
-        Work::Jobs => drain_jobs(wiki, output),
-        Work::Generate { pages, number } => generate_pages(wiki, pages, number, output, clock),
+        Work::Check => {
+            let end = check_pages(&wiki, output);
+            (wiki, end)
+        }
+        Work::Jobs => drain_jobs(rt, wiki, gate, procs, output),
+        Work::Generate { pages, number } => {
+            generate_pages(rt, wiki, gate, procs, pages, number, output, clock)
+        }
     }
 }
 
@@ -90,36 +111,90 @@ fn unopened<K>(refusal: LoadRefusal<K>) -> Worked<K>
     }
 }
 
+/// What is left of a wiki over a keeper, and how the command ended.
+fn released<K: Keeper>(wiki: Wiki<K>, end: CommandEnd) -> Worked<K>
+    ensures keeper { result.keeper ≡ wiki.keeper }
+    ensures end { result.end ≡ Ok end }
+    ensures told { IsTold K.told wiki.state result.keeper }
+{
+    Worked {
+        keeper: wiki.release(),
+        end: Ok(end),
+    }
+}
+
 /// Opens a wiki over the tables of a keeper, with a journal of at most so many events, and does what is asked of it. The
 /// keeper comes back: at a refusal of the load with the tables that it had, else with those of the state in which the work
-/// ended.
-pub fn work_over<K: Keeper, O: Sink, C: Clock>(
+/// ended. It waits.
+pub fn work_over<
+    K: Keeper + Send,
+    G: Gate + Copy + Send,
+    O: Sink,
+    C: Clock,
+    R: Threads + Wait + Sync,
+>(
+    rt: &R,
     alloc: Global,
     keeper: K,
     journal: u64,
     work: Work,
+    hands: Hands<G>,
     output: &mut O,
     clock: &mut C,
 ) -> Worked<K>
     requires journal { journal ≤ max_journal }
     ensures worked { IsWorkedOn K.told K.faults K.is_whole work journal keeper result.keeper
         (C.left clock.old) (C.left clock.new) (O.taken output.old) (O.taken output.new) result.end }
-    ensures tells { is_some (K.told result.keeper) ≡ is_some (K.told keeper) }
-    ensures keeper_never_falls { K.faults keeper ≤ K.faults result.keeper }
-    ensures whole { K.is_whole keeper ≡ true → K.faults result.keeper ≡ K.faults keeper }
     ensures never_falls { O.faults output.old ≤ O.faults output.new }
     ensures no_write_fault { result.end ≢ Ok CommandEnd.WriteFault → O.faults output.new ≡ O.faults output.old }
     ensures write_fault { result.end ≡ Ok CommandEnd.WriteFault → Rose (O.faults output.old) (O.faults output.new) }
 {
     match Wiki::load(alloc, keeper, limits_with_journal(journal)) {
         Ok(wiki) => {
-            let mut wiki = wiki;
             wiki.facts();
-            let end = do_work(&mut wiki, work, output, clock);
-            Worked {
-                keeper: wiki.release(),
-                end: Ok(end),
-            }
+            let (wiki, end) = do_work(rt, wiki, work, hands, output, clock);
+            released(wiki, end)
+        }
+        Err(refusal) => unopened(refusal),
+    }
+}
+
+/// Opens a wiki over the tables of a keeper, with a journal of at most so many events, and serves the connections that come in at
+/// an address (`serve_links`). The keeper comes back: at a refusal of the load with the tables that it had, and nothing was asked of
+/// the door; else with those of the state in which serving ended. It waits.
+pub fn serve_over<
+    K: Keeper + Send,
+    G: Gate + Copy + Send,
+    D: Door + Send,
+    C: Clock + Send,
+    O: Sink,
+    R: Threads + Wait + Sync,
+>(
+    rt: &R,
+    alloc: Global,
+    keeper: K,
+    journal: u64,
+    asked: Serving<'_>,
+    gate: G,
+    door: &mut D,
+    clock: &mut C,
+    output: &mut O,
+) -> Worked<K>
+where
+    D::Link: Send,
+    requires journal { journal ≤ max_journal }
+    ensures served { IsServedOn K.told K.faults K.is_whole asked.entry.address.now asked.entry.most journal keeper result.keeper
+        (D.told door.old) (D.told door.new) (D.faults door.old) (D.faults door.new) (O.taken output.old) (O.taken output.new) result.end }
+    ensures never_falls { O.faults output.old ≤ O.faults output.new }
+    ensures no_write_fault { result.end ≢ Ok CommandEnd.WriteFault → O.faults output.new ≡ O.faults output.old }
+    ensures write_fault { result.end ≡ Ok CommandEnd.WriteFault → Rose (O.faults output.old) (O.faults output.new) }
+    ensures door_never_falls { D.faults door.old ≤ D.faults door.new }
+{
+    match Wiki::load(alloc, keeper, limits_with_journal(journal)) {
+        Ok(wiki) => {
+            wiki.facts();
+            let (wiki, end) = serve_links(rt, wiki, gate, asked, door, clock, output);
+            released(wiki, end)
         }
         Err(refusal) => unopened(refusal),
     }

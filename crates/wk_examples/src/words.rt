@@ -1,7 +1,7 @@
 //! What the words of a command line come to.
 ghost use Rattle.std.specs.Prelude.{◌≡◌, ◌∷◌, [], codes};
 ghost use Rattle.wk_words.specs.Verdicts.{verdict, runs, refused, shows_help, shows_version};
-ghost use Rattle.wk_words.specs.declared.commands.Command.TheVariants.{Script, Jobs, Check, Generate};
+ghost use Rattle.wk_words.specs.declared.commands.Command.TheVariants.{Script, Serve, Jobs, Check, Generate};
 ghost use Rattle.wk_examples.specs.CommandLines.{bare};
 
 /// Words that ask for something: an option stands before the command or behind it, and its value behind it or behind `=`.
@@ -9,6 +9,7 @@ pub fn asking()
     ensures plain { verdict (codes "wiki" ∷ codes "script" ∷ []) ≡ runs (bare Script) }
     ensures option { verdict (codes "wiki" ∷ codes "gen" ∷ codes "--pages" ∷ codes "7" ∷ []) ≡ runs (record (bare Generate) { pages = 7 }) }
     ensures behind_a_sign { verdict (codes "wiki" ∷ codes "--number=0" ∷ codes "gen" ∷ []) ≡ runs (record (bare Generate) { number = 0 }) }
+    ensures serving { verdict (codes "wiki" ∷ codes "serve" ∷ codes "--workers=2" ∷ []) ≡ runs (record (bare Serve) { workers = 2 }) }
     ensures greatest { verdict (codes "wiki" ∷ codes "jobs" ∷ codes "--procs" ∷ codes "64" ∷ []) ≡ runs (record (bare Jobs) { procs = 64 }) }
     ensures without_effect { verdict (codes "wiki" ∷ codes "check" ∷ codes "--listen" ∷ codes "" ∷ []) ≡ runs (record (bare Check) { listen = [] }) }
 {}
@@ -16,7 +17,7 @@ pub fn asking()
 /// Words that are refused.
 pub fn refusing()
     ensures nothing { verdict (codes "wiki" ∷ []) ≡ refused }
-    ensures no_such_command { verdict (codes "wiki" ∷ codes "serve" ∷ []) ≡ refused }
+    ensures no_such_command { verdict (codes "wiki" ∷ codes "server" ∷ []) ≡ refused }
     ensures two_commands { verdict (codes "wiki" ∷ codes "gen" ∷ codes "jobs" ∷ []) ≡ refused }
     ensures twice { verdict (codes "wiki" ∷ codes "gen" ∷ codes "--pages=7" ∷ codes "--pages=7" ∷ []) ≡ refused }
     ensures leading_zero { verdict (codes "wiki" ∷ codes "gen" ∷ codes "--pages=07" ∷ []) ≡ refused }

@@ -27,15 +27,16 @@ const THREE_REPLIES: &str =
 "#;
 
 /// A run of the three lines.
-fn ran(alloc: Global, outside: Outside) -> Result<Ran, Memory> {
+fn ran(rt: &HostRuntime, outside: Outside) -> Result<Ran, Memory> {
+    let alloc = rt.alloc();
     let mut vault = ListVault::new(Vec::new(alloc));
     let lines = three_lines(alloc)?;
-    script(alloc, &mut vault, lines.as_bytes(), outside)
+    script(rt, &mut vault, lines.as_bytes(), outside)
 }
 
 /// Whether the run ends so, with so many bytes of the replies written.
-fn ends(alloc: Global, outside: Outside, status: u8, bytes: usize) -> Result<bool, Memory> {
-    let ran = ran(alloc, outside)?;
+fn ends(rt: &HostRuntime, outside: Outside, status: u8, bytes: usize) -> Result<bool, Memory> {
+    let ran = ran(rt, outside)?;
     Ok(
         ran.status == status
             && ran.written.len() == bytes
@@ -45,40 +46,34 @@ fn ends(alloc: Global, outside: Outside, status: u8, bytes: usize) -> Result<boo
 
 #[test]
 fn a_read_that_fails_ends_the_run(rt: HostRuntime) -> Result<(), Fail> {
-    let alloc = rt.alloc();
     for (failed_read, status, bytes) in [(1, 3, 0), (2, 3, 100), (3, 3, 300), (4, 0, 300)] {
         let outside = Outside {
             failed_read,
             ..SOUND
         };
-        assert!(rt; ends(alloc, outside, status, bytes)?, "read {failed_read}");
+        assert!(rt; ends(&rt, outside, status, bytes)?, "read {failed_read}");
     }
     Ok(())
 }
 
 #[test]
 fn a_write_that_fails_ends_the_run(rt: HostRuntime) -> Result<(), Fail> {
-    let alloc = rt.alloc();
     for (failed_write, status, bytes) in [(1, 4, 0), (2, 4, 100), (3, 4, 200), (4, 0, 300)] {
         let outside = Outside {
             failed_write,
             ..SOUND
         };
-        assert!(rt;
-            ends(alloc, outside, status, bytes)?,
-            "write {failed_write}"
-        );
+        assert!(rt; ends(&rt, outside, status, bytes)?, "write {failed_write}");
     }
     Ok(())
 }
 
 #[test]
 fn a_full_sink_ends_the_run(rt: HostRuntime) -> Result<(), Fail> {
-    let alloc = rt.alloc();
     for most in [0, 1, 99, 100, 101, 299, 300] {
         let status = if most < 300 { 4 } else { 0 };
         assert!(rt;
-            ends(alloc, Outside { most, ..SOUND }, status, most)?,
+            ends(&rt, Outside { most, ..SOUND }, status, most)?,
             "{most} bytes"
         );
     }
@@ -86,20 +81,20 @@ fn a_full_sink_ends_the_run(rt: HostRuntime) -> Result<(), Fail> {
 }
 
 /// What is written for one line of so many bytes, which has no known form.
-fn written_for(alloc: Global, bytes: usize) -> Result<Vec<u8>, Memory> {
+fn written_for(rt: &HostRuntime, bytes: usize) -> Result<Vec<u8>, Memory> {
+    let alloc = rt.alloc();
     let line = "a".repeat(alloc, bytes)?;
     let mut vault = ListVault::new(Vec::new(alloc));
-    let ran = script(alloc, &mut vault, line.as_bytes(), SOUND)?;
+    let ran = script(rt, &mut vault, line.as_bytes(), SOUND)?;
     Ok(ran.written)
 }
 
 #[test]
 fn a_line_of_8_mebibytes_is_read(rt: HostRuntime) -> Result<(), Fail> {
-    let alloc = rt.alloc();
     let bad = "{\"error\":{\"code\":\"badline\",\"info\":\"Unknown line.\"},\"point\":0}\n";
-    assert_eq!(rt; written_for(alloc, 8_388_608)?.as_slice(), bad.as_bytes());
+    assert_eq!(rt; written_for(&rt, 8_388_608)?.as_slice(), bad.as_bytes());
     let long =
         "{\"error\":{\"code\":\"linetoolong\",\"info\":\"The line is longer than 8388608 bytes.\"},\"point\":0}\n";
-    assert_eq!(rt; written_for(alloc, 8_388_609)?.as_slice(), long.as_bytes());
+    assert_eq!(rt; written_for(&rt, 8_388_609)?.as_slice(), long.as_bytes());
     Ok(())
 }

@@ -8,10 +8,11 @@ use wk_keeper::ListVault;
 use wk_memory::Memory;
 
 /// Whether a script over an empty store is answered so, with the lines of this text behind it.
-fn answers(alloc: Global, case: Case, behind: &str) -> Result<bool, Memory> {
+fn answers(rt: &HostRuntime, case: Case, behind: &str) -> Result<bool, Memory> {
+    let alloc = rt.alloc();
     let mut case = case;
     case.add_all(behind)?;
-    is_answered(alloc, &mut ListVault::new(Vec::new(alloc)), &case)
+    is_answered(rt, &mut ListVault::new(Vec::new(alloc)), &case)
 }
 
 /// Templates from T1 to T41, each of which includes the next, and the last of which is `x`.
@@ -31,7 +32,7 @@ fn forty_deep(alloc: Global) -> Result<Case, Memory> {
 fn templates_are_included_forty_deep(rt: HostRuntime) -> Result<(), Fail> {
     let alloc = rt.alloc();
     let case = forty_deep(alloc)?;
-    assert!(rt; answers(alloc, case, FORTY_DEEP)?);
+    assert!(rt; answers(&rt, case, FORTY_DEEP)?);
     Ok(())
 }
 
@@ -64,7 +65,7 @@ fn hundred_found(alloc: Global) -> Result<Case, Memory> {
 fn a_hundred_titles_are_tested_for(rt: HostRuntime) -> Result<(), Fail> {
     let alloc = rt.alloc();
     let case = hundred_found(alloc)?;
-    assert!(rt; answers(alloc, case, "")?);
+    assert!(rt; answers(&rt, case, "")?);
     Ok(())
 }
 
@@ -85,7 +86,7 @@ fn big(alloc: Global) -> Result<Case, Memory> {
 fn what_is_past_the_include_size_is_a_link(rt: HostRuntime) -> Result<(), Fail> {
     let alloc = rt.alloc();
     let case = big(alloc)?;
-    assert!(rt; answers(alloc, case, LINKED)?);
+    assert!(rt; answers(&rt, case, LINKED)?);
     Ok(())
 }
 
@@ -106,7 +107,7 @@ fn longest(alloc: Global) -> Result<Case, Memory> {
 fn a_text_of_2_mebibytes_is_the_longest(rt: HostRuntime) -> Result<(), Fail> {
     let alloc = rt.alloc();
     let case = longest(alloc)?;
-    assert!(rt; answers(alloc, case, "")?);
+    assert!(rt; answers(&rt, case, "")?);
     Ok(())
 }
 
@@ -145,6 +146,6 @@ fn users(alloc: Global) -> Result<Case, Memory> {
 fn a_fan_serves_three_hundred_pages_at_most(rt: HostRuntime) -> Result<(), Fail> {
     let alloc = rt.alloc();
     let case = users(alloc)?;
-    assert!(rt; answers(alloc, case, MANY_USERS)?);
+    assert!(rt; answers(&rt, case, MANY_USERS)?);
     Ok(())
 }

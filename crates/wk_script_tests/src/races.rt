@@ -40,9 +40,10 @@ fn stops(case: &Case, ran: &Ran, status: u8, replies: u64) -> bool {
     ran.status == status && are_first(case, &ran.written, replies)
 }
 
-fn ran(alloc: Global, case: &Case, outside: Outside) -> Result<Ran, Memory> {
+fn ran(rt: &HostRuntime, case: &Case, outside: Outside) -> Result<Ran, Memory> {
+    let alloc = rt.alloc();
     script(
-        alloc,
+        rt,
         &mut ListVault::new(Vec::new(alloc)),
         case.lines.as_bytes(),
         outside,
@@ -50,9 +51,10 @@ fn ran(alloc: Global, case: &Case, outside: Outside) -> Result<Ran, Memory> {
 }
 
 /// A run over a new store, of which the call with this number fails: the first one loads it, as does the last.
-fn ran_over(alloc: Global, case: &Case, failed: u64) -> Result<Ran, Memory> {
+fn ran_over(rt: &HostRuntime, case: &Case, failed: u64) -> Result<Ran, Memory> {
+    let alloc = rt.alloc();
     let mut vault = vault(alloc, Tables::new(alloc), &[], &[failed])?;
-    script(alloc, &mut vault, case.lines.as_bytes(), SOUND)
+    script(rt, &mut vault, case.lines.as_bytes(), SOUND)
 }
 
 #[test]
@@ -65,7 +67,7 @@ fn each_read_fails_in_turn(rt: HostRuntime) -> Result<(), Fail> {
             failed_read,
             ..SOUND
         };
-        let ran = ran(alloc, &case, outside)?;
+        let ran = ran(&rt, &case, outside)?;
         assert!(rt; stops(&case, &ran, status, replies), "read {failed_read}");
     }
     Ok(())
@@ -81,7 +83,7 @@ fn each_write_fails_in_turn(rt: HostRuntime) -> Result<(), Fail> {
             failed_write,
             ..SOUND
         };
-        let ran = ran(alloc, &case, outside)?;
+        let ran = ran(&rt, &case, outside)?;
         let status = if replies < REPLIES { 4 } else { 0 };
         assert!(rt; stops(&case, &ran, status, replies), "write {failed_write}");
     }
@@ -94,7 +96,7 @@ fn each_load_fails_in_turn(rt: HostRuntime) -> Result<(), Fail> {
     let case = race(alloc)?;
     // (seven calls between them change the store)
     for (failed, status, replies) in [(1, 5, 0), (9, 5, 22), (10, 0, REPLIES)] {
-        let ran = ran_over(alloc, &case, failed)?;
+        let ran = ran_over(&rt, &case, failed)?;
         assert!(rt; stops(&case, &ran, status, replies), "call {failed}");
     }
     Ok(())
@@ -130,7 +132,7 @@ fn each_change_fails_in_turn(rt: HostRuntime) -> Result<(), Fail> {
     let case = race(alloc)?;
     // (four saves, and three refreshes that are done)
     for (failed, replies) in [(2, 0), (3, 1), (4, 2), (5, 6), (6, 11), (7, 14), (8, 19)] {
-        let ran = ran_over(alloc, &case, failed)?;
+        let ran = ran_over(&rt, &case, failed)?;
         assert!(rt; goes_on(&case, &ran, replies), "call {failed}");
     }
     Ok(())

@@ -4,6 +4,8 @@ use std::alloc::Global;
 use wk_base::{ListClock, MemSink, MemSource};
 use wk_cli::wiki_main;
 use wk_core::BadStore;
+use wk_door::MemDoor;
+use wk_gate::NoGate;
 use wk_keeper::{Keeper, Vault};
 use wk_memory::Memory;
 
@@ -67,18 +69,33 @@ fn version<K: Keeper>(store: Option<K>) -> u64 {
 
 /// A run on these words.
 pub fn run<V: Vault>(
-    alloc: Global,
+    rt: &HostRuntime,
     text: &str,
     vault: &mut V,
     input: &[u8],
     outside: Outside,
-) -> Result<Ran, Memory> {
+) -> Result<Ran, Memory>
+where
+    V::Store: Send,
+{
+    let alloc = rt.alloc();
     let words = words(alloc, text)?;
     let mut source = MemSource::new(input.to_vec(alloc)?, [outside.failed_read].to_vec(alloc)?);
     let failed_writes = [outside.failed_write].to_vec(alloc)?;
     let mut sink = MemSink::new(alloc, outside.most, failed_writes)?;
     let mut clock = ListClock::new(MOMENTS.to_vec(alloc)?);
-    let finish = wiki_main(alloc, &words, vault, &mut source, &mut sink, &mut clock);
+    let mut door = MemDoor::new(alloc, Vec::new(alloc), 0, Vec::new(alloc))?;
+    let finish = wiki_main(
+        rt,
+        alloc,
+        &words,
+        vault,
+        &mut source,
+        &mut sink,
+        &mut clock,
+        &mut door,
+        NoGate,
+    );
     Ok(Ran {
         status: finish.status,
         points: finish.points,
@@ -90,16 +107,22 @@ pub fn run<V: Vault>(
 
 /// A run of `wiki script` on this input.
 pub fn script<V: Vault>(
-    alloc: Global,
+    rt: &HostRuntime,
     vault: &mut V,
     input: &[u8],
     outside: Outside,
-) -> Result<Ran, Memory> {
-    run(alloc, "wiki script", vault, input, outside)
+) -> Result<Ran, Memory>
+where
+    V::Store: Send,
+{
+    run(rt, "wiki script", vault, input, outside)
 }
 
 /// Whether a run of the script goes to its end, writes just the replies and hands back a store of version 2.
-pub fn is_answered<V: Vault>(alloc: Global, vault: &mut V, case: &Case) -> Result<bool, Memory> {
-    let ran = script(alloc, vault, case.lines.as_bytes(), SOUND)?;
+pub fn is_answered<V: Vault>(rt: &HostRuntime, vault: &mut V, case: &Case) -> Result<bool, Memory>
+where
+    V::Store: Send,
+{
+    let ran = script(rt, vault, case.lines.as_bytes(), SOUND)?;
     Ok(ran.ends(0, 2, &case.replies))
 }

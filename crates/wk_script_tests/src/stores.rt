@@ -78,47 +78,42 @@ fn bad_tables(alloc: Global) -> Result<Tables, Memory> {
     Tables::from_rows(alloc, rows)
 }
 
-fn ran_over(alloc: Global, vault: MemVault, lines: &str) -> Result<Ran, Memory> {
+fn ran_over(rt: &HostRuntime, vault: MemVault, lines: &str) -> Result<Ran, Memory> {
     let mut vault = vault;
-    script(alloc, &mut vault, lines.as_bytes(), SOUND)
+    script(rt, &mut vault, lines.as_bytes(), SOUND)
 }
 
 /// Whether the restart of a store of version 1, of which this call fails, ends so.
 fn old_ends(
-    alloc: Global,
+    rt: &HostRuntime,
     failed: u64,
     status: u8,
     version: u64,
     written: &str,
 ) -> Result<bool, Memory> {
+    let alloc = rt.alloc();
     let vault = vault(alloc, old_tables(alloc)?, &[], &[failed])?;
-    let ran = ran_over(alloc, vault, "restart\n")?;
+    let ran = ran_over(rt, vault, "restart\n")?;
     Ok(ran.ends(status, version, written))
 }
 
 #[test]
 fn a_store_of_version_one_is_migrated(rt: HostRuntime) -> Result<(), Fail> {
-    let alloc = rt.alloc();
     let told = "{\"point\":0,\"restart\":{\"jobs\":1,\"pages\":1}}\n";
-    assert!(rt; old_ends(alloc, 0, 0, 2, told)?);
+    assert!(rt; old_ends(&rt, 0, 0, 2, told)?);
     Ok(())
 }
 
 #[test]
 fn a_migration_that_fails_ends_the_program(rt: HostRuntime) -> Result<(), Fail> {
-    let alloc = rt.alloc();
-    assert!(rt; old_ends(alloc, 2, 5, 1, "")?);
+    assert!(rt; old_ends(&rt, 2, 5, 1, "")?);
     Ok(())
 }
 
 #[test]
 fn a_vault_that_fails_ends_the_program(rt: HostRuntime) -> Result<(), Fail> {
     let alloc = rt.alloc();
-    let ran = ran_over(
-        alloc,
-        vault(alloc, Tables::new(alloc), &[1], &[])?,
-        "claim\n",
-    )?;
+    let ran = ran_over(&rt, vault(alloc, Tables::new(alloc), &[1], &[])?, "claim\n")?;
     assert!(rt; ran.ends(5, 0, ""));
     Ok(())
 }
@@ -126,26 +121,22 @@ fn a_vault_that_fails_ends_the_program(rt: HostRuntime) -> Result<(), Fail> {
 #[test]
 fn a_bad_store_is_told(rt: HostRuntime) -> Result<(), Fail> {
     let alloc = rt.alloc();
-    let ran = ran_over(
-        alloc,
-        vault(alloc, bad_tables(alloc)?, &[], &[])?,
-        "claim\n",
-    )?;
+    let ran = ran_over(&rt, vault(alloc, bad_tables(alloc)?, &[], &[])?, "claim\n")?;
     assert!(rt; ran.ends(7, 2, ""));
     assert_eq!(rt; ran.bad, Some(BadStore { rule: 2, row: 2 }));
     Ok(())
 }
 
 /// Whether a script is answered so over a new store of which this call fails.
-fn is_answered_over(alloc: Global, text: &str, failed: u64) -> Result<bool, Memory> {
+fn is_answered_over(rt: &HostRuntime, text: &str, failed: u64) -> Result<bool, Memory> {
+    let alloc = rt.alloc();
     let mut vault = vault(alloc, Tables::new(alloc), &[], &[failed])?;
-    is_answered(alloc, &mut vault, &case_of(alloc, text)?)
+    is_answered(rt, &mut vault, &case_of(alloc, text)?)
 }
 
 #[test]
 fn a_save_that_the_store_refuses_is_told(rt: HostRuntime) -> Result<(), Fail> {
-    let alloc = rt.alloc();
     // (the first call loads the store)
-    assert!(rt; is_answered_over(alloc, REFUSED_ONCE, 3)?);
+    assert!(rt; is_answered_over(&rt, REFUSED_ONCE, 3)?);
     Ok(())
 }

@@ -8,9 +8,10 @@ use wk_keeper::ListVault;
 use wk_memory::Memory;
 
 /// Whether the script of this text is answered so over an empty store.
-fn answers(alloc: Global, text: &str) -> Result<bool, Memory> {
+fn answers(rt: &HostRuntime, text: &str) -> Result<bool, Memory> {
+    let alloc = rt.alloc();
     is_answered(
-        alloc,
+        rt,
         &mut ListVault::new(Vec::new(alloc)),
         &case_of(alloc, text)?,
     )
@@ -18,25 +19,24 @@ fn answers(alloc: Global, text: &str) -> Result<bool, Memory> {
 
 #[test]
 fn each_script_is_answered(rt: HostRuntime) -> Result<(), Fail> {
-    let alloc = rt.alloc();
     for row in ROWS.split("=== ") {
         let (name, text) = row.split_once('\n').unwrap_or(("the empty script", ""));
-        assert!(rt; answers(alloc, text)?, "{name}");
+        assert!(rt; answers(&rt, text)?, "{name}");
     }
     Ok(())
 }
 
 #[test]
 fn the_race_is_answered(rt: HostRuntime) -> Result<(), Fail> {
-    let alloc = rt.alloc();
-    assert!(rt; answers(alloc, RACE)?);
+    assert!(rt; answers(&rt, RACE)?);
     Ok(())
 }
 
 /// Whether a run on these words ends with status 2, and nothing is opened or written.
-fn is_refused(alloc: Global, words: &str) -> Result<bool, Memory> {
+fn is_refused(rt: &HostRuntime, words: &str) -> Result<bool, Memory> {
+    let alloc = rt.alloc();
     let ran = run(
-        alloc,
+        rt,
         words,
         &mut ListVault::new(Vec::new(alloc)),
         b"claim\n",
@@ -47,17 +47,17 @@ fn is_refused(alloc: Global, words: &str) -> Result<bool, Memory> {
 
 #[test]
 fn other_words_touch_nothing(rt: HostRuntime) -> Result<(), Fail> {
-    let alloc = rt.alloc();
     for words in ["wiki dance", "wiki", "wiki script script", ""] {
-        assert!(rt; is_refused(alloc, words)?, "{words}");
+        assert!(rt; is_refused(&rt, words)?, "{words}");
     }
     Ok(())
 }
 
 /// The points of the replies to the lines over an empty store.
-fn points(alloc: Global, lines: &str) -> Result<Vec<u64>, Memory> {
+fn points(rt: &HostRuntime, lines: &str) -> Result<Vec<u64>, Memory> {
+    let alloc = rt.alloc();
     let ran = script(
-        alloc,
+        rt,
         &mut ListVault::new(Vec::new(alloc)),
         lines.as_bytes(),
         SOUND,
@@ -67,8 +67,7 @@ fn points(alloc: Global, lines: &str) -> Result<Vec<u64>, Memory> {
 
 #[test]
 fn points_stand_in_order(rt: HostRuntime) -> Result<(), Fail> {
-    let alloc = rt.alloc();
     let lines = "api action=edit&title=A&text=x&token=%2B%5C\nclaim\n\nrestart\nclaim\n";
-    assert_eq!(rt; points(alloc, lines)?.as_slice(), [1, 2, 0, 1].as_slice());
+    assert_eq!(rt; points(&rt, lines)?.as_slice(), [1, 2, 0, 1].as_slice());
     Ok(())
 }

@@ -6,6 +6,8 @@ use std::fs;
 use std::test::Fail;
 use wk_base::{ListClock, MemSink, MemSource};
 use wk_cli::{Finish, wiki_main};
+use wk_door::MemDoor;
+use wk_gate::NoGate;
 use wk_memory::Memory;
 use wk_vault::FileVault;
 
@@ -23,7 +25,8 @@ fn words(alloc: Global, text: &str) -> Result<Vec<String>, Memory> {
 
 /// The status of a run. The store that it hands back is let go.
 fn status(
-    alloc: Global,
+    rt: &HostRuntime,
+    door: &mut MemDoor,
     words: &[String],
     vault: &mut FileVault<'_>,
     source: &mut MemSource,
@@ -35,7 +38,17 @@ fn status(
         points: _,
         bad: _,
         store: _,
-    } = wiki_main(alloc, words, vault, source, sink, clock);
+    } = wiki_main(
+        rt,
+        rt.alloc(),
+        words,
+        vault,
+        source,
+        sink,
+        clock,
+        door,
+        NoGate,
+    );
     status
 }
 
@@ -46,7 +59,16 @@ fn run(rt: &HostRuntime, text: &str, input: &str, sink: &mut MemSink) -> Result<
     let mut vault = FileVault::new(rt);
     let mut source = MemSource::new(input.as_bytes().to_vec(alloc)?, Vec::new(alloc));
     let mut clock = ListClock::new([7].to_vec(alloc)?);
-    Ok(status(alloc, &words, &mut vault, &mut source, sink, &mut clock))
+    let mut door = MemDoor::new(alloc, Vec::new(alloc), 0, Vec::new(alloc))?;
+    Ok(status(
+        rt,
+        &mut door,
+        &words,
+        &mut vault,
+        &mut source,
+        sink,
+        &mut clock,
+    ))
 }
 
 /// Whether the run ends as is expected.

@@ -1,5 +1,5 @@
 //! The commands that stand.
-ghost use Rattle.std.specs.Prelude.{◌≡◌};
+ghost use Rattle.std.specs.Prelude.{◌≡◌, bytes_eq};
 ghost use Rattle.wk_words.specs.Commands.{command_named};
 
 /// A command of the program, which the one word without an option names.
@@ -7,6 +7,8 @@ ghost use Rattle.wk_words.specs.Commands.{command_named};
 pub enum Command {
     /// `script`: the lines of the input are answered one after the other.
     Script,
+    /// `serve`: the connections that come in at an address are served.
+    Serve,
     /// `jobs`: the jobs of the store are done until none is left.
     Jobs,
     /// `check`: the link rows of each page are compared with those of a new expansion.
@@ -15,17 +17,26 @@ pub enum Command {
     Generate,
 }
 
+/// Whether the word is this name. Takes no memory.
+fn is_name(name: &str, word: &str) -> bool
+    ensures { result ≡ bytes_eq name.now word.now }
+{
+    name == word
+}
+
 /// The command that the word names, and `None` where it names none that stands. Takes no memory.
 pub(crate) fn command_named(word: &str) -> Option<Command>
     ensures { result ≡ command_named word.now }
 {
-    if word == "script" {
+    if is_name("script", word) {
         Some(Command::Script)
-    } else if word == "jobs" {
+    } else if is_name("serve", word) {
+        Some(Command::Serve)
+    } else if is_name("jobs", word) {
         Some(Command::Jobs)
-    } else if word == "check" {
+    } else if is_name("check", word) {
         Some(Command::Check)
-    } else if word == "gen" {
+    } else if is_name("gen", word) {
         Some(Command::Generate)
     } else {
         None

@@ -80,6 +80,8 @@ const ABOUT: &str = "A MediaWiki engine: pages with transclusion, link tables an
 
 Commands:
   script  answers the lines of standard input, one line of JSON for each that isn't empty
+  serve   serves the connections that come in at an address, as the API of a wiki, and
+          prints `listening on ADDRESS`, and at its end `served N`
   jobs    does the jobs of the store until none is left, and prints `jobs 0`
   check   compares the link rows of each page with a new expansion of it, and prints
           `differ TITLE` for each page that differs, then `pages N differ M`
@@ -88,6 +90,7 @@ Commands:
 
 const EXAMPLES: &str = "Examples:
   wiki gen --pages 1000
+  wiki serve --store wiki.db --listen 127.0.0.1:8080
   echo 'api action=query&meta=siteinfo' | wiki script
 
 Each option is taken with each command, at most once. Numbers are decimal digits without a sign or a leading zero.";
@@ -100,7 +103,7 @@ fn command_arg<'a>(alloc: Global) -> Arg<'a>
     Arg::new(alloc, "command")
         .value_name("COMMAND")
         .required(true)
-        .help("What to do: script, jobs, check or gen")
+        .help("What to do: script, serve, jobs, check or gen")
 }
 
 /// An option whose value is any text.

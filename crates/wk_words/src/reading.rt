@@ -155,7 +155,7 @@ fn misuse_error(
         }
         Misuse::Command(word) => {
             let message = format!(in alloc;
-                "unrecognized command '{word}'\n  [commands: script, jobs, check, gen]"
+                "unrecognized command '{word}'\n  [commands: script, serve, jobs, check, gen]"
             )?;
             app.error(ErrorKind::InvalidValue, message.as_str())
         }

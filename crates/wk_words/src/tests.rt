@@ -21,7 +21,10 @@ const CASES: [(&str, &str); 81] = [
         "wiki gen",
         "Generate '' '127.0.0.1:8080' 4 1 1000000 50 1 33554432",
     ),
-    ("wiki serve", "Refused"),
+    (
+        "wiki serve",
+        "Serve '' '127.0.0.1:8080' 4 1 1000000 50 1 33554432",
+    ),
     ("wiki", "Refused"),
     ("wiki foo", "Refused"),
     ("wiki gen jobs", "Refused"),
@@ -221,9 +224,10 @@ fn words_ask_for_what_they_say(rt: HostRuntime) -> Result<(), Fail> {
 }
 
 /// What help says, in the words of its lines.
-const HELP: [&str; 16] = [
+const HELP: [&str; 17] = [
     "A MediaWiki engine",
     "  script  ",
+    "  serve   ",
     "  jobs    ",
     "  check   ",
     "  gen     ",
@@ -262,7 +266,7 @@ fn help_shows_each_command_and_option(rt: HostRuntime) -> Result<(), Fail> {
 /// Lines that are refused, or ask for the version, and a part of the text.
 const TEXTS: [(&str, &str); 6] = [
     ("wiki --version", "wiki 0.1.0\n"),
-    ("wiki serve", "error: unrecognized command 'serve'\n"),
+    ("wiki server", "error: unrecognized command 'server'\n"),
     ("wiki", "<COMMAND>"),
     (
         "wiki gen --pages 010",

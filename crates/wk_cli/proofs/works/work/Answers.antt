@@ -18,8 +18,6 @@ returns-in-Ok g c = record {
         bad_is = c.ended.ensures.bad;
         no_point = c.ended.ensures.points;
         store_is = c.ended.ensures.store;
-        never_falls = c.work_over.ensures.keeper_never_falls;
-        whole = c.work_over.ensures.whole;
       });
   writes_never_fall = c.work_over.ensures.never_falls;
   no_write_fault = λ is. c.work_over.ensures.no_write_fault (work-without-write-fault _ (sym c.ended.ensures.status ∙ is));

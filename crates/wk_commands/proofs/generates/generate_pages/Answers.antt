@@ -11,13 +11,13 @@ returns-in-Ok-clause-generated g c = settled c.generate.new.wiki c.in-Ok.ensures
 
 pub returns-in-Ok-clause-lived : goal.returns-in-Ok-clause-lived
 returns-in-Ok-clause-lived g c =
-    settled-on c.args.wiki.now c.requires.opened c.generate.new.wiki c.settle.new.wiki (generated c.args.pages c.args.number) (g.C.Clock.left c.args.clock.now) (g.C.Clock.left c.generate.new.clock)
+    settled-on c.args.wiki c.requires.opened c.generate.new.wiki c.settle.result.0 (generated c.args.pages c.args.number) (g.C.Clock.left c.args.clock.now) (g.C.Clock.left c.generate.new.clock)
     c.in-Ok.ensures.saved c.settle.ensures.settled.lived
 
 pub returns-in-Ok-clause-sound : goal.returns-in-Ok-clause-sound
 returns-in-Ok-clause-sound g c =
-    sound-on c.args.wiki.now c.requires.opened c.settle.new.wiki.state c.facts.ensures.run
-    (settled-on c.args.wiki.now c.requires.opened c.generate.new.wiki c.settle.new.wiki (generated c.args.pages c.args.number) (g.C.Clock.left c.args.clock.now) (g.C.Clock.left c.generate.new.clock)
+    sound-on c.args.wiki c.requires.opened c.settle.result.0.state c.facts.ensures.run
+    (settled-on c.args.wiki c.requires.opened c.generate.new.wiki c.settle.result.0 (generated c.args.pages c.args.number) (g.C.Clock.left c.args.clock.now) (g.C.Clock.left c.generate.new.clock)
     c.in-Ok.ensures.saved c.settle.ensures.settled.lived)
 
 pub returns-in-Err-clause-generated : goal.returns-in-Err-clause-generated
@@ -25,21 +25,21 @@ returns-in-Err-clause-generated g c = refused c.in-Err.refusal c.in-Err.ensures.
 
 pub returns-in-Err-clause-lived : goal.returns-in-Err-clause-lived
 returns-in-Err-clause-lived g c =
-    refused-on c.args.wiki.now c.requires.opened c.generate.new.wiki (generated c.args.pages c.args.number) (g.C.Clock.left c.args.clock.now) c.in-Err.refusal c.in-Err.ensures.refused
+    refused-on c.args.wiki c.requires.opened c.generate.new.wiki (generated c.args.pages c.args.number) (g.C.Clock.left c.args.clock.now) c.in-Err.refusal c.in-Err.ensures.refused
 
 pub returns-in-Err-clause-sound : goal.returns-in-Err-clause-sound
 returns-in-Err-clause-sound g c =
-    sound-on c.args.wiki.now c.requires.opened c.generate.new.wiki.state c.facts.ensures.run
-    (refused-on c.args.wiki.now c.requires.opened c.generate.new.wiki (generated c.args.pages c.args.number) (g.C.Clock.left c.args.clock.now) c.in-Err.refusal c.in-Err.ensures.refused)
+    sound-on c.args.wiki c.requires.opened c.generate.new.wiki.state c.facts.ensures.run
+    (refused-on c.args.wiki c.requires.opened c.generate.new.wiki (generated c.args.pages c.args.number) (g.C.Clock.left c.args.clock.now) c.in-Err.refusal c.in-Err.ensures.refused)
 
 pub returns-in-Ok-clause-agrees : goal.returns-in-Ok-clause-agrees
 returns-in-Ok-clause-agrees g c = λ sound.
     let lived =
-    settled-on c.args.wiki.now c.requires.opened c.generate.new.wiki c.settle.new.wiki (generated c.args.pages c.args.number) (g.C.Clock.left c.args.clock.now) (g.C.Clock.left c.generate.new.clock)
+    settled-on c.args.wiki c.requires.opened c.generate.new.wiki c.settle.result.0 (generated c.args.pages c.args.number) (g.C.Clock.left c.args.clock.now) (g.C.Clock.left c.generate.new.clock)
     c.in-Ok.ensures.saved c.settle.ensures.settled.lived
     in
-    agrees g.K.Keeper.faults c.generate.new.wiki c.settle.new.wiki (g.O.Sink.taken c.args.output.now) (g.O.Sink.taken c.settle.new.output) c.settle.result c.settle.ensures.settled
-    (sound-on c.args.wiki.now c.requires.opened c.settle.new.wiki.state c.facts.ensures.run lived sound)
+    agrees g.K.Keeper.is_whole g.K.Keeper.faults c.generate.new.wiki c.settle.result.0 (g.O.Sink.taken c.args.output.now) (g.O.Sink.taken c.settle.new.output) c.settle.result.1 c.settle.ensures.settled
+    (sound-on c.args.wiki c.requires.opened c.settle.result.0.state c.facts.ensures.run lived sound)
 
 pub returns-in-Err-clause-agrees : goal.returns-in-Err-clause-agrees
 returns-in-Err-clause-agrees g c = λ sound. refused-agrees c.in-Err.refusal c.end_of_refusal.result c.end_of_refusal.ensures

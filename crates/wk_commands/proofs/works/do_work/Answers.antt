@@ -2,32 +2,29 @@ use Rattle.std.proofs.Common.{refl, sym, subst}
 use Rattle.wk_commands.specs.Worked.{IsWorked}
 use Rattle.wk_commands.specs.declared.works.Work.{Work}
 use Rattle.wk_commands.proofs.Lives.{same-on}
-use Rattle.wk_commands.proofs.Opening.{goes-on-as-it-is}
 use Rattle.wk_commands.proofs.works.do_work.Goals as goal
 
 pub returns-in-Check : goal.returns-in-Check
 returns-in-Check g c =
     let left = g.C.Clock.left c.args.clock.now in
-    let wiki = c.args.wiki.now in record {
-      worked = subst (λ (w : Work). IsWorked g.K.Keeper.told g.K.Keeper.faults w wiki wiki left left (g.O.Sink.taken c.args.output.now) (g.O.Sink.taken c.check_pages.new.output) c.check_pages.result)
-          (sym c.in-Check.is) (refl, c.check_pages.ensures.compared);
+    let wiki = c.args.wiki in record {
+      worked = subst (λ (w : Work). IsWorked g.K.Keeper.is_whole g.K.Keeper.faults w wiki wiki left left (g.O.Sink.taken c.args.output.now) (g.O.Sink.taken c.check_pages-end.new.output) c.check_pages-end.result)
+          (sym c.in-Check.is) (refl, c.check_pages-end.ensures.compared);
       lived = same-on wiki c.requires.opened;
       sound = λ sound. sound;
-      keeper = goes-on-as-it-is g.K.Keeper.told g.K.Keeper.faults wiki;
-      never_falls = c.check_pages.ensures.never_falls;
-      no_write_fault = c.check_pages.ensures.no_write_fault;
-      write_fault = c.check_pages.ensures.write_fault;
+      never_falls = c.check_pages-end.ensures.never_falls;
+      no_write_fault = c.check_pages-end.ensures.no_write_fault;
+      write_fault = c.check_pages-end.ensures.write_fault;
     }
 
 pub returns-in-Jobs : goal.returns-in-Jobs
 returns-in-Jobs g c =
     let left = g.C.Clock.left c.args.clock.now in
     let drained = c.drain_jobs.ensures.drained in record {
-      worked = subst (λ (w : Work). IsWorked g.K.Keeper.told g.K.Keeper.faults w c.args.wiki.now c.drain_jobs.new.wiki left left (g.O.Sink.taken c.args.output.now) (g.O.Sink.taken c.drain_jobs.new.output) c.drain_jobs.result)
+      worked = subst (λ (w : Work). IsWorked g.K.Keeper.is_whole g.K.Keeper.faults w c.args.wiki c.drain_jobs.result.0 left left (g.O.Sink.taken c.args.output.now) (g.O.Sink.taken c.drain_jobs.new.output) c.drain_jobs.result.1)
           (sym c.in-Jobs.is) drained;
       lived = drained.lived;
       sound = drained.sound;
-      keeper = drained.keeper;
       never_falls = c.drain_jobs.ensures.never_falls;
       no_write_fault = c.drain_jobs.ensures.no_write_fault;
       write_fault = c.drain_jobs.ensures.write_fault;
@@ -35,12 +32,11 @@ returns-in-Jobs g c =
 
 pub returns-in-Generate : goal.returns-in-Generate
 returns-in-Generate g c = record {
-  worked = subst (λ (w : Work). IsWorked g.K.Keeper.told g.K.Keeper.faults w c.args.wiki.now c.generate_pages.new.wiki (g.C.Clock.left c.args.clock.now) (g.C.Clock.left c.generate_pages.new.clock)
-      (g.O.Sink.taken c.args.output.now) (g.O.Sink.taken c.generate_pages.new.output) c.generate_pages.result)
+  worked = subst (λ (w : Work). IsWorked g.K.Keeper.is_whole g.K.Keeper.faults w c.args.wiki c.generate_pages.result.0 (g.C.Clock.left c.args.clock.now) (g.C.Clock.left c.generate_pages.new.clock)
+      (g.O.Sink.taken c.args.output.now) (g.O.Sink.taken c.generate_pages.new.output) c.generate_pages.result.1)
       (sym c.in-Generate.is) c.generate_pages.ensures.generated;
   lived = c.generate_pages.ensures.lived;
   sound = c.generate_pages.ensures.sound;
-  keeper = c.generate_pages.ensures.keeper;
   never_falls = c.generate_pages.ensures.never_falls;
   no_write_fault = c.generate_pages.ensures.no_write_fault;
   write_fault = c.generate_pages.ensures.write_fault;
