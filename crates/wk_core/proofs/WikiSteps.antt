@@ -22,9 +22,9 @@ use Rattle.wk_core.specs.LifeHeld.{LifeHeld, KeepsLife}
 use Rattle.wk_core.specs.Seen.{WikiSeen, IsTold, seen}
 use Rattle.wk_core.specs.Steps.{GoesOn, HasMade, HasMadeNothing, KeeperGoesOn}
 
--- the run of a wiki, whose start tells besides whether its keeper is whole
-pub seen-run : (life : Life) (whole : Bool) → IsLife life → IsRun (record (start_of life) { whole = whole }) (journal_of life) life.state
-seen-run life whole is = record {
+-- the run of a wiki, whose start tells besides whether its keeper is whole and tells its tables
+pub seen-run : (life : Life) (whole tells : Bool) → IsLife life → IsRun (record (start_of life) { whole = whole; tells = tells }) (journal_of life) life.state
+seen-run life whole tells is = record {
   full = is.run.full;
   kept = is.run.kept;
   none_out = is.run.none_out;
@@ -54,22 +54,24 @@ told-same o new state next same tables told = rw (same, tables) told
 -- ---- the wiki
 
 module _ {K : Type 0} (told : K → Option StoreTables) (faults : K → ℕ) (is_whole : K → Bool) (before after : K) where
-  pub made-from : (old new : Life) (event : Event) → IsNext old event new → is_whole after ≡ is_whole before → HasMade (seen is_whole old before) (seen is_whole new after) event
-  made-from old new event next same = record {
+  pub made-from : (old new : Life) (event : Event) → IsNext old event new → is_whole after ≡ is_whole before → is_some (told after) ≡ is_some (told before)
+      → HasMade (seen is_whole told old before) (seen is_whole told new after) event
+  made-from old new event next same tells = record {
     start = λ i. record {
       state = (next.start i).state;
       limits = (next.start i).limits;
       whole = same i;
+      tells = tells i;
       sealed = (next.start i).sealed;
     };
     journal = next.journal;
     stepped = next.done;
   }
 
-  pub nothing-from : (old new : Life) → new ≡ old → told after ≡ told before → is_whole after ≡ is_whole before → HasMadeNothing told (seen is_whole old before) (seen is_whole new after)
+  pub nothing-from : (old new : Life) → new ≡ old → told after ≡ told before → is_whole after ≡ is_whole before → HasMadeNothing told (seen is_whole told old before) (seen is_whole told new after)
   nothing-from old new life tables same = record {
     wiki = λ i. record {
-      start = record (start_of (life i)) { whole = same i };
+      start = record (start_of (life i)) { whole = same i; tells = is_some (tables i) };
       journal = journal_of (life i);
       state = (life i).state;
       keeper = after;
@@ -77,13 +79,13 @@ module _ {K : Type 0} (told : K → Option StoreTables) (faults : K → ℕ) (is
     tables = tables;
   }
 
-  pub goes-from : (old new : Life) → KeeperGoesOn told faults is_whole before after → GoesOn told faults (seen is_whole old before) (seen is_whole new after)
+  pub goes-from : (old new : Life) → KeeperGoesOn told faults is_whole before after → GoesOn told faults (seen is_whole told old before) (seen is_whole told new after)
   goes-from old new goes_on = record { tells = goes_on.tells; never_falls = goes_on.never_falls; whole = goes_on.whole }
 
   -- behind a restart
   pub renewed-from : (old new : Life) → Begins new (new_start (reopened old.state) old.limits old.whole) → new.state ≡ reopened old.state → is_whole after ≡ is_whole before
-      → seen is_whole new after ≡ record (seen is_whole old after) {
-        start = record (seen is_whole old after).start { state = reopened old.state; sealed = None };
+      → seen is_whole told new after ≡ record (seen is_whole told old after) {
+        start = record (seen is_whole told old after).start { state = reopened old.state; sealed = None };
         journal = [];
         state = reopened old.state;
       }
@@ -92,6 +94,7 @@ module _ {K : Type 0} (told : K → Option StoreTables) (faults : K → ℕ) (is
       state = (begins.start i).state;
       limits = (begins.start i).limits;
       whole = is_whole after;
+      tells = is_some (told after);
       sealed = (begins.start i).sealed;
     };
     journal = begins.journal i;
@@ -102,8 +105,8 @@ module _ {K : Type 0} (told : K → Option StoreTables) (faults : K → ℕ) (is
 -- ---- entries and seals
 
 -- the entries are those of the journal
-pub entries-are : {K : Type 0} (is_whole : K → Bool) (life : Life) (keeper : K) → IsLife life → life.entries ≡ entries_from (life.kept.revisions + 1) (journal_of life) → life.entries ≡ entries_seen (seen is_whole life keeper)
-entries-are is_whole life keeper is named =
+pub entries-are : {K : Type 0} (is_whole : K → Bool) (told : K → Option StoreTables) (life : Life) (keeper : K) → IsLife life → life.entries ≡ entries_from (life.kept.revisions + 1) (journal_of life) → life.entries ≡ entries_seen (seen is_whole told life keeper)
+entries-are is_whole told life keeper is named =
     let taken = length-take-le life.kept.revisions life.state.history.revisions is.revisions in
     let number : life.kept.revisions + 1 ≡ next_revision (start_of life).state.history = omega (arith, taken) in
     named ∙ ap (λ n. entries_from n (journal_of life)) number

@@ -1,5 +1,5 @@
 -- What a wiki is seen as (own).
-use Rattle.std.specs.Prelude.{◌≡◌, Bool, List, Option, IfSome, length}
+use Rattle.std.specs.Prelude.{◌≡◌, Bool, List, Option, IfSome, is_some, length}
 use Rattle.wk_page_rules.specs.Verdict.{EditAsked, Verdict}
 use Rattle.wk_table_rules.specs.Rows.{StoreTables}
 use Rattle.wk_state_rules.specs.States.{State}
@@ -21,9 +21,9 @@ pub record WikiSeen (K : Type 0) : Type 0 where
   pub keeper : K
 
 -- what is seen of a wiki that keeps this, with this keeper
-abbrev pub seen : {K : Type 0} → (K → Bool) → Life → K → WikiSeen K
-seen is_whole life keeper = record {
-  start = record (start_of life) { whole = is_whole keeper };
+abbrev pub seen : {K : Type 0} → (K → Bool) → (K → Option StoreTables) → Life → K → WikiSeen K
+seen is_whole told life keeper = record {
+  start = record (start_of life) { whole = is_whole keeper; tells = is_some (told keeper) };
   journal = journal_of life;
   state = life.state;
   keeper = keeper;

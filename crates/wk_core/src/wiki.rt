@@ -1,5 +1,5 @@
 //! The wiki.
-ghost use Rattle.std.specs.Prelude.{◌≡◌, length};
+ghost use Rattle.std.specs.Prelude.{◌≡◌, is_some, length};
 ghost use Rattle.wk_state_laws.specs.Saves.{Continues, saves};
 ghost use Rattle.wk_call_laws.specs.Sound.{IsSoundSince};
 ghost use Rattle.wk_life_laws.specs.Runs.{IsRun};
@@ -34,7 +34,7 @@ impl<K: Keeper> Model for Wiki<K> {
 
     ghost Value = { WikiSeen K };
 
-    ghost view = { λ w. seen K.is_whole w.life.life w.keeper };
+    ghost view = { λ w. seen K.is_whole K.told w.life.life w.keeper };
 
     ghost invariant = { λ w. IsKeeping K.told w.life.life.state w.keeper w.cache.entries };
 }
@@ -53,6 +53,7 @@ impl<K: Keeper> Wiki<K> {
         ensures told { IsTold K.told self.now.state self.now.keeper }
         // It is the keeper that the start tells of.
         ensures whole { K.is_whole self.now.keeper ≡ self.now.start.whole }
+        ensures tells { is_some (K.told self.now.keeper) ≡ self.now.start.tells }
     {
         self.life.facts();
     }

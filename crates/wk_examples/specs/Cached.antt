@@ -34,7 +34,7 @@ cached = record {
 -- a caller that has seen the whole race
 abbrev pub whole_race : PassSeen
 whole_race = record {
-  start = record { state = no_state; limits = full_limits; whole = true; sealed = None };
+  start = record { state = no_state; limits = full_limits; whole = true; tells = true; sealed = None };
   journal = race;
   own = [];
 }

@@ -1,5 +1,5 @@
 -- How what a wiki keeps begins, and what an event and a seal make of it (own).
-use Rattle.std.specs.Prelude.{◌≡◌, ℕ, Bool, [], ◌∷◌, ◌++◌, length, None, Some}
+use Rattle.std.specs.Prelude.{◌≡◌, ℕ, Bool, false, [], ◌∷◌, ◌++◌, length, None, Some}
 use Rattle.wk_page_rules.specs.History.{next_revision}
 use Rattle.wk_page_rules.specs.Verdict.{MostHeld}
 use Rattle.wk_state_rules.specs.States.{State}
@@ -13,7 +13,7 @@ use Rattle.wk_life_laws.specs.Lives.{Life, IsLife, journal_of, start_of}
 
 -- the start of a wiki that begins in this state
 abbrev pub new_start : State → MostHeld → Bool → Start
-new_start state limits whole = record { state = state; limits = limits; whole = whole; sealed = None }
+new_start state limits whole = record { state = state; limits = limits; whole = whole; tells = false; sealed = None }
 
 -- what a wiki keeps that begins in this state
 abbrev pub begun : State → MostHeld → Bool → Life

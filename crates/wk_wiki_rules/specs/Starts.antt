@@ -13,6 +13,8 @@ pub record Start : Type 0 where
   pub limits : MostHeld
   -- the keeper of the tables can't fail
   pub whole : Bool
+  -- the keeper tells its tables
+  pub tells : Bool
   -- the point from which on the journal gets no save, where there is one
   pub sealed : Option ℕ
 
