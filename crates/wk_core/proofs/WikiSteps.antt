@@ -1,5 +1,5 @@
 -- What a call leaves of a wiki, by what it leaves of its life and of its keeper.
-use Rattle.std.proofs.Common.{◌≡◌, Bool, ℕ, ◌+◌, ◌≤◌, true, List, ◌++◌, ◌∷◌, [], length, Option, Some, None, refl, sym, ap, ◌∙◌, subst, arith, length-take-le}
+use Rattle.std.proofs.Common.{◌≡◌, Bool, ℕ, ◌+◌, ◌≤◌, true, false, List, ◌++◌, ◌∷◌, [], length, Option, Some, None, refl, sym, ap, ◌∙◌, subst, arith, length-take-le}
 use Rattle.std.specs.Prelude.{IfSome, is_some}
 use Rattle.wk_table_rules.specs.Rows.{StoreTables}
 use Rattle.wk_table_rules.specs.Changes.{TableEdit, applied, fits}
@@ -19,12 +19,13 @@ use Rattle.wk_life_laws.specs.Next.{Begins, new_start, with_seal}
 use Rattle.wk_life_laws.proofs.Lives.{sealed_life}
 use Rattle.wk_core.specs.Entries.{entries_seen}
 use Rattle.wk_core.specs.LifeHeld.{LifeHeld, KeepsLife}
-use Rattle.wk_core.specs.Seen.{WikiSeen, IsTold, seen}
+use Rattle.wk_core.specs.Seen.{WikiSeen, IsTold, failed_where, seen}
 use Rattle.wk_core.specs.Steps.{GoesOn, HasMade, HasMadeNothing, KeeperGoesOn}
 
--- the run of a wiki, whose start tells besides whether its keeper is whole and tells its tables
-pub seen-run : (life : Life) (whole tells : Bool) → IsLife life → IsRun (record (start_of life) { whole = whole; tells = tells }) (journal_of life) life.state
-seen-run life whole tells is = record {
+-- the run of a wiki, whose start tells besides of its keeper
+pub seen-run : (life : Life) (whole tells : Bool) (failed : Option ℕ) → IsLife life
+    → IsRun (record (start_of life) { whole = whole; tells = tells; failed = failed }) (journal_of life) life.state
+seen-run life whole tells failed is = record {
   full = is.run.full;
   kept = is.run.kept;
   none_out = is.run.none_out;
@@ -53,25 +54,36 @@ told-same o new state next same tables told = rw (same, tables) told
 
 -- ---- the wiki
 
+-- a whole keeper has failed as often as before
+pub failed-same : (before after : Bool) (old new : ℕ) → after ≡ before → (before ≡ true → new ≡ old) → failed_where after new ≡ failed_where before old
+failed-same true after old new same count = ap (λ b. failed_where b new) same ∙ ap (λ n. Some n) (count refl)
+failed-same false after old new same count = ap (λ b. failed_where b new) same
+
 module _ {K : Type 0} (told : K → Option StoreTables) (faults : K → ℕ) (is_whole : K → Bool) (before after : K) where
-  pub made-from : (old new : Life) (event : Event) → IsNext old event new → is_whole after ≡ is_whole before → is_some (told after) ≡ is_some (told before)
-      → HasMade (seen is_whole told old before) (seen is_whole told new after) event
-  made-from old new event next same tells = record {
+  pub made-from : (old new : Life) (event : Event) → IsNext old event new → is_whole after ≡ is_whole before → is_some (told after) ≡ is_some (told before) → (is_whole before ≡ true → faults after ≡ faults before)
+      → HasMade (seen is_whole told faults old before) (seen is_whole told faults new after) event
+  made-from old new event next same tells count = record {
     start = λ i. record {
       state = (next.start i).state;
       limits = (next.start i).limits;
       whole = same i;
       tells = tells i;
+      failed = failed-same (is_whole before) (is_whole after) (faults before) (faults after) same count i;
       sealed = (next.start i).sealed;
     };
     journal = next.journal;
     stepped = next.done;
   }
 
-  pub nothing-from : (old new : Life) → new ≡ old → told after ≡ told before → is_whole after ≡ is_whole before → HasMadeNothing told (seen is_whole told old before) (seen is_whole told new after)
-  nothing-from old new life tables same = record {
+  pub nothing-from : (old new : Life) → new ≡ old → told after ≡ told before → is_whole after ≡ is_whole before → (is_whole before ≡ true → faults after ≡ faults before)
+      → HasMadeNothing told (seen is_whole told faults old before) (seen is_whole told faults new after)
+  nothing-from old new life tables same count = record {
     wiki = λ i. record {
-      start = record (start_of (life i)) { whole = same i; tells = is_some (tables i) };
+      start = record (start_of (life i)) {
+        whole = same i;
+        tells = is_some (tables i);
+        failed = failed-same (is_whole before) (is_whole after) (faults before) (faults after) same count i;
+      };
       journal = journal_of (life i);
       state = (life i).state;
       keeper = after;
@@ -79,13 +91,13 @@ module _ {K : Type 0} (told : K → Option StoreTables) (faults : K → ℕ) (is
     tables = tables;
   }
 
-  pub goes-from : (old new : Life) → KeeperGoesOn told faults is_whole before after → GoesOn told faults (seen is_whole told old before) (seen is_whole told new after)
+  pub goes-from : (old new : Life) → KeeperGoesOn told faults is_whole before after → GoesOn told faults (seen is_whole told faults old before) (seen is_whole told faults new after)
   goes-from old new goes_on = record { tells = goes_on.tells; never_falls = goes_on.never_falls; whole = goes_on.whole }
 
   -- behind a restart
   pub renewed-from : (old new : Life) → Begins new (new_start (reopened old.state) old.limits old.whole) → new.state ≡ reopened old.state → is_whole after ≡ is_whole before
-      → seen is_whole told new after ≡ record (seen is_whole told old after) {
-        start = record (seen is_whole told old after).start { state = reopened old.state; sealed = None };
+      → seen is_whole told faults new after ≡ record (seen is_whole told faults old after) {
+        start = record (seen is_whole told faults old after).start { state = reopened old.state; sealed = None };
         journal = [];
         state = reopened old.state;
       }
@@ -95,6 +107,7 @@ module _ {K : Type 0} (told : K → Option StoreTables) (faults : K → ℕ) (is
       limits = (begins.start i).limits;
       whole = is_whole after;
       tells = is_some (told after);
+      failed = failed_where (is_whole after) (faults after);
       sealed = (begins.start i).sealed;
     };
     journal = begins.journal i;
@@ -105,8 +118,8 @@ module _ {K : Type 0} (told : K → Option StoreTables) (faults : K → ℕ) (is
 -- ---- entries and seals
 
 -- the entries are those of the journal
-pub entries-are : {K : Type 0} (is_whole : K → Bool) (told : K → Option StoreTables) (life : Life) (keeper : K) → IsLife life → life.entries ≡ entries_from (life.kept.revisions + 1) (journal_of life) → life.entries ≡ entries_seen (seen is_whole told life keeper)
-entries-are is_whole told life keeper is named =
+pub entries-are : {K : Type 0} (is_whole : K → Bool) (told : K → Option StoreTables) (faults : K → ℕ) (life : Life) (keeper : K) → IsLife life → life.entries ≡ entries_from (life.kept.revisions + 1) (journal_of life) → life.entries ≡ entries_seen (seen is_whole told faults life keeper)
+entries-are is_whole told faults life keeper is named =
     let taken = length-take-le life.kept.revisions life.state.history.revisions is.revisions in
     let number : life.kept.revisions + 1 ≡ next_revision (start_of life).state.history = omega (arith, taken) in
     named ∙ ap (λ n. entries_from n (journal_of life)) number

@@ -1,5 +1,5 @@
 -- What a wiki is seen as (own).
-use Rattle.std.specs.Prelude.{◌≡◌, Bool, List, Option, IfSome, is_some, length}
+use Rattle.std.specs.Prelude.{◌≡◌, ℕ, Bool, true, false, List, Option, None, Some, IfSome, is_some, length}
 use Rattle.wk_page_rules.specs.Verdict.{EditAsked, Verdict}
 use Rattle.wk_table_rules.specs.Rows.{StoreTables}
 use Rattle.wk_state_rules.specs.States.{State}
@@ -20,10 +20,15 @@ pub record WikiSeen (K : Type 0) : Type 0 where
   -- what keeps its tables
   pub keeper : K
 
+-- how often a keeper has failed, where it is whole
+abbrev pub failed_where : Bool → ℕ → Option ℕ
+failed_where true count = Some count
+failed_where false count = None
+
 -- what is seen of a wiki that keeps this, with this keeper
-abbrev pub seen : {K : Type 0} → (K → Bool) → (K → Option StoreTables) → Life → K → WikiSeen K
-seen is_whole told life keeper = record {
-  start = record (start_of life) { whole = is_whole keeper; tells = is_some (told keeper) };
+abbrev pub seen : {K : Type 0} → (K → Bool) → (K → Option StoreTables) → (K → ℕ) → Life → K → WikiSeen K
+seen is_whole told faults life keeper = record {
+  start = record (start_of life) { whole = is_whole keeper; tells = is_some (told keeper); failed = failed_where (is_whole keeper) (faults keeper) };
   journal = journal_of life;
   state = life.state;
   keeper = keeper;

@@ -128,10 +128,10 @@ fn save_accepted<K: Keeper>(
     requires told { IsTold K.told life.old.life.state keeper.old }
     ensures told { IsTold K.told life.new.life.state keeper.new }
     ensures saved { IfOk result (λ saved. Some (saved_outcome saved) ≡ save_outcome life.old.life.state.history (accept title text)) }
-    ensures event { OnOk result (HasMade (seen K.is_whole K.told life.old.life keeper.old) (seen K.is_whole K.told life.new.life keeper.new) (Save title text moment)) }
-    ensures refused { OnErr result (HasMadeNothing K.told (seen K.is_whole K.told life.old.life keeper.old) (seen K.is_whole K.told life.new.life keeper.new)) }
+    ensures event { OnOk result (HasMade (seen K.is_whole K.told K.faults life.old.life keeper.old) (seen K.is_whole K.told K.faults life.new.life keeper.new) (Save title text moment)) }
+    ensures refused { OnErr result (HasMadeNothing K.told (seen K.is_whole K.told K.faults life.old.life keeper.old) (seen K.is_whole K.told K.faults life.new.life keeper.new)) }
     ensures refusal { IfErr result (λ refusal. refusal_of refusal ≡ None) }
-    ensures keeper { GoesOn K.told K.faults (seen K.is_whole K.told life.old.life keeper.old) (seen K.is_whole K.told life.new.life keeper.new) }
+    ensures keeper { GoesOn K.told K.faults (seen K.is_whole K.told K.faults life.old.life keeper.old) (seen K.is_whole K.told K.faults life.new.life keeper.new) }
     ensures fault { result ≡ Err SaveRefusal.StoreFault → Rose (K.faults keeper.old) (K.faults keeper.new) }
     ensures no_fault { OnOk result (K.faults keeper.new ≡ K.faults keeper.old) }
 {

@@ -21,7 +21,7 @@ impl Model for WikiStart {
 
     ghost Value = { Start };
 
-    ghost view = { λ _. record { state = no_state; limits = full_limits; whole = false; tells = false; sealed = None } };
+    ghost view = { λ _. record { state = no_state; limits = full_limits; whole = false; tells = false; failed = None; sealed = None } };
 }
 
 /// What has happened to a wiki, as contracts see it. No value of it is made.

@@ -4,7 +4,7 @@ ghost use Rattle.wk_state_laws.specs.Saves.{Continues, saves};
 ghost use Rattle.wk_call_laws.specs.Sound.{IsSoundSince};
 ghost use Rattle.wk_life_laws.specs.Runs.{IsRun};
 ghost use Rattle.wk_revs.specs.Edit.{most_held};
-ghost use Rattle.wk_core.specs.Seen.{IsTold};
+ghost use Rattle.wk_core.specs.Seen.{IsTold, failed_where};
 
 use crate::life::Life;
 use std::alloc::Global;
@@ -34,7 +34,7 @@ impl<K: Keeper> Model for Wiki<K> {
 
     ghost Value = { WikiSeen K };
 
-    ghost view = { λ w. seen K.is_whole K.told w.life.life w.keeper };
+    ghost view = { λ w. seen K.is_whole K.told K.faults w.life.life w.keeper };
 
     ghost invariant = { λ w. IsKeeping K.told w.life.life.state w.keeper w.cache.entries };
 }
@@ -54,6 +54,7 @@ impl<K: Keeper> Wiki<K> {
         // It is the keeper that the start tells of.
         ensures whole { K.is_whole self.now.keeper ≡ self.now.start.whole }
         ensures tells { is_some (K.told self.now.keeper) ≡ self.now.start.tells }
+        ensures failed { failed_where (K.is_whole self.now.keeper) (K.faults self.now.keeper) ≡ self.now.start.failed }
     {
         self.life.facts();
     }

@@ -1,5 +1,5 @@
 -- What a cache keeps in the worked examples.
-use Rattle.std.specs.Prelude.{true, [], None}
+use Rattle.std.specs.Prelude.{true, [], None, Some}
 use Rattle.wk_text_rules.specs.Titles.{PageTitle}
 use Rattle.wk_page_rules.specs.Verdict.{full_limits}
 use Rattle.wk_view_rules.specs.Expansions.{no_counters}
@@ -34,7 +34,7 @@ cached = record {
 -- a caller that has seen the whole race
 abbrev pub whole_race : PassSeen
 whole_race = record {
-  start = record { state = no_state; limits = full_limits; whole = true; tells = true; sealed = None };
+  start = record { state = no_state; limits = full_limits; whole = true; tells = true; failed = Some 0; sealed = None };
   journal = race;
   own = [];
 }

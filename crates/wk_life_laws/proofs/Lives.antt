@@ -85,7 +85,7 @@ pub next_life : (life : Life) (event : Event) (next : State) → IsLife life →
 next_life life event next is made may done =
     let point = length (journal_of life) in
     let told = told-stepped fan_pages life.kept life.state next point event is.revisions is.pages done in
-    let start : start_of (with_event life event next) ≡ start_of life = ap (λ (s : State). let whole : Start = record { state = s; limits = life.limits; whole = life.whole; tells = false; sealed = life.sealed } in whole) told in
+    let start : start_of (with_event life event next) ≡ start_of life = ap (λ (s : State). let whole : Start = record { state = s; limits = life.limits; whole = life.whole; tells = false; failed = None; sealed = life.sealed } in whole) told in
     let journal = events-stepped fan_pages life.state next point event life.entries is.stand done in
     let goes_on = run_next (start_of life) (journal_of life) life.state next event is.run made may done in
     let run = subst (λ (s : Start). IsRun s (journal_of (with_event life event next)) next) (sym start) (subst (λ (events : List Event). IsRun (start_of life) events next) (sym journal) goes_on) in

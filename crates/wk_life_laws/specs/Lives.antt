@@ -1,6 +1,6 @@
 -- What a wiki keeps from its opening on, the start and the journal that it tells of this, and what holds of them at all
 -- times (own).
-use Rattle.std.specs.Prelude.{ℕ, ◌≤◌, All, Bool, false, length, List, Option}
+use Rattle.std.specs.Prelude.{ℕ, ◌≤◌, All, Bool, false, length, List, None, Option}
 use Rattle.wk_page_rules.specs.Verdict.{MostHeld}
 use Rattle.wk_state_rules.specs.States.{State}
 use Rattle.wk_state_rules.specs.Events.{Event}
@@ -25,13 +25,14 @@ pub record Life : Type 0 where
   -- the present state
   pub state : State
 
--- what it tells of the start; that the keeper tells its tables isn't kept
+-- what it tells of the start; of the keeper nothing else is kept
 abbrev pub start_of : Life → Start
 start_of life = record {
   state = told_start life.kept life.state.history;
   limits = life.limits;
   whole = life.whole;
   tells = false;
+  failed = None;
   sealed = life.sealed;
 }
 

@@ -13,7 +13,7 @@ use Rattle.wk_life_laws.specs.Lives.{Life, IsLife, journal_of, start_of}
 
 -- the start of a wiki that begins in this state
 abbrev pub new_start : State → MostHeld → Bool → Start
-new_start state limits whole = record { state = state; limits = limits; whole = whole; tells = false; sealed = None }
+new_start state limits whole = record { state = state; limits = limits; whole = whole; tells = false; failed = None; sealed = None }
 
 -- what a wiki keeps that begins in this state
 abbrev pub begun : State → MostHeld → Bool → Life

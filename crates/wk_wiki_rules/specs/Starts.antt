@@ -15,6 +15,8 @@ pub record Start : Type 0 where
   pub whole : Bool
   -- the keeper tells its tables
   pub tells : Bool
+  -- how often the keeper has failed, where it can't any more
+  pub failed : Option ℕ
   -- the point from which on the journal gets no save, where there is one
   pub sealed : Option ℕ
 

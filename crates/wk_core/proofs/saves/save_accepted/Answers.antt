@@ -51,6 +51,7 @@ pub returns-in-Ok-apply-clause-event : goal.returns-in-Ok-apply-clause-event
 returns-in-Ok-apply-clause-event g c =
     made-from g.K.Keeper.told g.K.Keeper.faults g.K.Keeper.is_whole c.args.keeper.now c.apply.new.self c.args.life.now.life c.save-new.new.self.life (Save c.args.title c.args.text c.args.moment) (subst (λ (l : Life). IsNext l (Save c.args.title c.args.text c.args.moment) c.save-new.new.self.life) c.in-Ok.ensures.life c.save-new.ensures.next) c.in-Ok-apply.ensures.stays_whole
     c.in-Ok-apply.ensures.tells
+    c.in-Ok-apply.ensures.whole
 
 pub returns-in-Ok-apply-clause-saved : goal.returns-in-Ok-apply-clause-saved
 returns-in-Ok-apply-clause-saved g c =

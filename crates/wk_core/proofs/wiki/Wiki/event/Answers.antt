@@ -7,5 +7,5 @@ use Rattle.wk_core.proofs.wiki.Wiki.event.Goals as goal
 pub returns : goal.returns
 returns g c =
     c.entry.ensures.value
-    ∙ (ap (λ es. entry_at es c.args.number) (entries-are g.K.Keeper.is_whole g.K.Keeper.told c.self.inside.life.life c.self.inside.keeper c.facts.ensures c.entry.ensures.named)
+    ∙ (ap (λ es. entry_at es c.args.number) (entries-are g.K.Keeper.is_whole g.K.Keeper.told g.K.Keeper.faults c.self.inside.life.life c.self.inside.keeper c.facts.ensures c.entry.ensures.named)
     ∙ ap (λ (w : WikiSeen g.row.K.Denot). entry_at (entries_seen w) c.args.number) c.self.view_is)

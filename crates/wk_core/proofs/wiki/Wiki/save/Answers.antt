@@ -5,8 +5,8 @@ use Rattle.wk_core.proofs.wiki.Wiki.save.Goals as goal
 
 pub invariant_of-self : goal.invariant_of-self
 invariant_of-self g c =
-    let old = seen g.K.Keeper.is_whole g.K.Keeper.told c.self.inside.life.life c.self.inside.keeper in
-    let new = seen g.K.Keeper.is_whole g.K.Keeper.told c.save_accepted.new.life.life c.save_accepted.new.keeper in
+    let old = seen g.K.Keeper.is_whole g.K.Keeper.told g.K.Keeper.faults c.self.inside.life.life c.self.inside.keeper in
+    let new = seen g.K.Keeper.is_whole g.K.Keeper.told g.K.Keeper.faults c.save_accepted.new.life.life c.save_accepted.new.keeper in
     record {
       tables = c.save_accepted.ensures.told;
       cache =
