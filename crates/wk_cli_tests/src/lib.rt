@@ -1,4 +1,4 @@
-//! Tests of the program's top call on `check`, `jobs` and `gen`, on its words and on help, and nothing else.
+//! Tests of the program's top call on `check`, `jobs`, `gen` and `serve`, on its words and on help, and nothing else.
 #![tactic(auto)]
 
 #[cfg(test)]

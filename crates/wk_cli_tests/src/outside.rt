@@ -1,34 +1,152 @@
 //! Calls of the outside that fail, and stores that are bad.
-use crate::runs::{Fails, NONE, Ran, run};
+use crate::runs::{Fails, NONE, run};
 use std::alloc::Global;
+use std::sync::Wait;
 use std::test::Fail;
+use std::thread::Threads;
 use wk_bytes::Text;
 use wk_memory::Memory;
 use wk_tables::{BadStore, PageRow, TableRows, Tables};
 
-/// A run over an empty store.
-fn ran(rt: &HostRuntime, words: &str, fails: Fails) -> Result<Ran, Memory> {
-    run(rt, words, "", Tables::new(rt.alloc()), fails)
-}
+/// The line that `serve` begins with.
+const LISTENING: &str = "listening on 127.0.0.1:8080\n";
 
-/// Each command with a call that fails: of the vault, of the store, of the output. A load is the store's first call.
-const FAILS: [(&str, Fails, u8, &str); 9] = [
+/// Each command with a call that fails: of the vault, of the store, of the output, of the door. A load is the store's first call.
+const FAILS: [(&str, Fails, u8, &str); 18] = [
     ("wiki check", Fails { vault: 1, ..NONE }, 5, ""),
     ("wiki jobs", Fails { vault: 1, ..NONE }, 5, ""),
     ("wiki gen --pages 1", Fails { vault: 1, ..NONE }, 5, ""),
-    ("wiki check", Fails { store: 1, ..NONE }, 5, ""),
-    ("wiki gen --pages 1", Fails { store: 3, ..NONE }, 5, ""),
-    ("wiki gen --pages 1", Fails { store: 5, ..NONE }, 5, ""),
+    (
+        "wiki serve",
+        Fails {
+            vault: 1,
+            door: 1,
+            ..NONE
+        },
+        5,
+        "",
+    ),
+    (
+        "wiki check",
+        Fails {
+            store: &[1],
+            ..NONE
+        },
+        5,
+        "",
+    ),
+    (
+        "wiki gen --pages 1",
+        Fails {
+            store: &[3],
+            ..NONE
+        },
+        5,
+        "",
+    ),
+    (
+        "wiki gen --pages 1",
+        Fails {
+            store: &[5],
+            ..NONE
+        },
+        5,
+        "",
+    ),
+    (
+        "wiki gen --pages 1 --procs 4",
+        Fails {
+            store: &[5],
+            ..NONE
+        },
+        5,
+        "",
+    ),
+    (
+        "wiki serve",
+        Fails {
+            store: &[1],
+            door: 1,
+            ..NONE
+        },
+        5,
+        "",
+    ),
     ("wiki check", Fails { write: 1, ..NONE }, 4, ""),
     ("wiki jobs", Fails { write: 1, ..NONE }, 4, ""),
     ("wiki gen --pages 1", Fails { write: 1, ..NONE }, 4, ""),
+    ("wiki serve", Fails { write: 1, ..NONE }, 4, ""),
+    ("wiki serve", Fails { write: 2, ..NONE }, 4, LISTENING),
+    ("wiki serve", Fails { door: 1, ..NONE }, 6, ""),
+    ("wiki serve", Fails { door: 2, ..NONE }, 6, LISTENING),
+    ("wiki jobs", Fails { door: 1, ..NONE }, 0, "jobs 0\n"),
+    (
+        "wiki serve --workers 1",
+        NONE,
+        0,
+        "listening on 127.0.0.1:8080\nserved 0\n",
+    ),
 ];
 
 #[test]
 fn a_call_that_fails_ends_the_program(rt: HostRuntime) -> Result<(), Fail> {
+    let alloc = rt.alloc();
     for (words, fails, status, written) in &FAILS {
-        let ran = ran(&rt, words, *fails)?;
+        let ran = run(&rt, alloc, words, "", Tables::new(alloc), *fails)?;
         assert!(rt; ran.ends(*status, written) && ran.points == 0, "{words}");
+    }
+    Ok(())
+}
+
+/// A script that saves two pages, each of which has a job then.
+const TWO_PAGES: &str =
+    "api action=edit&title=A&text=a&token=%2B%5C\napi action=edit&title=B&text=b&token=%2B%5C\n";
+
+/// The tables of a store with two jobs.
+fn two_jobs<R: Threads + Wait + Sync>(rt: &R, alloc: Global) -> Result<Tables, Memory> {
+    let ran = run(
+        rt,
+        alloc,
+        "wiki script",
+        TWO_PAGES,
+        Tables::new(alloc),
+        NONE,
+    )?;
+    ran.tables.ok_or(Memory)
+}
+
+/// The call of a store with two jobs that fails, and how many jobs are left then by one worker: at the first job, or at the second
+/// one.
+const STORE_FAILS: [(&[u64], usize); 2] = [(&[2], 2), (&[3], 1)];
+
+#[test]
+fn a_store_that_fails_keeps_its_jobs(rt: HostRuntime) -> Result<(), Fail> {
+    let alloc = rt.alloc();
+    for (store, jobs) in STORE_FAILS {
+        let fails = Fails { store, ..NONE };
+        let ran = run(&rt, alloc, "wiki jobs", "", two_jobs(&rt, alloc)?, fails)?;
+        assert!(rt; ran.ends(5, "") && ran.leaves_jobs(jobs), "{jobs}");
+    }
+    Ok(())
+}
+
+/// The calls of a store with two jobs that fail: one, or all once it is loaded.
+const ONCE_OR_FOR_GOOD: [&[u64]; 2] = [&[2], &[2, 3, 4, 5, 6, 7, 8, 9]];
+
+#[test]
+fn a_store_that_fails_ends_all_workers(rt: HostRuntime) -> Result<(), Fail> {
+    let alloc = rt.alloc();
+    for store in ONCE_OR_FOR_GOOD {
+        let fails = Fails { store, ..NONE };
+        let ran = run(
+            &rt,
+            alloc,
+            "wiki jobs --procs 4",
+            "",
+            two_jobs(&rt, alloc)?,
+            fails,
+        )?;
+        assert!(rt; ran.ends(5, ""));
     }
     Ok(())
 }
@@ -51,8 +169,13 @@ fn bad_tables(alloc: Global) -> Result<Tables, Memory> {
 #[test]
 fn a_bad_store_is_told(rt: HostRuntime) -> Result<(), Fail> {
     let alloc = rt.alloc();
-    for words in ["wiki check", "wiki jobs", "wiki gen --pages 1"] {
-        let ran = run(&rt, words, "", bad_tables(alloc)?, NONE)?;
+    for words in [
+        "wiki check",
+        "wiki jobs --procs 4",
+        "wiki gen --pages 1",
+        "wiki serve",
+    ] {
+        let ran = run(&rt, alloc, words, "", bad_tables(alloc)?, NONE)?;
         assert!(rt; ran.ends(7, ""), "{words}");
         assert_eq!(rt; ran.bad, Some(BadStore { rule: 2, row: 2 }), "{words}");
     }

@@ -1,5 +1,5 @@
 //! What the commands do over stores.
-use crate::runs::{Run, chain};
+use crate::runs::{Run, chain, has_jobs};
 use std::alloc::Global;
 use std::test::Fail;
 use wk_bytes::Text;
@@ -7,35 +7,28 @@ use wk_memory::Memory;
 use wk_tables::{LinkRow, PageRow, RevisionRow, TableRows, Tables};
 
 /// Pages are generated and then compared; the store has them, and no job.
-const GENERATED: [Run; 2] = [
+const GENERATED: [Run; 3] = [
     (
         "wiki gen --pages 50 --number 1 --procs 4",
         "",
         0,
         "pages 52 revisions 52 jobs 0 differ 0\n",
     ),
-    ("wiki check", "", 0, "pages 52 differ 0\n"),
+    ("wiki check --procs 4", "", 0, "pages 52 differ 0\n"),
+    ("wiki jobs --procs 4", "", 0, "jobs 0\n"),
 ];
 
 #[test]
 fn pages_are_generated(rt: HostRuntime) -> Result<(), Fail> {
     let alloc = rt.alloc();
-    let left = chain(&rt, Tables::new(alloc), &GENERATED)?;
-    assert!(rt; left.is_ok_and(|tables| tables.revisions().len() == 52 && has_no_job(&tables)));
+    let left = chain(&rt, alloc, Tables::new(alloc), &GENERATED)?;
+    assert!(rt; left.is_ok_and(|tables| tables.revisions().len() == 52 && has_jobs(&tables, 0)));
     Ok(())
-}
-
-/// Whether no job is left.
-fn has_no_job(tables: &Tables) -> bool {
-    match tables.rows() {
-        Ok(rows) => rows.jobs.is_empty(),
-        Err(_) => false,
-    }
 }
 
 /// Two pages are saved, each with a job. Where the journal takes one event, no job can be done: a claim needs room for two.
 /// Where it takes two, it begins anew between the jobs.
-const LIMITED: [Run; 5] = [
+const LIMITED: [Run; 6] = [
     (
         "wiki script",
         "api action=edit&title=A&text=a&token=%2B%5C\napi action=edit&title=B&text=b&token=%2B%5C\n",
@@ -45,6 +38,7 @@ const LIMITED: [Run; 5] = [
 ",
     ),
     ("wiki jobs --journal-limit 1", "", 10, ""),
+    ("wiki jobs --journal-limit 1 --procs 4", "", 10, ""),
     ("wiki jobs --journal-limit 2", "", 0, "jobs 0\n"),
     ("wiki jobs --journal-limit 1", "", 0, "jobs 0\n"),
     ("wiki gen --pages 1 --journal-limit 2", "", 10, ""),
@@ -53,7 +47,7 @@ const LIMITED: [Run; 5] = [
 #[test]
 fn a_short_journal_begins_anew(rt: HostRuntime) -> Result<(), Fail> {
     let alloc = rt.alloc();
-    let left = chain(&rt, Tables::new(alloc), &LIMITED)?;
+    let left = chain(&rt, alloc, Tables::new(alloc), &LIMITED)?;
     assert!(rt; left.is_ok_and(|tables| tables.revisions().len() == 4));
     Ok(())
 }
@@ -88,8 +82,8 @@ api action=edit&title=D&text=d&token=%2B%5C
 #[test]
 fn a_script_meets_a_short_journal(rt: HostRuntime) -> Result<(), Fail> {
     let alloc = rt.alloc();
-    let left = chain(&rt, Tables::new(alloc), &SHORT)?;
-    assert!(rt; left.is_ok_and(|tables| tables.pages().len() == 4 && has_no_job(&tables)));
+    let left = chain(&rt, alloc, Tables::new(alloc), &SHORT)?;
+    assert!(rt; left.is_ok_and(|tables| tables.pages().len() == 4 && has_jobs(&tables, 0)));
     Ok(())
 }
 
@@ -159,7 +153,7 @@ const DIFFERS: [Run; 4] = [
 #[test]
 fn a_page_that_differs_is_told(rt: HostRuntime) -> Result<(), Fail> {
     let alloc = rt.alloc();
-    let left = chain(&rt, tables_with_link(alloc, 2, "x")?, &DIFFERS)?;
+    let left = chain(&rt, alloc, tables_with_link(alloc, 2, "x")?, &DIFFERS)?;
     assert!(rt; left.is_ok());
     Ok(())
 }
@@ -180,7 +174,12 @@ const OLD: [Run; 4] = [
 #[test]
 fn a_store_of_version_one_is_brought_up(rt: HostRuntime) -> Result<(), Fail> {
     let alloc = rt.alloc();
-    let left = chain(&rt, tables_with_link(alloc, 1, "#REDIRECT [[B]]")?, &OLD)?;
+    let left = chain(
+        &rt,
+        alloc,
+        tables_with_link(alloc, 1, "#REDIRECT [[B]]")?,
+        &OLD,
+    )?;
     assert!(rt; left.is_ok());
     Ok(())
 }

@@ -1,7 +1,9 @@
 // How much is written before a call of the outside fails.
 use crate::runs::{Outside, Ran, SOUND, script};
 use std::alloc::Global;
+use std::sync::Wait;
 use std::test::Fail;
+use std::thread::Threads;
 use wk_keeper::ListVault;
 use wk_memory::Memory;
 
@@ -27,7 +29,7 @@ const THREE_REPLIES: &str =
 "#;
 
 /// A run of the three lines.
-fn ran(rt: &HostRuntime, outside: Outside) -> Result<Ran, Memory> {
+fn ran<R: AllocGlobal + Threads + Wait + Sync>(rt: &R, outside: Outside) -> Result<Ran, Memory> {
     let alloc = rt.alloc();
     let mut vault = ListVault::new(Vec::new(alloc));
     let lines = three_lines(alloc)?;
@@ -35,7 +37,12 @@ fn ran(rt: &HostRuntime, outside: Outside) -> Result<Ran, Memory> {
 }
 
 /// Whether the run ends so, with so many bytes of the replies written.
-fn ends(rt: &HostRuntime, outside: Outside, status: u8, bytes: usize) -> Result<bool, Memory> {
+fn ends<R: AllocGlobal + Threads + Wait + Sync>(
+    rt: &R,
+    outside: Outside,
+    status: u8,
+    bytes: usize,
+) -> Result<bool, Memory> {
     let ran = ran(rt, outside)?;
     Ok(
         ran.status == status
@@ -81,7 +88,10 @@ fn a_full_sink_ends_the_run(rt: HostRuntime) -> Result<(), Fail> {
 }
 
 /// What is written for one line of so many bytes, which has no known form.
-fn written_for(rt: &HostRuntime, bytes: usize) -> Result<Vec<u8>, Memory> {
+fn written_for<R: AllocGlobal + Threads + Wait + Sync>(
+    rt: &R,
+    bytes: usize,
+) -> Result<Vec<u8>, Memory> {
     let alloc = rt.alloc();
     let line = "a".repeat(alloc, bytes)?;
     let mut vault = ListVault::new(Vec::new(alloc));

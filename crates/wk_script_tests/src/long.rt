@@ -3,12 +3,18 @@ use crate::cases::Case;
 use crate::rows::{FORTY_DEEP, LINKED, MANY_USERS};
 use crate::runs::is_answered;
 use std::alloc::Global;
+use std::sync::Wait;
 use std::test::Fail;
+use std::thread::Threads;
 use wk_keeper::ListVault;
 use wk_memory::Memory;
 
 /// Whether a script over an empty store is answered so, with the lines of this text behind it.
-fn answers(rt: &HostRuntime, case: Case, behind: &str) -> Result<bool, Memory> {
+fn answers<R: AllocGlobal + Threads + Wait + Sync>(
+    rt: &R,
+    case: Case,
+    behind: &str,
+) -> Result<bool, Memory> {
     let alloc = rt.alloc();
     let mut case = case;
     case.add_all(behind)?;

@@ -4,7 +4,9 @@ use crate::rows::RACE;
 use crate::runs::{Outside, Ran, SOUND, script};
 use crate::stores::vault;
 use std::alloc::Global;
+use std::sync::Wait;
 use std::test::Fail;
+use std::thread::Threads;
 use wk_core::Tables;
 use wk_keeper::ListVault;
 use wk_memory::Memory;
@@ -40,7 +42,11 @@ fn stops(case: &Case, ran: &Ran, status: u8, replies: u64) -> bool {
     ran.status == status && are_first(case, &ran.written, replies)
 }
 
-fn ran(rt: &HostRuntime, case: &Case, outside: Outside) -> Result<Ran, Memory> {
+fn ran<R: AllocGlobal + Threads + Wait + Sync>(
+    rt: &R,
+    case: &Case,
+    outside: Outside,
+) -> Result<Ran, Memory> {
     let alloc = rt.alloc();
     script(
         rt,
@@ -51,7 +57,11 @@ fn ran(rt: &HostRuntime, case: &Case, outside: Outside) -> Result<Ran, Memory> {
 }
 
 /// A run over a new store, of which the call with this number fails: the first one loads it, as does the last.
-fn ran_over(rt: &HostRuntime, case: &Case, failed: u64) -> Result<Ran, Memory> {
+fn ran_over<R: AllocGlobal + Threads + Wait + Sync>(
+    rt: &R,
+    case: &Case,
+    failed: u64,
+) -> Result<Ran, Memory> {
     let alloc = rt.alloc();
     let mut vault = vault(alloc, Tables::new(alloc), &[], &[failed])?;
     script(rt, &mut vault, case.lines.as_bytes(), SOUND)

@@ -1,6 +1,8 @@
 //! Runs of the program over streams in memory. Nothing else here names what a run is made of, so that little is proved of it.
 use crate::cases::Case;
 use std::alloc::Global;
+use std::sync::Wait;
+use std::thread::Threads;
 use wk_base::{ListClock, MemSink, MemSource};
 use wk_cli::wiki_main;
 use wk_core::BadStore;
@@ -68,8 +70,8 @@ fn version<K: Keeper>(store: Option<K>) -> u64 {
 }
 
 /// A run on these words.
-pub fn run<V: Vault>(
-    rt: &HostRuntime,
+pub fn run<V: Vault, R: AllocGlobal + Threads + Wait + Sync>(
+    rt: &R,
     text: &str,
     vault: &mut V,
     input: &[u8],
@@ -106,8 +108,8 @@ where
 }
 
 /// A run of `wiki script` on this input.
-pub fn script<V: Vault>(
-    rt: &HostRuntime,
+pub fn script<V: Vault, R: AllocGlobal + Threads + Wait + Sync>(
+    rt: &R,
     vault: &mut V,
     input: &[u8],
     outside: Outside,
@@ -119,7 +121,11 @@ where
 }
 
 /// Whether a run of the script goes to its end, writes just the replies and hands back a store of version 2.
-pub fn is_answered<V: Vault>(rt: &HostRuntime, vault: &mut V, case: &Case) -> Result<bool, Memory>
+pub fn is_answered<V: Vault, R: AllocGlobal + Threads + Wait + Sync>(
+    rt: &R,
+    vault: &mut V,
+    case: &Case,
+) -> Result<bool, Memory>
 where
     V::Store: Send,
 {

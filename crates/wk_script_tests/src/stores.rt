@@ -3,7 +3,9 @@ use crate::cases::case_of;
 use crate::rows::REFUSED_ONCE;
 use crate::runs::{Ran, SOUND, is_answered, script};
 use std::alloc::Global;
+use std::sync::Wait;
 use std::test::Fail;
+use std::thread::Threads;
 use wk_bytes::Text;
 use wk_core::{BadStore, Tables};
 use wk_keeper::MemVault;
@@ -78,14 +80,18 @@ fn bad_tables(alloc: Global) -> Result<Tables, Memory> {
     Tables::from_rows(alloc, rows)
 }
 
-fn ran_over(rt: &HostRuntime, vault: MemVault, lines: &str) -> Result<Ran, Memory> {
+fn ran_over<R: AllocGlobal + Threads + Wait + Sync>(
+    rt: &R,
+    vault: MemVault,
+    lines: &str,
+) -> Result<Ran, Memory> {
     let mut vault = vault;
     script(rt, &mut vault, lines.as_bytes(), SOUND)
 }
 
 /// Whether the restart of a store of version 1, of which this call fails, ends so.
-fn old_ends(
-    rt: &HostRuntime,
+fn old_ends<R: AllocGlobal + Threads + Wait + Sync>(
+    rt: &R,
     failed: u64,
     status: u8,
     version: u64,
@@ -128,7 +134,11 @@ fn a_bad_store_is_told(rt: HostRuntime) -> Result<(), Fail> {
 }
 
 /// Whether a script is answered so over a new store of which this call fails.
-fn is_answered_over(rt: &HostRuntime, text: &str, failed: u64) -> Result<bool, Memory> {
+fn is_answered_over<R: AllocGlobal + Threads + Wait + Sync>(
+    rt: &R,
+    text: &str,
+    failed: u64,
+) -> Result<bool, Memory> {
     let alloc = rt.alloc();
     let mut vault = vault(alloc, Tables::new(alloc), &[], &[failed])?;
     is_answered(rt, &mut vault, &case_of(alloc, text)?)

@@ -3,12 +3,14 @@ use crate::cases::case_of;
 use crate::rows::{RACE, ROWS};
 use crate::runs::{SOUND, is_answered, run, script};
 use std::alloc::Global;
+use std::sync::Wait;
 use std::test::Fail;
+use std::thread::Threads;
 use wk_keeper::ListVault;
 use wk_memory::Memory;
 
 /// Whether the script of this text is answered so over an empty store.
-fn answers(rt: &HostRuntime, text: &str) -> Result<bool, Memory> {
+fn answers<R: AllocGlobal + Threads + Wait + Sync>(rt: &R, text: &str) -> Result<bool, Memory> {
     let alloc = rt.alloc();
     is_answered(
         rt,
@@ -33,7 +35,7 @@ fn the_race_is_answered(rt: HostRuntime) -> Result<(), Fail> {
 }
 
 /// Whether a run on these words ends with status 2, and nothing is opened or written.
-fn is_refused(rt: &HostRuntime, words: &str) -> Result<bool, Memory> {
+fn is_refused<R: AllocGlobal + Threads + Wait + Sync>(rt: &R, words: &str) -> Result<bool, Memory> {
     let alloc = rt.alloc();
     let ran = run(
         rt,
@@ -54,7 +56,7 @@ fn other_words_touch_nothing(rt: HostRuntime) -> Result<(), Fail> {
 }
 
 /// The points of the replies to the lines over an empty store.
-fn points(rt: &HostRuntime, lines: &str) -> Result<Vec<u64>, Memory> {
+fn points<R: AllocGlobal + Threads + Wait + Sync>(rt: &R, lines: &str) -> Result<Vec<u64>, Memory> {
     let alloc = rt.alloc();
     let ran = script(
         rt,

@@ -3,7 +3,9 @@
 use sqlite::Connection;
 use std::alloc::Global;
 use std::fs;
+use std::sync::Wait;
 use std::test::Fail;
+use std::thread::Threads;
 use wk_base::{ListClock, MemSink, MemSource};
 use wk_cli::{Finish, wiki_main};
 use wk_door::MemDoor;
@@ -24,8 +26,9 @@ fn words(alloc: Global, text: &str) -> Result<Vec<String>, Memory> {
 }
 
 /// The status of a run. The store that it hands back is let go.
-fn status(
-    rt: &HostRuntime,
+fn status<R: Threads + Wait + Sync>(
+    rt: &R,
+    alloc: Global,
     door: &mut MemDoor,
     words: &[String],
     vault: &mut FileVault<'_>,
@@ -38,30 +41,28 @@ fn status(
         points: _,
         bad: _,
         store: _,
-    } = wiki_main(
-        rt,
-        rt.alloc(),
-        words,
-        vault,
-        source,
-        sink,
-        clock,
-        door,
-        NoGate,
-    );
+    } = wiki_main(rt, alloc, words, vault, source, sink, clock, door, NoGate);
     status
 }
 
-/// The status of a run on these words and this input, whose output goes to the sink.
-fn run(rt: &HostRuntime, text: &str, input: &str, sink: &mut MemSink) -> Result<u8, Memory> {
-    let alloc = rt.alloc();
+/// The status of a run on these words and this input, whose files and whose threads these runtimes give, and whose output goes to
+/// the sink.
+fn run<R: Threads + Wait + Sync>(
+    files: &HostRuntime,
+    rt: &R,
+    text: &str,
+    input: &str,
+    sink: &mut MemSink,
+) -> Result<u8, Memory> {
+    let alloc = files.alloc();
     let words = words(alloc, text)?;
-    let mut vault = FileVault::new(rt);
+    let mut vault = FileVault::new(files);
     let mut source = MemSource::new(input.as_bytes().to_vec(alloc)?, Vec::new(alloc));
     let mut clock = ListClock::new([7].to_vec(alloc)?);
     let mut door = MemDoor::new(alloc, Vec::new(alloc), 0, Vec::new(alloc))?;
     Ok(status(
         rt,
+        alloc,
         &mut door,
         &words,
         &mut vault,
@@ -72,18 +73,26 @@ fn run(rt: &HostRuntime, text: &str, input: &str, sink: &mut MemSink) -> Result<
 }
 
 /// Whether the run ends as is expected.
-fn is_as_expected(rt: &HostRuntime, expected: &Run) -> Result<bool, Memory> {
+fn is_as_expected<R: Threads + Wait + Sync>(
+    files: &HostRuntime,
+    rt: &R,
+    expected: &Run,
+) -> Result<bool, Memory> {
     let (words, input, written) = *expected;
-    let alloc = rt.alloc();
+    let alloc = files.alloc();
     let mut sink = MemSink::new(alloc, 65_536, Vec::new(alloc))?;
-    let status = run(rt, words, input, &mut sink)?;
+    let status = run(files, rt, words, input, &mut sink)?;
     Ok(status == 0 && sink.bytes().ends_with(written.as_bytes()))
 }
 
 /// Whether each of the runs, one after the other, ends as is expected.
-fn are_as_expected(rt: &HostRuntime, runs: &[Run]) -> Result<bool, Memory> {
+fn are_as_expected<R: Threads + Wait + Sync>(
+    files: &HostRuntime,
+    rt: &R,
+    runs: &[Run],
+) -> Result<bool, Memory> {
     for expected in runs {
-        if !is_as_expected(rt, expected)? {
+        if !is_as_expected(files, rt, expected)? {
             return Ok(false);
         }
     }
@@ -101,10 +110,10 @@ fn begin_anew(rt: &HostRuntime, name: &str) -> Result<(), Fail> {
     Ok(())
 }
 
-/// Pages are generated, and compared by the next run.
+/// Pages are generated, by workers that share the file, and compared by the next run.
 static GENERATED: [Run; 2] = [
     (
-        "wiki gen --store wk_store_tests/gen",
+        "wiki gen --store wk_store_tests/gen --procs 4",
         "",
         "pages 52 revisions 52 jobs 0 differ 0\n",
     ),
@@ -118,7 +127,7 @@ static GENERATED: [Run; 2] = [
 #[test]
 fn generated_pages_are_there_again(rt: HostRuntime) -> Result<(), Fail> {
     begin_anew(&rt, "wk_store_tests/gen")?;
-    assert!(rt; are_as_expected(&rt, &GENERATED)?);
+    assert!(rt; are_as_expected(&rt, &rt, &GENERATED)?);
     Ok(())
 }
 
@@ -170,8 +179,8 @@ fn make_older(rt: &HostRuntime, name: &str) -> Result<(), Fail> {
 #[test]
 fn a_saved_page_is_there_again(rt: HostRuntime) -> Result<(), Fail> {
     begin_anew(&rt, "wk_store_tests/saved")?;
-    assert!(rt; are_as_expected(&rt, &SAVED)?);
+    assert!(rt; are_as_expected(&rt, &rt, &SAVED)?);
     make_older(&rt, "wk_store_tests/saved")?;
-    assert!(rt; are_as_expected(&rt, &MIGRATED)?);
+    assert!(rt; are_as_expected(&rt, &rt, &MIGRATED)?);
     Ok(())
 }
