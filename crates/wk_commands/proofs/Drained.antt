@@ -1,5 +1,5 @@
 -- What a drain does as a command.
-use Rattle.std.proofs.Common.{◌≡◌, ◌≢◌, ℕ, Bool, List, Option, inl, inr, refl, sym, ◌∙◌, subst}
+use Rattle.std.proofs.Common.{◌≡◌, ◌≢◌, ℕ, ◌≤◌, Bool, List, Option, inl, inr, refl, sym, ◌∙◌, subst}
 use Rattle.std.specs.Io.KnownBytes.{Keeps}
 use Rattle.std.proofs.KnownBytes.{Keeps-refl}
 use Rattle.wk_tool_rules.specs.Checks.{jobs_text}
@@ -10,7 +10,7 @@ use Rattle.wk_serving.specs.Drains.{IsDrainedBy}
 use Rattle.wk_tools.specs.Drains.{CanBeFull}
 use Rattle.wk_tools.specs.declared.drains.DrainEnd.{DrainEnd}
 use Rattle.wk_tools.specs.declared.drains.DrainEnd.TheVariants as drain
-use Rattle.wk_commands.specs.Drained.{EndsJobs, IsDrained, StoreFailed}
+use Rattle.wk_commands.specs.Drained.{EndsJobs, IsDrained}
 use Rattle.wk_commands.specs.Written.{HasWritten}
 use Rattle.wk_commands.specs.declared.ends.CommandEnd.{CommandEnd}
 use Rattle.wk_commands.specs.declared.ends.CommandEnd.TheVariants.{Done, Differs, DoorFault, Full, Memory, StoreFault, WriteFault}
@@ -24,10 +24,10 @@ kept : (before after : Option (List ℕ)) → after ≡ before → Keeps before 
 kept before after is = subst (Keeps before) (sym is) (Keeps-refl before)
 
 module _ {K : Type 0} (is_whole : K → Bool) (faults : K → ℕ) (old new : WikiSeen K) (opening : HasOpened old old.start.limits) (run : IsRun old.start old.journal old.state)
-    (before after : Option (List ℕ)) (end : CommandEnd) where
+    (held : is_whole old.keeper ≡ old.start.whole) (left : is_whole new.keeper ≡ new.start.whole) (before after : Option (List ℕ)) (end : CommandEnd) where
   -- before the end
-  until : (at : CommandEnd) (drained : DrainEnd) → IsDrainedBy is_whole faults old new drained → end ≡ at → Done ≢ at → WriteFault ≢ at → Differs ≢ at → DoorFault ≢ at → HasWritten at jobs_text before after
-      → (end ≡ Full → CanBeFull old) → (end ≡ StoreFault → StoreFailed is_whole faults old new) → IsDrained is_whole faults old new before after end
+  until : (at : CommandEnd) (drained : DrainEnd) → IsDrainedBy faults old new drained → end ≡ at → Done ≢ at → WriteFault ≢ at → Differs ≢ at → DoorFault ≢ at → HasWritten at jobs_text before after
+      → (end ≡ Full → CanBeFull old) → (end ≡ StoreFault → 1 ≤ faults new.keeper) → IsDrained is_whole faults old new before after end
   until at drained by is not_done not_write not_differs not_door written full fault = record {
     lived = lived-on old opening new by.lived;
     history = by.history;
@@ -38,9 +38,11 @@ module _ {K : Type 0} (is_whole : K → Bool) (faults : K → ℕ) (old new : Wi
     fault = fault;
     compares_nothing = λ differs. not_differs (sym differs ∙ is);
     no_door = λ door. not_door (sym door ∙ is);
+    tells = by.tells;
+    stays_whole = left ∙ (by.whole ∙ sym held);
   }
 
-  pub drained-by : (drained : DrainEnd) → IsDrainedBy is_whole faults old new drained → EndsJobs drained end before after → IsDrained is_whole faults old new before after end
+  pub drained-by : (drained : DrainEnd) → IsDrainedBy faults old new drained → EndsJobs drained end before after → IsDrained is_whole faults old new before after end
   drained-by drain.Done by ends = record {
     lived = lived-on old opening new by.lived;
     history = by.history;
@@ -51,6 +53,8 @@ module _ {K : Type 0} (is_whole : K → Bool) (faults : K → ℕ) (old new : Wi
     fault = λ fault. absurd (whole-not end StoreFault ends.1 (λ e. cc) (λ e. cc) fault);
     compares_nothing = whole-not end Differs ends.1 (λ e. cc) (λ e. cc);
     no_door = whole-not end DoorFault ends.1 (λ e. cc) (λ e. cc);
+    tells = by.tells;
+    stays_whole = left ∙ (by.whole ∙ sym held);
   }
   drained-by drain.JournalFull by ends =
       until Full drain.JournalFull by ends.0 (λ e. cc) (λ e. cc) (λ e. cc) (λ e. cc) (kept before after ends.1) (λ _. by.full refl)

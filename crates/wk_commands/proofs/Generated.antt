@@ -1,9 +1,10 @@
 -- What the generator does as a command.
-use Rattle.std.proofs.Common.{◌≡◌, ◌≢◌, ℕ, Bool, List, take, Option, refl, sym, ◌∙◌, inl, inr, subst}
+use Rattle.std.proofs.Common.{◌≡◌, ◌≢◌, ℕ, ◌≤◌, Bool, List, take, Option, refl, sym, ap, ◌∙◌, inl, inr, subst}
 use Rattle.std.specs.Io.KnownBytes.{Keeps}
 use Rattle.std.proofs.KnownBytes.{Keeps-refl}
 use Rattle.wk_page_rules.specs.Verdict.{EditAsked}
 use Rattle.wk_state_rules.specs.Soundness.{IsSound}
+use Rattle.wk_wiki_rules.specs.Starts.{Start}
 use Rattle.wk_tool_rules.specs.Checks.{gen_text}
 use Rattle.wk_tool_laws.proofs.Differing.{none-differs}
 use Rattle.wk_core.specs.Loads.{HasOpened}
@@ -16,7 +17,6 @@ use Rattle.wk_tools.specs.declared.drains.DrainEnd.{DrainEnd}
 use Rattle.wk_tools.specs.declared.drains.DrainEnd.TheVariants as drain
 use Rattle.wk_tools.specs.Lived.{HasLived}
 use Rattle.wk_tools.specs.Saves.{HasSaved, IsRefusedAt, made_of}
-use Rattle.wk_commands.specs.Drained.{StoreFailed}
 use Rattle.wk_commands.specs.Generated.{EndsDrain, IsSettled, end_of_refusal}
 use Rattle.wk_commands.specs.Lived.{HasLivedOn}
 use Rattle.wk_commands.specs.Written.{HasWritten}
@@ -27,10 +27,11 @@ use Rattle.wk_commands.proofs.Lives.{made-on, made-then-lived}
 kept : (before after : Option (List ℕ)) → after ≡ before → Keeps before after
 kept before after is = subst (Keeps before) (sym is) (Keeps-refl before)
 
-module _ {K : Type 0} (is_whole : K → Bool) (faults : K → ℕ) (old new : WikiSeen K) (before after : Option (List ℕ)) (end : CommandEnd) where
+module _ {K : Type 0} (is_whole : K → Bool) (faults : K → ℕ) (old new : WikiSeen K) (held : is_whole old.keeper ≡ old.start.whole) (left : is_whole new.keeper ≡ new.start.whole)
+    (before after : Option (List ℕ)) (end : CommandEnd) where
   -- the drain ended before
-  until : (at : CommandEnd) (drained : DrainEnd) → IsDrainedBy is_whole faults old new drained → end ≡ at → Done ≢ at → WriteFault ≢ at → Differs ≢ at → DoorFault ≢ at → HasWritten at (gen_text new.state) before after
-      → (end ≡ Full → CanBeFull old) → (end ≡ StoreFault → StoreFailed is_whole faults old new) → IsSettled is_whole faults old new before after end
+  until : (at : CommandEnd) (drained : DrainEnd) → IsDrainedBy faults old new drained → end ≡ at → Done ≢ at → WriteFault ≢ at → Differs ≢ at → DoorFault ≢ at → HasWritten at (gen_text new.state) before after
+      → (end ≡ Full → CanBeFull old) → (end ≡ StoreFault → 1 ≤ faults new.keeper) → IsSettled is_whole faults old new before after end
   until at drained by is not_done not_write not_differs not_door written full fault = record {
     lived = by.lived;
     history = by.history;
@@ -41,10 +42,12 @@ module _ {K : Type 0} (is_whole : K → Bool) (faults : K → ℕ) (old new : Wi
     full = full;
     fault = fault;
     no_door = λ door. not_door (sym door ∙ is);
+    tells = by.tells;
+    stays_whole = left ∙ (by.whole ∙ sym held);
   }
 
   -- the drain went to its end, and the pages were compared; or it ended before
-  pub settled-by : (drained : DrainEnd) → IsDrainedBy is_whole faults old new drained → EndsDrain new.state drained end before after → IsSettled is_whole faults old new before after end
+  pub settled-by : (drained : DrainEnd) → IsDrainedBy faults old new drained → EndsDrain new.state drained end before after → IsSettled is_whole faults old new before after end
   settled-by drain.Done by compared = record {
     lived = by.lived;
     history = by.history;
@@ -55,6 +58,8 @@ module _ {K : Type 0} (is_whole : K → Bool) (faults : K → ℕ) (old new : Wi
     full = λ full. absurd (compared.not_full full);
     fault = λ fault. absurd (compared.no_fault fault);
     no_door = compared.no_door;
+    tells = by.tells;
+    stays_whole = left ∙ (by.whole ∙ sym held);
   }
   settled-by drain.JournalFull by ends =
       until Full drain.JournalFull by ends.0 (λ e. cc) (λ e. cc) (λ e. cc) (λ e. cc) (kept before after ends.1) (λ _. by.full refl)
@@ -93,3 +98,12 @@ module _ {K : Type 0} (old : WikiSeen K) (opening : HasOpened old old.start.limi
 
   pub refused-on : (new : WikiSeen K) (edits : List EditAsked) (left : Option (List ℕ)) (why : SaveRefusal) → IsRefusedAt old new edits left why → HasLivedOn old.state new.state
   refused-on new edits left why refused = made-on old opening new (made_of old (take refused.count edits) refused.saved.moments).events refused.saved.made
+
+-- ---- the keeper
+
+module _ {K : Type 0} (is_whole : K → Bool) (old middle new : WikiSeen K) (same : middle.start ≡ old.start) (held : is_whole old.keeper ≡ old.start.whole) (kept_whole : is_whole middle.keeper ≡ middle.start.whole) where
+  pub tells-on : new.start.tells ≡ middle.start.tells → new.start.tells ≡ old.start.tells
+  tells-on tells = tells ∙ ap (λ (s : Start). s.tells) same
+
+  pub whole-on : is_whole new.keeper ≡ is_whole middle.keeper → is_whole new.keeper ≡ is_whole old.keeper
+  whole-on whole = whole ∙ (kept_whole ∙ (ap (λ (s : Start). s.whole) same ∙ sym held))

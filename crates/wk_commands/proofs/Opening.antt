@@ -1,5 +1,6 @@
 -- A wiki that was opened over a keeper, and what is left of it.
-use Rattle.std.proofs.Common.{◌≡◌, ◌≤◌, ℕ, Bool, true, List, Option, Some, IfSome, Result, Ok, Err, refl, sym, ap, ◌∙◌, subst}
+use Rattle.std.proofs.Common.{◌≡◌, ◌≤◌, ℕ, Bool, true, List, Option, Some, IfSome, Result, Ok, Err, refl, sym, ap, ◌∙◌, subst, arith}
+use Rattle.std.specs.Prelude.{is_some}
 use Rattle.wk_page_rules.specs.Verdict.{MostHeld}
 use Rattle.wk_base.specs.Faults.{Rose}
 use Rattle.wk_table_rules.specs.GoodStore.{first_broken}
@@ -8,8 +9,11 @@ use Rattle.wk_core.specs.declared.outcomes.LoadCause.{LoadCause}
 use Rattle.wk_core.specs.declared.outcomes.LoadCause.TheVariants as cause
 use Rattle.wk_core.specs.Loads.{HasOpened, bad_store_of}
 use Rattle.wk_core.specs.Seen.{WikiSeen}
-use Rattle.wk_commands.specs.Worked.{IsNotOpened}
+use Rattle.wk_core.specs.Steps.{KeeperGoesOn}
+use Rattle.wk_commands.specs.Worked.{IsNotOpened, IsWorked}
 use Rattle.wk_commands.specs.declared.ends.CommandEnd.{CommandEnd}
+use Rattle.wk_commands.specs.declared.works.Work.{Work}
+use Rattle.wk_commands.specs.declared.works.Work.TheVariants.{Check}
 
 module _ {K : Type 0} where
   pub opened-as : (wiki : WikiSeen K) (most limits : MostHeld) → most ≡ limits → HasOpened wiki most → HasOpened wiki limits
@@ -18,8 +22,8 @@ module _ {K : Type 0} where
 -- nothing happened, and the keeper that is left has the tables
 pub unopened-left : {K : Type 0} (told : K → Option StoreTables) (faults : K → ℕ) (is_whole : K → Bool) (keeper left given : K) (moments before : Option (List ℕ)) (why : LoadCause) → left ≡ given → told given ≡ told keeper
     → IfSome (bad_store_of why) (λ row. IfSome (told keeper) (λ tables. first_broken tables ≡ Some row)) → (why ≡ cause.StoreFault → Rose (faults keeper) (faults given)) → faults keeper ≤ faults given
-    → (is_whole keeper ≡ true → faults given ≡ faults keeper) → IsNotOpened told faults is_whole keeper left moments moments before before why
-unopened-left told faults is_whole keeper left given moments before why is tables broken fault never_falls whole = record {
+    → (is_whole keeper ≡ true → faults given ≡ faults keeper) → is_whole given ≡ is_whole keeper → IsNotOpened told faults is_whole keeper left moments moments before before why
+unopened-left told faults is_whole keeper left given moments before why is tables broken fault never_falls whole stays_whole = record {
   no_moment = refl;
   nothing_written = refl;
   tables = ap told is ∙ tables;
@@ -27,7 +31,21 @@ unopened-left told faults is_whole keeper left given moments before why is table
   fault = λ failed. subst (λ k. Rose (faults keeper) (faults k)) (sym is) (fault failed);
   never_falls = subst (λ k. faults keeper ≤ faults k) (sym is) never_falls;
   whole = λ is_so. ap faults is ∙ whole is_so;
+  stays_whole = ap is_whole is ∙ stays_whole;
 }
+
+-- a wiki that was compared stays as it is, and its keeper
+pub checked-on : {K : Type 0} (told : K → Option StoreTables) (faults : K → ℕ) (is_whole : K → Bool) (work : Work) (first last : WikiSeen K) (keeper left : K) (moments later before after : Option (List ℕ)) (end : CommandEnd)
+    → IsWorked is_whole faults work first last moments later before after end → left ≡ last.keeper → faults first.keeper ≡ faults keeper → is_some (told left) ≡ is_some (told keeper) → is_whole left ≡ is_whole keeper
+    → work ≡ Check → KeeperGoesOn told faults is_whole keeper left
+checked-on told faults is_whole work first last keeper left moments later before after end worked is same_count tells stays_whole asked =
+    let same : last ≡ first = (subst (λ (w : Work). IsWorked is_whole faults w first last moments later before after end) asked worked).0 in
+    let count : faults left ≡ faults keeper = ap faults is ∙ (ap (λ (w : WikiSeen K). faults w.keeper) same ∙ same_count) in record {
+      tells = tells;
+      never_falls = omega (arith, count);
+      whole = λ _. count;
+      stays_whole = stays_whole;
+    }
 
 -- ---- an end or a cause
 
