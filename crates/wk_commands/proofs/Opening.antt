@@ -8,7 +8,7 @@ use Rattle.wk_table_rules.specs.Rows.{StoreTables}
 use Rattle.wk_core.specs.declared.outcomes.LoadCause.{LoadCause}
 use Rattle.wk_core.specs.declared.outcomes.LoadCause.TheVariants as cause
 use Rattle.wk_core.specs.Loads.{HasOpened, bad_store_of}
-use Rattle.wk_core.specs.Seen.{WikiSeen}
+use Rattle.wk_core.specs.Seen.{WikiSeen, failed_where}
 use Rattle.wk_core.specs.Steps.{KeeperGoesOn}
 use Rattle.wk_commands.specs.Worked.{IsNotOpened, IsWorked}
 use Rattle.wk_commands.specs.declared.ends.CommandEnd.{CommandEnd}
@@ -33,6 +33,11 @@ unopened-left told faults is_whole keeper left given moments before why is table
   whole = λ is_so. ap faults is ∙ whole is_so;
   stays_whole = ap is_whole is ∙ stays_whole;
 }
+
+-- a keeper that is whole has failed as often as is told
+pub count-same : (before after : Bool) (old new : ℕ) → after ≡ before → failed_where after new ≡ failed_where before old → before ≡ true → new ≡ old
+count-same before after old new same failed whole =
+    let e : Some new ≡ Some old = ap (λ (b : Bool). failed_where b new) (sym (same ∙ whole)) ∙ (failed ∙ ap (λ (b : Bool). failed_where b old) whole) in cc
 
 -- a wiki that was compared stays as it is, and its keeper
 pub checked-on : {K : Type 0} (told : K → Option StoreTables) (faults : K → ℕ) (is_whole : K → Bool) (work : Work) (first last : WikiSeen K) (keeper left : K) (moments later before after : Option (List ℕ)) (end : CommandEnd)

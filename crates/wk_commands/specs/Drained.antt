@@ -1,5 +1,5 @@
 -- What a drain does as a command (own).
-use Rattle.std.specs.Prelude.{◌≡◌, ◌≢◌, ◌⊎◌, ℕ, ◌≤◌, Bool, List, Option}
+use Rattle.std.specs.Prelude.{◌≡◌, ◌≢◌, ◌⊎◌, ℕ, ◌≤◌, Bool, true, List, Option}
 use Rattle.wk_state_rules.specs.Soundness.{IsSound}
 use Rattle.wk_tool_rules.specs.Checks.{jobs_text}
 use Rattle.wk_core.specs.Seen.{WikiSeen}
@@ -32,3 +32,4 @@ pub record IsDrained {K : Type 0} (is_whole : K → Bool) (faults : K → ℕ) (
   pub no_door : end ≢ DoorFault
   pub tells : new.start.tells ≡ old.start.tells
   pub stays_whole : is_whole new.keeper ≡ is_whole old.keeper
+  pub whole_count : is_whole old.keeper ≡ true → faults new.keeper ≡ faults old.keeper

@@ -1,5 +1,5 @@
 -- What the generator does as a command (own).
-use Rattle.std.specs.Prelude.{◌≡◌, ◌≢◌, ◌⊎◌, ℕ, ◌≤◌, Bool, List, [], Option}
+use Rattle.std.specs.Prelude.{◌≡◌, ◌≢◌, ◌⊎◌, ℕ, ◌≤◌, Bool, true, List, [], Option}
 use Rattle.std.specs.Io.KnownBytes.{Keeps}
 use Rattle.wk_base.specs.Faults.{Rose}
 use Rattle.wk_page_rules.specs.Verdict.{EditAsked}
@@ -45,6 +45,7 @@ pub record IsSettled {K : Type 0} (is_whole : K → Bool) (faults : K → ℕ) (
   pub no_door : end ≢ DoorFault
   pub tells : new.start.tells ≡ old.start.tells
   pub stays_whole : is_whole new.keeper ≡ is_whole old.keeper
+  pub whole_count : is_whole old.keeper ≡ true → faults new.keeper ≡ faults old.keeper
 
 -- These edits were saved, and the wiki settled; or the saves ended at one that was refused, and nothing else was done: where
 -- that is since the store failed, its count of faults rose in the saves.

@@ -45,7 +45,7 @@ pub record IsNotOpened {K : Type 0} (told : K → Option StoreTables) (faults : 
   pub stays_whole : is_whole left ≡ is_whole keeper
 
 -- A wiki was opened over the keeper's tables, and what was asked was done of it. The keeper has the tables of its last state, tells
--- them where it did, and is whole where it was; behind a comparison its count of faults goes on besides.
+-- them where it did, is whole where it was, and then its count of faults stays; behind a comparison that goes on besides.
 pub record IsDoneOver {K : Type 0} (told : K → Option StoreTables) (faults : K → ℕ) (is_whole : K → Bool) (work : Work) (journal : ℕ) (keeper left : K)
     (moments later before after : Option (List ℕ)) (end : CommandEnd) : Type 0 where
   pub first : WikiSeen K
@@ -61,6 +61,7 @@ pub record IsDoneOver {K : Type 0} (told : K → Option StoreTables) (faults : K
   pub tables : IsTold told last.state left
   pub tells : is_some (told left) ≡ is_some (told keeper)
   pub stays_whole : is_whole left ≡ is_whole keeper
+  pub whole_count : is_whole keeper ≡ true → faults left ≡ faults keeper
   pub checked : work ≡ Check → KeeperGoesOn told faults is_whole keeper left
 
 pub data IsWorkedOn {K : Type 0} (told : K → Option StoreTables) (faults : K → ℕ) (is_whole : K → Bool) (work : Work) (journal : ℕ) (keeper left : K)
@@ -73,7 +74,7 @@ pub data IsWorkedOn {K : Type 0} (told : K → Option StoreTables) (faults : K �
 -- ---- serving
 
 -- A wiki was opened over the keeper's tables, and served at an address, of whose door at most so many links were taken. The keeper
--- has the tables of its last state, tells them where it did, and is whole where it was.
+-- has the tables of its last state, tells them where it did, is whole where it was, and then its count of faults stays.
 pub record IsServedOver {K L : Type 0} (told : K → Option StoreTables) (faults : K → ℕ) (is_whole : K → Bool) (address : List ℕ) (most journal : ℕ) (keeper left : K)
     (door door_later : Option (DoorTold L)) (door_faults door_faults_later : ℕ) (before after : Option (List ℕ)) (end : CommandEnd) : Type 0 where
   pub first : WikiSeen K
@@ -88,6 +89,7 @@ pub record IsServedOver {K L : Type 0} (told : K → Option StoreTables) (faults
   pub tables : IsTold told last.state left
   pub tells : is_some (told left) ≡ is_some (told keeper)
   pub stays_whole : is_whole left ≡ is_whole keeper
+  pub whole_count : is_whole keeper ≡ true → faults left ≡ faults keeper
 
 pub data IsServedOn {K L : Type 0} (told : K → Option StoreTables) (faults : K → ℕ) (is_whole : K → Bool) (address : List ℕ) (most journal : ℕ) (keeper left : K)
     (door door_later : Option (DoorTold L)) (door_faults door_faults_later : ℕ) (before after : Option (List ℕ)) (end : Result CommandEnd LoadCause) : Type 0 where

@@ -1,5 +1,5 @@
 //! The command `gen`.
-ghost use Rattle.std.specs.Prelude.{◌≡◌, ◌≢◌, ◌≤◌, ◌==◌, IfOk, None, length, string_bytes};
+ghost use Rattle.std.specs.Prelude.{◌≡◌, ◌≢◌, ◌≤◌, ◌==◌, IfOk, None, length, string_bytes, true};
 ghost use Rattle.wk_base.specs.Faults.{Rose};
 ghost use Rattle.wk_state_rules.specs.Soundness.{IsSound};
 ghost use Rattle.wk_core.specs.Loads.{HasOpened};
@@ -123,6 +123,7 @@ pub fn generate_pages<
     ensures agrees { IsSound wiki.state → result.1 ≢ CommandEnd.Differs }
     ensures tells { result.0.start.tells ≡ wiki.start.tells }
     ensures stays_whole { K.is_whole result.0.keeper ≡ K.is_whole wiki.keeper }
+    ensures whole_count { K.is_whole wiki.keeper ≡ true → K.faults result.0.keeper ≡ K.faults wiki.keeper }
     ensures never_falls { O.faults output.old ≤ O.faults output.new }
     ensures no_write_fault { result.1 ≢ CommandEnd.WriteFault → O.faults output.new ≡ O.faults output.old }
     ensures write_fault { result.1 ≡ CommandEnd.WriteFault → Rose (O.faults output.old) (O.faults output.new) }

@@ -62,6 +62,7 @@ module _ {K : Type 0} (faults : K → ℕ) (old middle : WikiSeen K) (run : IsRu
     limits = limits;
     whole = ap (λ (s : Start). s.whole) sealed.start;
     tells = ap (λ (s : Start). s.tells) sealed.start;
+    failed = ap (λ (s : Start). s.failed) sealed.start;
     done = λ is. absurd (let e : Memory ≡ Done = is in cc);
     full = λ is. absurd (let e : Memory ≡ JournalFull = is in cc);
     fault = λ is. absurd (let e : Memory ≡ StoreFault = is in cc);
@@ -84,13 +85,14 @@ module _ {K : Type 0} (faults : K → ℕ) (old middle : WikiSeen K) (run : IsRu
 
     -- what was left was done on one thread
     pub drained-whole : (end : DrainEnd) → new.state.history ≡ middle.state.history → new.start.limits ≡ middle.start.limits → new.start.whole ≡ middle.start.whole → new.start.tells ≡ middle.start.tells
-        → (end ≡ Done → HasNoJob new.state) → (end ≡ JournalFull → CanBeFull middle) → (end ≡ StoreFault → Rose (faults middle.keeper) (faults new.keeper)) → IsDrainedBy faults old new end
-    drained-whole end history same_limits same_whole same_tells done full fault = record {
+        → new.start.failed ≡ middle.start.failed → (end ≡ Done → HasNoJob new.state) → (end ≡ JournalFull → CanBeFull middle) → (end ≡ StoreFault → Rose (faults middle.keeper) (faults new.keeper)) → IsDrainedBy faults old new end
+    drained-whole end history same_limits same_whole same_tells same_failed done full fault = record {
       lived = both-lived;
       history = history ∙ jobs.history;
       limits = same_limits ∙ limits;
       whole = same_whole ∙ ap (λ (s : Start). s.whole) sealed.start;
       tells = same_tells ∙ ap (λ (s : Start). s.tells) sealed.start;
+      failed = same_failed ∙ ap (λ (s : Start). s.failed) sealed.start;
       done = done;
       full = λ is. full-before (full is);
       fault = λ is. risen (faults middle.keeper) (faults new.keeper) (fault is);

@@ -13,6 +13,7 @@ pub record IsDrainedBy {K : Type 0} (faults : K → ℕ) (old new : WikiSeen K) 
   pub limits : new.start.limits ≡ old.start.limits
   pub whole : new.start.whole ≡ old.start.whole
   pub tells : new.start.tells ≡ old.start.tells
+  pub failed : new.start.failed ≡ old.start.failed
   pub done : end ≡ Done → HasNoJob new.state
   pub full : end ≡ JournalFull → CanBeFull old
   pub fault : end ≡ StoreFault → 1 ≤ faults new.keeper

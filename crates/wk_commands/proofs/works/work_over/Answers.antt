@@ -24,6 +24,8 @@ returns-in-Ok g c =
         tables = c.released.ensures.told;
         tells = tells;
         stays_whole = stays_whole;
+        whole_count = λ is.
+            ap g.K.Keeper.faults c.released.ensures.keeper ∙ (c.do_work-wiki.ensures.whole_count (c.in-Ok.ensures.whole ∙ is) ∙ c.in-Ok.ensures.no_fault);
         checked = checked-on g.K.Keeper.told g.K.Keeper.faults g.K.Keeper.is_whole c.args.work c.in-Ok.wiki c.do_work-wiki.result.0 c.args.keeper c.released.result.keeper
             (g.C.Clock.left c.args.clock.now) (g.C.Clock.left c.do_work-wiki.new.clock) (g.O.Sink.taken c.args.output.now) (g.O.Sink.taken c.do_work-wiki.new.output) c.do_work-wiki.result.1
             c.do_work-wiki.ensures.worked c.released.ensures.keeper c.in-Ok.ensures.no_fault tells stays_whole;
