@@ -1,5 +1,5 @@
 -- Wikis that many threads drain.
-use Rattle.std.proofs.Common.{◌≡◌, ◌⊎◌, ℕ, ◌+◌, ◌≤◌, ◌<◌, false, List, [], ◌++◌, length, Option, Some, None, inl, inr, refl, sym, ap, ap₂, ◌∙◌, subst, append_assoc, arith}
+use Rattle.std.proofs.Common.{◌≡◌, ◌⊎◌, ℕ, ◌+◌, ◌≤◌, ◌<◌, Bool, true, false, List, [], ◌++◌, length, Option, Some, None, inl, inr, refl, sym, ap, ap₂, ◌∙◌, subst, append_assoc, arith}
 use Rattle.std.specs.Prelude.{◌||◌}
 use Rattle.std.specs.List.{list_any}
 use Rattle.std.proofs.lemmas.List.Folds.{list_any-append}
@@ -13,7 +13,8 @@ use Rattle.wk_wiki_rules.specs.Entries.{is_save}
 use Rattle.wk_wiki_rules.specs.Starts.{Start}
 use Rattle.wk_wiki_laws.specs.Numbers.{pages_ahead}
 use Rattle.wk_life_laws.specs.Runs.{IsRun}
-use Rattle.wk_core.specs.Seen.{WikiSeen}
+use Rattle.wk_core.specs.Seen.{WikiSeen, failed_where}
+use Rattle.wk_core.proofs.WikiSteps.{failed-same}
 use Rattle.wk_seal_laws.specs.Sealed.{AddsJobs, IsSealedAt}
 use Rattle.wk_seal_laws.proofs.JobsAdded.{adds-jobs}
 use Rattle.wk_tools.specs.Drains.{CanBeFull, HasNoJob}
@@ -21,6 +22,16 @@ use Rattle.wk_tools.specs.Lived.{HasLived}
 use Rattle.wk_tools.specs.declared.drains.DrainEnd.{DrainEnd}
 use Rattle.wk_tools.specs.declared.drains.DrainEnd.TheVariants.{Done, JournalFull, StoreFault, Memory}
 use Rattle.wk_serving.specs.Drains.{IsDrainedBy}
+
+-- a whole keeper has failed as often as before
+pub failed-behind : {K : Type 0} (faults : K → ℕ) (is_whole : K → Bool) (old new : WikiSeen K) → is_whole old.keeper ≡ old.start.whole → is_whole new.keeper ≡ new.start.whole
+    → failed_where (is_whole old.keeper) (faults old.keeper) ≡ old.start.failed → failed_where (is_whole new.keeper) (faults new.keeper) ≡ new.start.failed → new.start.whole ≡ old.start.whole
+    → (old.start.whole ≡ true → faults new.keeper ≡ faults old.keeper) → new.start.failed ≡ old.start.failed
+failed-behind faults is_whole old new before after failed_before failed_after same count =
+    let whole : is_whole new.keeper ≡ is_whole old.keeper = after ∙ (same ∙ sym before) in
+    let failed : failed_where (is_whole new.keeper) (faults new.keeper) ≡ failed_where (is_whole old.keeper) (faults old.keeper) =
+    failed-same (is_whole old.keeper) (is_whole new.keeper) (faults old.keeper) (faults new.keeper) whole (λ is. count (sym before ∙ is)) in
+    sym failed_after ∙ (failed ∙ failed_before)
 
 -- a count that rose isn't 0
 risen : (before now : ℕ) → Rose before now → 1 ≤ now

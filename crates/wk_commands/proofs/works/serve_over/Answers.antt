@@ -1,6 +1,6 @@
 use Rattle.std.proofs.Common.{None, Ok, refl, sym, ap, ◌∙◌, arith}
 use Rattle.wk_commands.specs.Worked.{not_loaded, served_over}
-use Rattle.wk_commands.proofs.Opening.{count-same, err-is-not, ok-is, opened-as, unopened-left}
+use Rattle.wk_commands.proofs.Opening.{err-is-not, left-count, left-tells, left-whole, ok-is, opened-as, unopened-left}
 use Rattle.wk_commands.proofs.works.serve_over.Goals as goal
 
 pub load-requires : goal.load-requires
@@ -8,13 +8,7 @@ load-requires g c = record { within = c.limits_with_journal.ensures.within }
 
 pub returns-in-Ok : goal.returns-in-Ok
 returns-in-Ok g c =
-    let is_whole = g.K.Keeper.is_whole in
-    let faults = g.K.Keeper.faults in
-    let first = c.in-Ok.wiki in
-    let left = c.released.result.keeper in
-    let same = c.serve_links-wiki.ensures.wiki.start in
-    let whole_at_first = ap (λ s. s.whole) same ∙ sym c.facts.ensures.whole in
-    let failed_at_first = ap (λ s. s.failed) same ∙ sym c.facts.ensures.failed in record {
+    record {
       served = served_over c.serve_links-wiki.result.1 c.released.ensures.end (record {
         first = c.in-Ok.wiki;
         last = c.serve_links-wiki.result.0;
@@ -26,11 +20,12 @@ returns-in-Ok g c =
         from = c.serve_links-wiki.ensures.wiki;
         keeper_is = c.released.ensures.keeper;
         tables = c.released.ensures.told;
-        tells = c.released.ensures.tells ∙ (ap (λ s. s.tells) same ∙ (sym c.facts.ensures.tells ∙ c.in-Ok.ensures.tells));
-        stays_whole = c.released.ensures.whole ∙ (whole_at_first ∙ c.in-Ok.ensures.whole);
-        whole_count = λ is.
-            count-same (is_whole first.keeper) (is_whole left) (faults first.keeper) (faults left) (c.released.ensures.whole ∙ whole_at_first) (c.released.ensures.failed ∙ failed_at_first) (c.in-Ok.ensures.whole ∙ is)
-            ∙ c.in-Ok.ensures.no_fault;
+        tells = left-tells g.K.Keeper.told c.in-Ok.wiki c.serve_links-wiki.result.0 c.args.keeper c.released.result.keeper c.released.ensures.tells (ap (λ s. s.tells) c.serve_links-wiki.ensures.wiki.start) c.facts.ensures.tells
+            c.in-Ok.ensures.tells;
+        stays_whole = left-whole g.K.Keeper.is_whole g.K.Keeper.faults c.in-Ok.wiki c.serve_links-wiki.result.0 c.args.keeper c.released.result.keeper c.serve_links-wiki.ensures.wiki.start c.in-Ok.ensures.whole
+            c.facts.ensures.whole c.released.ensures.whole;
+        whole_count = left-count g.K.Keeper.is_whole g.K.Keeper.faults c.in-Ok.wiki c.serve_links-wiki.result.0 c.args.keeper c.released.result.keeper c.serve_links-wiki.ensures.wiki.start c.in-Ok.ensures.whole
+            c.facts.ensures.whole c.released.ensures.whole c.in-Ok.ensures.no_fault c.facts.ensures.failed c.released.ensures.failed;
       });
       never_falls = c.serve_links-wiki.ensures.never_falls;
       no_write_fault = λ not. c.serve_links-wiki.ensures.no_write_fault (λ is. not (c.released.ensures.end ∙ ap Ok is));

@@ -1,6 +1,6 @@
-use Rattle.std.proofs.Common.{Ok, refl, sym, ap, ◌∙◌, arith}
+use Rattle.std.proofs.Common.{◌≡◌, Ok, refl, sym, ap, ◌∙◌, arith}
 use Rattle.wk_commands.specs.Worked.{done, not_opened}
-use Rattle.wk_commands.proofs.Opening.{checked-on, err-is-not, ok-is, opened-as, unopened-left}
+use Rattle.wk_commands.proofs.Opening.{checked-on, err-is-not, left-tells, ok-is, opened-as, unopened-left}
 use Rattle.wk_commands.proofs.works.work_over.Goals as goal
 
 pub load-requires : goal.load-requires
@@ -8,8 +8,10 @@ load-requires g c = record { within = c.limits_with_journal.ensures.within }
 
 pub returns-in-Ok : goal.returns-in-Ok
 returns-in-Ok g c =
-    let tells = c.released.ensures.tells ∙ (c.do_work-wiki.ensures.tells ∙ (sym c.facts.ensures.tells ∙ c.in-Ok.ensures.tells)) in
-    let stays_whole = ap g.K.Keeper.is_whole c.released.ensures.keeper ∙ (c.do_work-wiki.ensures.stays_whole ∙ c.in-Ok.ensures.whole) in record {
+    let tells =
+    left-tells g.K.Keeper.told c.in-Ok.wiki c.do_work-wiki.result.0 c.args.keeper c.released.result.keeper c.released.ensures.tells c.do_work-wiki.ensures.tells c.facts.ensures.tells c.in-Ok.ensures.tells in
+    let stays_whole : g.K.Keeper.is_whole c.released.result.keeper ≡ g.K.Keeper.is_whole c.args.keeper =
+    ap g.K.Keeper.is_whole c.released.ensures.keeper ∙ (c.do_work-wiki.ensures.stays_whole ∙ c.in-Ok.ensures.whole) in record {
       worked = done c.do_work-wiki.result.1 c.released.ensures.end (record {
         first = c.in-Ok.wiki;
         last = c.do_work-wiki.result.0;

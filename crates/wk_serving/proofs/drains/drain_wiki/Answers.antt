@@ -1,6 +1,5 @@
 use Rattle.std.proofs.Common.{sym, ◌∙◌}
-use Rattle.wk_core.proofs.WikiSteps.{failed-same}
-use Rattle.wk_serving.proofs.DrainedBy.{drained-by-workers, drained-whole}
+use Rattle.wk_serving.proofs.DrainedBy.{drained-by-workers, drained-whole, failed-behind}
 use Rattle.wk_serving.proofs.drains.drain_wiki.Goals as goal
 
 -- memory was wanting
@@ -11,15 +10,9 @@ returns-in-Err g c =
 -- one thread did what was left
 pub returns-in-Ok : goal.returns-in-Ok
 returns-in-Ok g c =
-    let before = c.facts-2.ensures in
-    let here = c.drain_here-end.ensures in
-    let after = c.facts-in-Ok.ensures in
-    let middle = c.drain_sealed-wiki.result.wiki in
-    let new = c.drain_here-end.new.wiki in
-    let whole = g.K.Keeper.is_whole in
-    let faults = g.K.Keeper.faults in
-    drained-whole faults c.args.wiki middle c.facts.ensures.run before.run c.drain_sealed-wiki.ensures new here.lived c.drain_here-end.result here.history here.limits here.whole
-    (sym after.tells ∙ (here.keeper.tells ∙ before.tells))
-    (sym after.failed
-    ∙ (failed-same (whole middle.keeper) (whole new.keeper) (faults middle.keeper) (faults new.keeper) (after.whole ∙ (here.whole ∙ sym before.whole)) (λ is. here.keeper.whole (sym before.whole ∙ is)) ∙ before.failed))
-    here.done here.full here.fault
+    drained-whole g.K.Keeper.faults c.args.wiki c.drain_sealed-wiki.result.wiki c.facts.ensures.run c.facts-2.ensures.run c.drain_sealed-wiki.ensures
+    c.drain_here-end.new.wiki c.drain_here-end.ensures.lived c.drain_here-end.result c.drain_here-end.ensures.history c.drain_here-end.ensures.limits c.drain_here-end.ensures.whole
+    (sym c.facts-in-Ok.ensures.tells ∙ (c.drain_here-end.ensures.keeper.tells ∙ c.facts-2.ensures.tells))
+    (failed-behind g.K.Keeper.faults g.K.Keeper.is_whole c.drain_sealed-wiki.result.wiki c.drain_here-end.new.wiki c.facts-2.ensures.whole c.facts-in-Ok.ensures.whole c.facts-2.ensures.failed c.facts-in-Ok.ensures.failed
+    c.drain_here-end.ensures.whole c.drain_here-end.ensures.keeper.whole)
+    c.drain_here-end.ensures.done c.drain_here-end.ensures.full c.drain_here-end.ensures.fault
