@@ -1,5 +1,5 @@
 -- What serving has written, and what it leaves of the wiki.
-use Rattle.std.proofs.Common.{◌≡◌, ◌≢◌, ◌⊎◌, ◌≤◌, ℕ, ◌+◌, true, List, [], ◌∷◌, ◌++◌, length, take, drop, Option, None, Some, Result, Ok, Err, refl, sym, ap, ◌∙◌, subst, inl, inr, arith, append-nil, length-append}
+use Rattle.std.proofs.Common.{◌≡◌, ◌≢◌, ◌⊎◌, ◌≤◌, ℕ, ◌+◌, ◌-◌, true, List, [], ◌∷◌, ◌++◌, length, take, drop, Option, None, Some, Result, Ok, Err, refl, sym, ap, ap₂, ◌∙◌, subst, inl, inr, arith, append-nil, length-append}
 use Rattle.std.proofs.Math.Seq.{take-append-add}
 use Rattle.std.proofs.lemmas.Bool.{false≢true}
 use Rattle.std.proofs.lemmas.List.{take-append-drop, take-append-le}
@@ -25,7 +25,7 @@ use Rattle.wk_door.specs.declared.entrance.Taken.{Taken}
 use Rattle.wk_serving.specs.Returns.{ComesBack}
 use Rattle.wk_serving.specs.Serves.{HasServed}
 use Rattle.wk_commands.specs.Lived.{HasLivedOn}
-use Rattle.wk_commands.specs.Served.{EndsAsLine, EndsServing, EndsTaken, HasBegun, HasServedAt, IsServedFrom, WritesLine, broken, no_memory, served, unwritten}
+use Rattle.wk_commands.specs.Served.{EndsAsLine, EndsServing, EndsTaken, GivesAtMost, HasBegun, HasGiven, HasServedAt, IsServedFrom, WritesLine, broken, gave, no_memory, not_listening, served, unwritten}
 use Rattle.wk_commands.specs.Texts.{listening_line, serve_text, served_line}
 use Rattle.wk_commands.specs.declared.ends.CommandEnd.{CommandEnd}
 use Rattle.wk_commands.specs.declared.ends.CommandEnd.TheVariants.{Done, Differs, DoorFault, Full, Memory, StoreFault, WriteFault}
@@ -81,6 +81,14 @@ module _ {L : Type 0} (address : List ℕ) (told later : Option (DoorTold L)) (f
   ended-by before after (Ok done) line = tt
   ended-by before after (Err end) line = λ most. not-begun before after most end line.0 line.1
 
+-- no link more
+none-given : (counts : Option DoorCounts) → after_giving counts 0 ≡ counts
+none-given None = refl
+none-given (Some (address, (given, left))) =
+    let more : given + 0 ≡ given = omega arith in
+    let less : left - 0 ≡ left = omega arith in
+    ap₂ (λ (g l : ℕ). Some (address, (g, l))) more less
+
 -- ---- behind the last link
 
 -- how serving ends with its last line
@@ -96,9 +104,12 @@ module _ {L : Type 0} (address : List ℕ) (most : ℕ) (told middle later : Opt
   given-of : (count : ℕ) → counts_of later ≡ after_giving (counts_of middle) count → counts_of later ≡ after_giving (counts_of (listening told address)) count
   given-of count given = subst (λ (d : Option (DoorTold L)). counts_of later ≡ after_giving (counts_of d) count) begun.listens given
 
-  to-the-end : (count : ℕ) (end : CommandEnd) → counts_of later ≡ after_giving (counts_of middle) count → (count ≡ most) ⊎ (is_emptied (counts_of later) ≡ true) → faults_later ≡ faults_middle
+  given-so : (count : ℕ) → count ≤ most → counts_of later ≡ after_giving (counts_of middle) count → HasGiven address most told later count
+  given-so count within given = record { within = within; counts = given-of count given }
+
+  to-the-end : (count : ℕ) (end : CommandEnd) → HasGiven address most told later count → (count ≡ most) ⊎ (is_emptied (counts_of later) ≡ true) → faults_later ≡ faults_middle
       → EndsAsLine (served_line count) end between after → HasServedAt address most told later faults faults_later before after end
-  to-the-end count Done given all same line = served count (given-of count given) all (same ∙ begun.no_fault) (Appends-trans before between after (listening_line address) (served_line count) begun.written line)
+  to-the-end count Done given all same line = served count given all (same ∙ begun.no_fault) (Appends-trans before between after (listening_line address) (served_line count) begun.written line)
   to-the-end count WriteFault given all same line = unwritten count (within-second before between after (listening_line address) (served_line count) begun.written line)
   to-the-end count Memory given all same line = no_memory count (first-alone before after (listening_line address) (served_line count) (unchanged line))
   to-the-end count Differs given all same line = absurd line
@@ -111,8 +122,10 @@ module _ {L : Type 0} (address : List ℕ) (most : ℕ) (told middle later : Opt
   as-taken None count end entered over ends =
       let fits = entered.within in
       let all : count ≡ most = elim over [ inl none ↦ absurd (false≢true none) | inr full ↦ omega (arith, fits, full) ] in
-      to-the-end count end entered.given (inl all) (entered.going refl) ends
-  as-taken (Some Empty) count end entered over ends = let none = entered.emptied refl in to-the-end count end entered.given (inr none.1) none.0 ends
+      to-the-end count end (given-so count fits entered.given) (inl all) (entered.going refl) ends
+  as-taken (Some Empty) count end entered over ends =
+      let none = entered.emptied refl in
+      to-the-end count end (given-so count entered.within entered.given) (inr none.1) none.0 ends
   as-taken (Some Broken) count end entered over ends =
       subst (HasServedAt address most told later faults faults_later before after) (sym ends.0)
       (broken count (subst (λ f. Rose f faults_later) begun.no_fault (entered.broken refl)) (first-alone before after (listening_line address) (served_line count) (unchanged ends.1)))
@@ -123,6 +136,18 @@ module _ {L : Type 0} (address : List ℕ) (most : ℕ) (told middle later : Opt
   served-by (Err none) end done ends =
       subst (HasServedAt address most told later faults faults_later before after) (sym ends.0)
       (no_memory 0 (first-alone before after (listening_line address) (served_line 0) (unchanged ends.1)))
+
+  -- whatever the end
+  pub links-given : {E : Type 0} (taken : Result Taken E) → HasServed (counts_of middle) (counts_of later) faults_middle faults_later most taken → GivesAtMost address most told later
+  links-given (Ok taken) done = gave taken.count (given-so taken.count done.0.within done.0.given)
+  links-given (Err none) done = gave 0 (given-so 0 (omega arith) (done.0 ∙ sym (none-given (counts_of middle))))
+
+-- before the first link, the door listens at the address, or it is as it was
+pub none-taken : {L : Type 0} (address : List ℕ) (most : ℕ) (told later : Option (DoorTold L)) → (later ≡ listening told address) ⊎ (later ≡ told) → GivesAtMost address most told later
+none-taken address most told later is = elim is [
+  | inl listens ↦ gave 0 (record { within = omega arith; counts = ap counts_of listens ∙ sym (none-given (counts_of (listening told address))) })
+  | inr same ↦ not_listening same
+]
 
 -- the count of a door doesn't fall
 pub door-never-falls : {E : Type 0} (told later : Option DoorCounts) (faults faults_later most : ℕ) (taken : Result Taken E) → HasServed told later faults faults_later most taken → faults ≤ faults_later
@@ -152,6 +177,7 @@ module _ {K : Type 0} (old new : WikiSeen K) (opening : HasOpened old old.start.
       let same : new.start.state ≡ old.state = ap (λ (s : Start). s.state) back.start ∙ opening.start in
       let replayed : replay old.state new.journal ≡ Some new.state = ap (λ s. replay s new.journal) (sym same) ∙ run_replayed new.start new.journal new.state later in
       let lived : HasLivedOn old.state new.state = record { journals = new.journal ∷ []; lives = (new.state, replayed, refl) } in record {
+        start = back.start;
         lived = lived;
         revisions = subst (λ (s : State). IsPrefix s.history.revisions new.state.history.revisions) same (prefix-of new.start.state.history.revisions new.state.history.revisions continues.first);
         sound = sound-on old opening new.state run lived;
@@ -160,6 +186,7 @@ module _ {K : Type 0} (old new : WikiSeen K) (opening : HasOpened old old.start.
   -- nothing was served
   pub not-served : IsServedFrom old old
   not-served = record {
+    start = refl;
     lived = record { journals = []; lives = refl };
     revisions = ([], append-nil old.state.history.revisions);
     sound = λ sound. sound;

@@ -1,9 +1,8 @@
 -- What a drain does as a command (own).
-use Rattle.std.specs.Prelude.{◌≡◌, ◌≢◌, ◌⊎◌, ℕ, ◌≤◌, Bool, List, Option}
+use Rattle.std.specs.Prelude.{◌≡◌, ◌≢◌, ◌⊎◌, ℕ, ◌≤◌, Bool, true, List, Option}
 use Rattle.wk_state_rules.specs.Soundness.{IsSound}
 use Rattle.wk_tool_rules.specs.Checks.{jobs_text}
 use Rattle.wk_core.specs.Seen.{WikiSeen}
-use Rattle.wk_shared.specs.Calls.{MayFail}
 use Rattle.wk_tools.specs.Drains.{CanBeFull, HasNoJob}
 use Rattle.wk_tools.specs.declared.drains.DrainEnd.{DrainEnd}
 use Rattle.wk_tools.specs.declared.drains.DrainEnd.TheVariants as end
@@ -11,10 +10,6 @@ use Rattle.wk_commands.specs.Lived.{HasLivedOn}
 use Rattle.wk_commands.specs.Written.{HasWritten}
 use Rattle.wk_commands.specs.declared.ends.CommandEnd.{CommandEnd}
 use Rattle.wk_commands.specs.declared.ends.CommandEnd.TheVariants.{Done, Differs, DoorFault, Full, Memory, StoreFault, WriteFault}
-
--- the command ended because the store failed: the keeper at the start may, or that which is left has failed
-abbrev pub StoreFailed : {K : Type 0} → (K → Bool) → (K → ℕ) → WikiSeen K → WikiSeen K → Type 0
-StoreFailed is_whole faults old new = MayFail is_whole faults old.start ⊎ (1 ≤ faults new.keeper)
 
 -- how the command ends where its drain ended so, and what it writes
 abbrev pub EndsJobs : DrainEnd → CommandEnd → Option (List ℕ) → Option (List ℕ) → Type 0
@@ -32,6 +27,9 @@ pub record IsDrained {K : Type 0} (is_whole : K → Bool) (faults : K → ℕ) (
   pub none_left : (end ≡ Done) ⊎ (end ≡ WriteFault) → HasNoJob new.state
   pub written : HasWritten end jobs_text before after
   pub full : end ≡ Full → CanBeFull old
-  pub fault : end ≡ StoreFault → StoreFailed is_whole faults old new
+  pub fault : end ≡ StoreFault → 1 ≤ faults new.keeper
   pub compares_nothing : end ≢ Differs
   pub no_door : end ≢ DoorFault
+  pub tells : new.start.tells ≡ old.start.tells
+  pub stays_whole : is_whole new.keeper ≡ is_whole old.keeper
+  pub whole_count : is_whole old.keeper ≡ true → faults new.keeper ≡ faults old.keeper

@@ -1,5 +1,5 @@
 -- What the generator does as a command (own).
-use Rattle.std.specs.Prelude.{◌≡◌, ◌≢◌, ◌⊎◌, ℕ, Bool, List, [], Option}
+use Rattle.std.specs.Prelude.{◌≡◌, ◌≢◌, ◌⊎◌, ℕ, ◌≤◌, Bool, true, List, [], Option}
 use Rattle.std.specs.Io.KnownBytes.{Keeps}
 use Rattle.wk_base.specs.Faults.{Rose}
 use Rattle.wk_page_rules.specs.Verdict.{EditAsked}
@@ -14,7 +14,6 @@ use Rattle.wk_tools.specs.Saves.{HasSaved, IsRefusedAt}
 use Rattle.wk_tools.specs.declared.drains.DrainEnd.{DrainEnd}
 use Rattle.wk_tools.specs.declared.drains.DrainEnd.TheVariants as end
 use Rattle.wk_commands.specs.Checked.{IsCompared}
-use Rattle.wk_commands.specs.Drained.{StoreFailed}
 use Rattle.wk_commands.specs.Written.{HasWritten}
 use Rattle.wk_commands.specs.declared.ends.CommandEnd.{CommandEnd}
 use Rattle.wk_commands.specs.declared.ends.CommandEnd.TheVariants.{Done, Differs, DoorFault, Full, StoreFault, WriteFault, Memory}
@@ -42,10 +41,14 @@ pub record IsSettled {K : Type 0} (is_whole : K → Bool) (faults : K → ℕ) (
   pub same : end ≡ Done → differing new.state ≡ []
   pub differs : end ≡ Differs → differing new.state ≢ []
   pub full : end ≡ Full → CanBeFull old
-  pub fault : end ≡ StoreFault → StoreFailed is_whole faults old new
+  pub fault : end ≡ StoreFault → 1 ≤ faults new.keeper
   pub no_door : end ≢ DoorFault
+  pub tells : new.start.tells ≡ old.start.tells
+  pub stays_whole : is_whole new.keeper ≡ is_whole old.keeper
+  pub whole_count : is_whole old.keeper ≡ true → faults new.keeper ≡ faults old.keeper
 
--- These edits were saved, and the wiki settled; or the saves ended at one that was refused, and nothing else was done.
+-- These edits were saved, and the wiki settled; or the saves ended at one that was refused, and nothing else was done: where
+-- that is since the store failed, its count of faults rose in the saves.
 pub data IsGenerated {K : Type 0} (is_whole : K → Bool) (faults : K → ℕ) (edits : List EditAsked) (old new : WikiSeen K) (left later before after : Option (List ℕ)) (end : CommandEnd) : Type 0 where
   settled : (middle : WikiSeen K) → HasSaved old middle edits left later → IsSettled is_whole faults middle new before after end →
       IsGenerated is_whole faults edits old new left later before after end

@@ -1,5 +1,5 @@
 -- What the command `serve` does (own).
-use Rattle.std.specs.Prelude.{◌≡◌, ◌≢◌, ◌⊎◌, ℕ, true, List, Option, None, Some, Result, Ok, Err}
+use Rattle.std.specs.Prelude.{◌≡◌, ◌≢◌, ◌⊎◌, ℕ, ◌≤◌, true, List, Option, None, Some, Result, Ok, Err}
 use Rattle.std.specs.Io.KnownBytes.{Appends}
 use mathlib.Core.List.{IsPrefix}
 use Rattle.wk_base.specs.Faults.{Rose}
@@ -47,19 +47,31 @@ abbrev pub EndsServing : {E : Type 0} → Result Taken E → CommandEnd → Opti
 EndsServing (Ok taken) ended before after = EndsTaken taken.shut taken.count ended before after
 EndsServing (Err memory) ended before after = (ended ≡ Memory) × (after ≡ before)
 
+-- the door listens at the address, and has given so many links since, of at most so many
+pub record HasGiven {L : Type 0} (address : List ℕ) (most : ℕ) (told later : Option (DoorTold L)) (count : ℕ) : Type 0 where
+  pub within : count ≤ most
+  pub counts : counts_of later ≡ after_giving (counts_of (listening told address)) count
+
+-- the door has given at most so many links at the address, or doesn't listen there and is as it was
+pub data GivesAtMost {L : Type 0} (address : List ℕ) (most : ℕ) (told later : Option (DoorTold L)) : Type 0 where
+  gave : (count : ℕ) → HasGiven address most told later count → GivesAtMost address most told later
+  not_listening : later ≡ told → GivesAtMost address most told later
+
 -- How serving ended, of a door that told this and had so many faults, at this address and for at most so many links. Both lines were
 -- written where as many links were given or none is left; else a prefix of two such lines. It ends so only where a call of the door
 -- failed, or a write, or for want of memory.
 pub data HasServedAt {L : Type 0} (address : List ℕ) (most : ℕ) (told later : Option (DoorTold L)) (faults faults_later : ℕ) (before after : Option (List ℕ)) : CommandEnd → Type 0 where
-  served : (count : ℕ) → counts_of later ≡ after_giving (counts_of (listening told address)) count → (count ≡ most) ⊎ (is_emptied (counts_of later) ≡ true) → faults_later ≡ faults →
+  served : (count : ℕ) → HasGiven address most told later count → (count ≡ most) ⊎ (is_emptied (counts_of later) ≡ true) → faults_later ≡ faults →
       Appends before after (serve_text address count) → HasServedAt address most told later faults faults_later before after Done
   broken : (count : ℕ) → Rose faults faults_later → AppendsPrefix before after (serve_text address count) →
       HasServedAt address most told later faults faults_later before after DoorFault
   unwritten : (count : ℕ) → AppendsPrefix before after (serve_text address count) → HasServedAt address most told later faults faults_later before after WriteFault
   no_memory : (count : ℕ) → AppendsPrefix before after (serve_text address count) → HasServedAt address most told later faults faults_later before after Memory
 
--- What serving leaves of a wiki that was just opened: its state is given by a life from the first one, and begins with its revisions.
+-- What serving leaves of a wiki that was just opened: it began as it did, its state is given by a life from the first one, and begins
+-- with its revisions.
 pub record IsServedFrom {K : Type 0} (old new : WikiSeen K) : Type 0 where
+  pub start : new.start ≡ old.start
   pub lived : HasLivedOn old.state new.state
   pub revisions : IsPrefix old.state.history.revisions new.state.history.revisions
   pub sound : IsSound old.state → IsSound new.state

@@ -1,5 +1,5 @@
 -- What a command does over the store of a keeper (own).
-use Rattle.std.specs.Prelude.{◌≡◌, ◌≤◌, ℕ, Bool, true, List, Option, None, Some, Result, Ok, Err, IfSome}
+use Rattle.std.specs.Prelude.{◌≡◌, ◌≤◌, ℕ, Bool, true, List, Option, None, Some, Result, Ok, Err, IfSome, is_some}
 use Rattle.wk_base.specs.Faults.{Rose}
 use Rattle.wk_page_rules.specs.Verdict.{MostHeld, full_limits}
 use Rattle.wk_table_rules.specs.GoodStore.{first_broken}
@@ -10,6 +10,7 @@ use Rattle.wk_tool_rules.specs.Checks.{check_text}
 use Rattle.wk_tool_rules.specs.Generator.{generated}
 use Rattle.wk_core.specs.Loads.{HasOpened, bad_store_of}
 use Rattle.wk_core.specs.Seen.{IsTold, WikiSeen}
+use Rattle.wk_core.specs.Steps.{KeeperGoesOn}
 use Rattle.wk_core.specs.declared.outcomes.LoadCause.{LoadCause}
 use Rattle.wk_core.specs.declared.outcomes.LoadCause.TheVariants as cause
 use Rattle.wk_commands.specs.Checked.{IsCompared}
@@ -17,7 +18,7 @@ use Rattle.wk_commands.specs.Drained.{IsDrained}
 use Rattle.wk_commands.specs.Generated.{IsGenerated}
 use Rattle.wk_door.specs.Told.{DoorTold}
 use Rattle.wk_commands.specs.Lived.{HasLivedOn}
-use Rattle.wk_commands.specs.Served.{HasServedAt, IsServedFrom}
+use Rattle.wk_commands.specs.Served.{GivesAtMost, HasServedAt, IsServedFrom}
 use Rattle.wk_commands.specs.declared.ends.CommandEnd.{CommandEnd}
 use Rattle.wk_commands.specs.declared.works.Work.{Work}
 use Rattle.wk_commands.specs.declared.works.Work.TheVariants.{Check, Jobs, Generate}
@@ -41,8 +42,10 @@ pub record IsNotOpened {K : Type 0} (told : K → Option StoreTables) (faults : 
   pub fault : why ≡ cause.StoreFault → Rose (faults keeper) (faults left)
   pub never_falls : faults keeper ≤ faults left
   pub whole : is_whole keeper ≡ true → faults left ≡ faults keeper
+  pub stays_whole : is_whole left ≡ is_whole keeper
 
--- A wiki was opened over the keeper's tables, and what was asked was done of it. The keeper has the tables of its last state.
+-- A wiki was opened over the keeper's tables, and what was asked was done of it. The keeper has the tables of its last state, tells
+-- them where it did, is whole where it was, and then its count of faults stays; behind a comparison that goes on besides.
 pub record IsDoneOver {K : Type 0} (told : K → Option StoreTables) (faults : K → ℕ) (is_whole : K → Bool) (work : Work) (journal : ℕ) (keeper left : K)
     (moments later before after : Option (List ℕ)) (end : CommandEnd) : Type 0 where
   pub first : WikiSeen K
@@ -56,6 +59,10 @@ pub record IsDoneOver {K : Type 0} (told : K → Option StoreTables) (faults : K
   pub sound : IsSound first.state → IsSound last.state
   pub keeper_is : left ≡ last.keeper
   pub tables : IsTold told last.state left
+  pub tells : is_some (told left) ≡ is_some (told keeper)
+  pub stays_whole : is_whole left ≡ is_whole keeper
+  pub whole_count : is_whole keeper ≡ true → faults left ≡ faults keeper
+  pub checked : work ≡ Check → KeeperGoesOn told faults is_whole keeper left
 
 pub data IsWorkedOn {K : Type 0} (told : K → Option StoreTables) (faults : K → ℕ) (is_whole : K → Bool) (work : Work) (journal : ℕ) (keeper left : K)
     (moments later before after : Option (List ℕ)) (end : Result CommandEnd LoadCause) : Type 0 where
@@ -66,7 +73,8 @@ pub data IsWorkedOn {K : Type 0} (told : K → Option StoreTables) (faults : K �
 
 -- ---- serving
 
--- A wiki was opened over the keeper's tables, and served at an address. The keeper has the tables of its last state.
+-- A wiki was opened over the keeper's tables, and served at an address, of whose door at most so many links were taken. The keeper
+-- has the tables of its last state, tells them where it did, is whole where it was, and then its count of faults stays.
 pub record IsServedOver {K L : Type 0} (told : K → Option StoreTables) (faults : K → ℕ) (is_whole : K → Bool) (address : List ℕ) (most journal : ℕ) (keeper left : K)
     (door door_later : Option (DoorTold L)) (door_faults door_faults_later : ℕ) (before after : Option (List ℕ)) (end : CommandEnd) : Type 0 where
   pub first : WikiSeen K
@@ -75,9 +83,13 @@ pub record IsServedOver {K L : Type 0} (told : K → Option StoreTables) (faults
   pub state : IfSome (told keeper) (λ tables. (first_broken tables ≡ None) × (first.state ≡ opened tables))
   pub whole : first.start.whole ≡ is_whole keeper
   pub served : HasServedAt address most door door_later door_faults door_faults_later before after end
+  pub links : GivesAtMost address most door door_later
   pub from : IsServedFrom first last
   pub keeper_is : left ≡ last.keeper
   pub tables : IsTold told last.state left
+  pub tells : is_some (told left) ≡ is_some (told keeper)
+  pub stays_whole : is_whole left ≡ is_whole keeper
+  pub whole_count : is_whole keeper ≡ true → faults left ≡ faults keeper
 
 pub data IsServedOn {K L : Type 0} (told : K → Option StoreTables) (faults : K → ℕ) (is_whole : K → Bool) (address : List ℕ) (most journal : ℕ) (keeper left : K)
     (door door_later : Option (DoorTold L)) (door_faults door_faults_later : ℕ) (before after : Option (List ℕ)) (end : Result CommandEnd LoadCause) : Type 0 where

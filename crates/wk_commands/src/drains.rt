@@ -32,8 +32,8 @@ fn end_jobs<O: Sink>(end: DrainEnd, output: &mut O) -> CommandEnd
 ///
 /// `Done`: no job is left, and the line is written. `Full` only where a job was left at the call, and the journal's limit is
 /// below 2, or the number of the next job, with the pages above the cursors of all fan jobs, is above 2^62. `StoreFault`
-/// only where the keeper may fail, or its count of faults isn't 0, and `WriteFault` only where the output's rose: no job is left
-/// then, and a prefix of the line is written. `Memory` may come. At the others nothing is written. It waits.
+/// only where the keeper's count of faults isn't 0, and `WriteFault` only where the output's rose: no job is left then, and a
+/// prefix of the line is written. `Memory` may come. At the others nothing is written. It waits.
 pub fn drain_jobs<K: Keeper + Send, G: Gate + Copy + Send, O: Sink, R: Threads + Wait + Sync>(
     rt: &R,
     wiki: Wiki<K>,
@@ -49,5 +49,6 @@ pub fn drain_jobs<K: Keeper + Send, G: Gate + Copy + Send, O: Sink, R: Threads +
 {
     wiki.facts();
     let (wiki, end) = drain_wiki(rt, wiki, gate, procs);
+    wiki.facts();
     (wiki, end_jobs(end, output))
 }

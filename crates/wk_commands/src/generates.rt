@@ -1,5 +1,5 @@
 //! The command `gen`.
-ghost use Rattle.std.specs.Prelude.{◌≡◌, ◌≢◌, ◌≤◌, ◌==◌, IfOk, None, length, string_bytes};
+ghost use Rattle.std.specs.Prelude.{◌≡◌, ◌≢◌, ◌≤◌, ◌==◌, IfOk, None, length, string_bytes, true};
 ghost use Rattle.wk_base.specs.Faults.{Rose};
 ghost use Rattle.wk_state_rules.specs.Soundness.{IsSound};
 ghost use Rattle.wk_core.specs.Loads.{HasOpened};
@@ -84,7 +84,9 @@ fn settle<K: Keeper + Send, G: Gate + Copy + Send, O: Sink, R: Threads + Wait + 
     ensures no_write_fault { result.1 ≢ CommandEnd.WriteFault → O.faults output.new ≡ O.faults output.old }
     ensures write_fault { result.1 ≡ CommandEnd.WriteFault → Rose (O.faults output.old) (O.faults output.new) }
 {
+    wiki.facts();
     let (wiki, end) = drain_wiki(rt, wiki, gate, procs);
+    wiki.facts();
     let end = end_drain(&wiki, end, output);
     (wiki, end)
 }
@@ -95,9 +97,9 @@ fn settle<K: Keeper + Send, G: Gate + Copy + Send, O: Sink, R: Threads + Wait + 
 /// that differ.
 ///
 /// `Done` where no page differs, `Differs` where one does, which can only be where the wiki's rows weren't sound. `Full` where a
-/// save is refused because the journal or the wiki is full, or the drain ends so (`drain_jobs`). `StoreFault` only where the keeper
-/// may fail, or its count of faults isn't 0, `WriteFault` only where the output's rose, and `Memory` may come. At `WriteFault` a
-/// prefix of the line is written, at the others but `Done` and `Differs` nothing is. It waits.
+/// save is refused because the journal or the wiki is full, or the drain ends so (`drain_jobs`). `StoreFault` only where the keeper's
+/// count of faults rose in a save, or isn't 0 behind the drain, `WriteFault` only where the output's rose, and `Memory` may come. At
+/// `WriteFault` a prefix of the line is written, at the others but `Done` and `Differs` nothing is. It waits.
 pub fn generate_pages<
     K: Keeper + Send,
     G: Gate + Copy + Send,
@@ -119,6 +121,9 @@ pub fn generate_pages<
     ensures lived { HasLivedOn wiki.state result.0.state }
     ensures sound { IsSound wiki.state → IsSound result.0.state }
     ensures agrees { IsSound wiki.state → result.1 ≢ CommandEnd.Differs }
+    ensures tells { result.0.start.tells ≡ wiki.start.tells }
+    ensures stays_whole { K.is_whole result.0.keeper ≡ K.is_whole wiki.keeper }
+    ensures whole_count { K.is_whole wiki.keeper ≡ true → K.faults result.0.keeper ≡ K.faults wiki.keeper }
     ensures never_falls { O.faults output.old ≤ O.faults output.new }
     ensures no_write_fault { result.1 ≢ CommandEnd.WriteFault → O.faults output.new ≡ O.faults output.old }
     ensures write_fault { result.1 ≡ CommandEnd.WriteFault → Rose (O.faults output.old) (O.faults output.new) }
@@ -126,7 +131,13 @@ pub fn generate_pages<
     wiki.facts();
     let mut wiki = wiki;
     match generate(&mut wiki, pages, number, clock) {
-        Ok(()) => settle(rt, wiki, gate, procs, output),
-        Err(refusal) => (wiki, end_of_refusal(refusal)),
+        Ok(()) => {
+            wiki.facts();
+            settle(rt, wiki, gate, procs, output)
+        }
+        Err(refusal) => {
+            wiki.facts();
+            (wiki, end_of_refusal(refusal))
+        }
     }
 }

@@ -1,8 +1,9 @@
 //! The command `serve`.
-ghost use Rattle.std.specs.Prelude.{◌≡◌, ◌≢◌, ◌≤◌, ℕ, List, Err, IfErr, IfOk, OnOk, string_bytes};
+ghost use Rattle.std.specs.Prelude.{◌≡◌, ◌≢◌, ◌⊎◌, ◌≤◌, ℕ, List, Err, IfErr, IfOk, OnOk, string_bytes};
 ghost use Rattle.wk_base.specs.Faults.{Rose};
 ghost use Rattle.wk_core.specs.Loads.{HasOpened};
-ghost use Rattle.wk_commands.specs.Served.{EndsAsLine, EndsServing, HasBegun, HasServedAt, IsServedFrom, WritesLine};
+ghost use Rattle.wk_door.specs.Told.{listening};
+ghost use Rattle.wk_commands.specs.Served.{EndsAsLine, EndsServing, GivesAtMost, HasBegun, HasServedAt, IsServedFrom, WritesLine};
 ghost use Rattle.wk_commands.specs.Texts.{listening_line, served_line};
 
 use crate::ends::CommandEnd;
@@ -66,6 +67,7 @@ fn begin<D: Door, O: Sink>(
 ) -> Result<(), CommandEnd>
     ensures begun { OnOk result (HasBegun address.now (D.told door.old) (D.told door.new) (D.faults door.old) (D.faults door.new) (O.taken output.old) (O.taken output.new)) }
     ensures ended { IfErr result (λ end. (most : ℕ) → HasServedAt address.now most (D.told door.old) (D.told door.new) (D.faults door.old) (D.faults door.new) (O.taken output.old) (O.taken output.new) end) }
+    ensures listens { (D.told door.new ≡ listening (D.told door.old) address.now) ⊎ (D.told door.new ≡ D.told door.old) }
     ensures never_falls { O.faults output.old ≤ O.faults output.new }
     ensures no_write_fault { result ≢ Err CommandEnd.WriteFault → O.faults output.new ≡ O.faults output.old }
     ensures write_fault { result ≡ Err CommandEnd.WriteFault → Rose (O.faults output.old) (O.faults output.new) }
@@ -109,9 +111,11 @@ fn end_serving<O: Sink>(alloc: Global, end: Result<Taken, Memory>, output: &mut 
 
 /// Serves the connections that come in at an address, over a wiki that was just opened. The door listens at the address, and
 /// `listening on ADDRESS` is written; then so many workers serve one connection after the other (`serve_wiki`), each with a copy of
-/// the gate, until so many were accepted, or the door has none left; then `served N` is written.
+/// the gate, until so many were accepted, or the door has none left; then `served N` is written. No more are accepted than that,
+/// whatever the end.
 ///
-/// `DoorFault` only where a call of the door failed, `WriteFault` only where a write did; `Memory` may come. It waits.
+/// `Done` only where so many were accepted or none is left. `DoorFault` only where a call of the door failed, `WriteFault` only
+/// where a write did; `Memory` may come. It waits.
 pub fn serve_links<
     K: Keeper + Send,
     G: Gate + Copy + Send,
@@ -132,6 +136,7 @@ where
     D::Link: Send,
     requires opened { HasOpened wiki wiki.start.limits }
     ensures served { HasServedAt asked.entry.address.now asked.entry.most (D.told door.old) (D.told door.new) (D.faults door.old) (D.faults door.new) (O.taken output.old) (O.taken output.new) result.1 }
+    ensures links { GivesAtMost asked.entry.address.now asked.entry.most (D.told door.old) (D.told door.new) }
     ensures wiki { IsServedFrom wiki result.0 }
     ensures never_falls { O.faults output.old ≤ O.faults output.new }
     ensures no_write_fault { result.1 ≢ CommandEnd.WriteFault → O.faults output.new ≡ O.faults output.old }

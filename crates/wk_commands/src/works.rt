@@ -1,11 +1,11 @@
 //! The commands over the store of a keeper.
-ghost use Rattle.std.specs.Prelude.{◌≡◌, ◌≢◌, ◌≤◌, Ok, Err};
+ghost use Rattle.std.specs.Prelude.{◌≡◌, ◌≢◌, ◌≤◌, Ok, Err, is_some, true};
 ghost use Rattle.wk_base.specs.Faults.{Rose};
 ghost use Rattle.wk_page_rules.specs.Verdict.{max_journal};
 ghost use Rattle.wk_revs.specs.Edit.{most_held};
 ghost use Rattle.wk_core.specs.Limits.{AreWithinFull};
 ghost use Rattle.wk_core.specs.Loads.{HasOpened};
-ghost use Rattle.wk_core.specs.Seen.{IsTold};
+ghost use Rattle.wk_core.specs.Seen.{IsTold, failed_where};
 ghost use Rattle.wk_state_rules.specs.Soundness.{IsSound};
 ghost use Rattle.wk_commands.specs.Lived.{HasLivedOn};
 ghost use Rattle.wk_commands.specs.Worked.{IsServedOn, IsWorked, IsWorkedOn, limits_with_journal};
@@ -70,6 +70,9 @@ fn do_work<K: Keeper + Send, G: Gate + Copy + Send, O: Sink, C: Clock, R: Thread
     ensures worked { IsWorked K.is_whole K.faults work wiki result.0 (C.left clock.old) (C.left clock.new) (O.taken output.old) (O.taken output.new) result.1 }
     ensures lived { HasLivedOn wiki.state result.0.state }
     ensures sound { IsSound wiki.state → IsSound result.0.state }
+    ensures tells { result.0.start.tells ≡ wiki.start.tells }
+    ensures stays_whole { K.is_whole result.0.keeper ≡ K.is_whole wiki.keeper }
+    ensures whole_count { K.is_whole wiki.keeper ≡ true → K.faults result.0.keeper ≡ K.faults wiki.keeper }
     ensures never_falls { O.faults output.old ≤ O.faults output.new }
     ensures no_write_fault { result.1 ≢ CommandEnd.WriteFault → O.faults output.new ≡ O.faults output.old }
     ensures write_fault { result.1 ≡ CommandEnd.WriteFault → Rose (O.faults output.old) (O.faults output.new) }
@@ -116,7 +119,11 @@ fn released<K: Keeper>(wiki: Wiki<K>, end: CommandEnd) -> Worked<K>
     ensures keeper { result.keeper ≡ wiki.keeper }
     ensures end { result.end ≡ Ok end }
     ensures told { IsTold K.told wiki.state result.keeper }
+    ensures tells { is_some (K.told result.keeper) ≡ wiki.start.tells }
+    ensures whole { K.is_whole result.keeper ≡ wiki.start.whole }
+    ensures failed { failed_where (K.is_whole result.keeper) (K.faults result.keeper) ≡ wiki.start.failed }
 {
+    wiki.facts();
     Worked {
         keeper: wiki.release(),
         end: Ok(end),
@@ -125,7 +132,11 @@ fn released<K: Keeper>(wiki: Wiki<K>, end: CommandEnd) -> Worked<K>
 
 /// Opens a wiki over the tables of a keeper, with a journal of at most so many events, and does what is asked of it. The
 /// keeper comes back: at a refusal of the load with the tables that it had, else with those of the state in which the work
-/// ended. It waits.
+/// ended. It tells its tables where it did, is whole where it was, and then its count of faults stays.
+///
+/// Where the load is refused, and behind `Work::Check`, the count doesn't fall. That isn't said behind the others: the keeper
+/// stood behind the turn that the workers took, which carries how the wiki began, and with it the count of a keeper that is
+/// whole alone. It waits.
 pub fn work_over<
     K: Keeper + Send,
     G: Gate + Copy + Send,
@@ -161,7 +172,8 @@ pub fn work_over<
 
 /// Opens a wiki over the tables of a keeper, with a journal of at most so many events, and serves the connections that come in at
 /// an address (`serve_links`). The keeper comes back: at a refusal of the load with the tables that it had, and nothing was asked of
-/// the door; else with those of the state in which serving ended. It waits.
+/// the door; else with those of the state in which serving ended. It tells its tables where it did, is whole where it was, and then
+/// its count of faults stays. It waits.
 pub fn serve_over<
     K: Keeper + Send,
     G: Gate + Copy + Send,

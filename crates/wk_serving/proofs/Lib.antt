@@ -1,3 +1,2 @@
 mod DrainedBy
-mod Faults
 mod Sharing

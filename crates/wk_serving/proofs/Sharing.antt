@@ -1,15 +1,12 @@
 -- Wikis that were shared and taken back.
-use Rattle.std.proofs.Common.{◌≡◌, ◌≢◌, ℕ, Bool, List, length, Option, None, Some, Err, refl, sym, ap, ◌∙◌, subst}
+use Rattle.std.proofs.Common.{◌≡◌, ℕ, List, length, Option, None, Some, sym, ap, ◌∙◌, subst}
 use Rattle.std.specs.Prelude.{unwrap_or}
 use mathlib.Core.List.{IsPrefix}
 use Rattle.wk_state_rules.specs.Events.{Event}
 use Rattle.wk_wiki_rules.specs.Starts.{Start}
 use Rattle.wk_turn.proofs.Lists.{prefix_self, prefix_trans}
 use Rattle.wk_core.specs.Seen.{WikiSeen}
-use Rattle.wk_shared.specs.Calls.{MayFail}
-use Rattle.wk_refresh.specs.Drained.{End}
-use Rattle.wk_refresh.specs.declared.refusal.DrainRefusal.TheVariants as refusal
-use Rattle.wk_serving.specs.Drains.{HasDrainedBy}
+use Rattle.wk_seal_laws.specs.Sealed.{IsSealedAt}
 use Rattle.wk_serving.specs.Returns.{ComesBack}
 
 module _ {K : Type 0} (old new : WikiSeen K) where
@@ -31,22 +28,15 @@ module _ {K : Type 0} (old new : WikiSeen K) where
 abbrev pub sealed_now : {K : Type 0} → WikiSeen K → WikiSeen K
 sealed_now wiki = record wiki { start = record wiki.start { sealed = Some (unwrap_or wiki.start.sealed (length wiki.journal)) } }
 
-module _ {K : Type 0} (is_whole : K → Bool) (faults : K → ℕ) (old sealed new : WikiSeen K) (unsealed : old.start.sealed ≡ None) (is : sealed ≡ sealed_now old) where
+module _ {K : Type 0} (old sealed new : WikiSeen K) (unsealed : old.start.sealed ≡ None) (is : sealed ≡ sealed_now old) where
   sealed-start : sealed.start ≡ record old.start { sealed = Some (length old.journal) }
   sealed-start = ap (λ (w : WikiSeen K). w.start) is ∙ ap (λ (s : Option ℕ). record old.start { sealed = Some (unwrap_or s (length old.journal)) }) unsealed
 
   sealed-journal : sealed.journal ≡ old.journal
   sealed-journal = ap (λ (w : WikiSeen K). w.journal) is
 
-  pub drained-back : (end : End) → ComesBack sealed new → (end ≡ Err refusal.StoreFault → MayFail is_whole faults sealed.start) → HasDrainedBy is_whole faults old new end
-  drained-back end back fault = record {
-    sealed = record {
-      start = back.start ∙ sealed-start;
-      journal = subst (λ j. IsPrefix j new.journal) sealed-journal back.journal;
-    };
-    fault = λ failed. subst (MayFail is_whole faults) sealed-start (fault failed);
+  pub sealed-back : ComesBack sealed new → IsSealedAt old.start new.start old.journal new.journal
+  sealed-back back = record {
+    start = back.start ∙ sealed-start;
+    journal = subst (λ j. IsPrefix j new.journal) sealed-journal back.journal;
   }
-
-  -- memory was wanting for sharing it
-  pub drained-not : new ≡ sealed → HasDrainedBy is_whole faults old new (Err refusal.Memory)
-  drained-not same = drained-back (Err refusal.Memory) (not-shared sealed new same) (λ failed. absurd (let e : ◌≡◌ {A = End} (Err refusal.Memory) (Err refusal.StoreFault) = failed in cc))

@@ -1,9 +1,9 @@
 //! Draining a wiki by many threads.
-ghost use Rattle.std.specs.Prelude.{◌≡◌, Err, None};
+ghost use Rattle.std.specs.Prelude.{◌≡◌, None};
 ghost use mathlib.Core.List.{IsPrefix};
 ghost use Rattle.wk_refresh.specs.Drained.{IsFree};
-ghost use Rattle.wk_shared.specs.Calls.{MayFail};
-ghost use Rattle.wk_serving.specs.Drains.{HasDrainedBy, IsDrainedBy};
+ghost use Rattle.wk_seal_laws.specs.Sealed.{IsSealedAt};
+ghost use Rattle.wk_serving.specs.Drains.{IsDrainedBy};
 
 use crate::hands::{gather, hired};
 use std::alloc::Global;
@@ -15,7 +15,7 @@ use wk_refresh::{DrainRefusal, drain};
 use wk_shared::{Pass, Shared};
 use wk_tools::{DrainEnd, drain_here};
 
-/// A wiki that workers have drained, and how they ended.
+/// A wiki that workers have drained, and the first refusal that one of them met.
 #[derive(Drop)]
 struct Drained<K: Keeper> {
     wiki: Wiki<K>,
@@ -34,7 +34,6 @@ fn drain_shared<K: Keeper + Send, G: Gate + Copy + Send, R: Threads + Wait + Syn
     requires { IsFree shared.now pass.old }
     ensures free { IsFree shared.now pass.new }
     ensures seen { IsPrefix pass.old.seen pass.new.seen }
-    ensures fault { result ≡ Err DrainRefusal.StoreFault → MayFail K.is_whole K.faults shared.now.start }
 {
     let Ok(mut workers) = hired(alloc, shared, pass, gate, procs) else {
         return Err(DrainRefusal::Memory);
@@ -52,7 +51,7 @@ fn drain_sealed<K: Keeper + Send, G: Gate + Copy + Send, R: Threads + Wait + Syn
     procs: u64,
 ) -> Drained<K>
     requires unsealed { wiki.start.sealed ≡ None }
-    ensures { HasDrainedBy K.is_whole K.faults wiki result.wiki result.end }
+    ensures { IsSealedAt wiki.start result.wiki.start wiki.journal result.wiki.journal }
 {
     let alloc = wiki.allocator();
     let mut wiki = wiki;
@@ -74,11 +73,12 @@ fn drain_sealed<K: Keeper + Send, G: Gate + Copy + Send, R: Threads + Wait + Syn
 }
 
 /// Does all jobs of a wiki, which isn't sealed, by so many workers, each on a thread of its own (`drain`), and what they leave
-/// on this thread (`drain_here`). The wiki is sealed before, so nothing is saved.
+/// on this thread (`drain_here`), also where the journal was full for them or the store failed. The wiki is sealed before, so
+/// nothing is saved.
 ///
 /// `Done`: no job is left. `JournalFull` only where a job was left at the call, and the journal's limit is below 2, or the
-/// number of the next job, with the pages above the cursors of all fan jobs, is above 2^62. `StoreFault` only where the wiki's
-/// keeper may fail, or its count of faults isn't 0; `Memory` may come. It waits.
+/// number of the next job, with the pages above the cursors of all fan jobs, is above 2^62. `StoreFault` only where the store
+/// failed on this thread too: the keeper's count of faults rose behind the workers, so it isn't 0. `Memory` may come. It waits.
 pub fn drain_wiki<K: Keeper + Send, G: Gate + Copy + Send, R: Threads + Wait + Sync>(
     rt: &R,
     wiki: Wiki<K>,
@@ -86,17 +86,17 @@ pub fn drain_wiki<K: Keeper + Send, G: Gate + Copy + Send, R: Threads + Wait + S
     procs: u64,
 ) -> (Wiki<K>, DrainEnd)
     requires unsealed { wiki.start.sealed ≡ None }
-    ensures { IsDrainedBy K.is_whole K.faults wiki result.0 result.1 }
+    ensures { IsDrainedBy K.faults wiki result.0 result.1 }
 {
     wiki.facts();
     let Drained { wiki, end } = drain_sealed(rt, wiki, gate, procs);
     wiki.facts();
     match end {
-        Err(DrainRefusal::StoreFault) => (wiki, DrainEnd::StoreFault),
         Err(DrainRefusal::Memory) => (wiki, DrainEnd::Memory),
-        Ok(()) | Err(DrainRefusal::JournalFull) => {
+        Ok(()) | Err(DrainRefusal::JournalFull) | Err(DrainRefusal::StoreFault) => {
             let mut wiki = wiki;
             let end = drain_here(&mut wiki);
+            wiki.facts();
             (wiki, end)
         }
     }

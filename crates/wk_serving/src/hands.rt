@@ -1,5 +1,5 @@
 //! The workers of a shared wiki.
-ghost use Rattle.std.specs.Prelude.{◌≡◌, ◌<◌, All, IfOk, vec_len};
+ghost use Rattle.std.specs.Prelude.{◌≡◌, All, IfOk, max, vec_len};
 ghost use mathlib.Core.List.{IsPrefix};
 ghost use Rattle.wk_refresh.specs.Drained.{IsFree};
 
@@ -38,7 +38,7 @@ pub fn hired<K: Keeper, G: Gate + Copy>(
     requires { IsFree shared.now pass.old }
     ensures pass { pass.new ≡ pass.old }
     ensures free { IfOk result (λ v. All (λ w. IsFree shared.now w.reader.pass) v.items) }
-    ensures some { IfOk result (λ v. 0 < vec_len v) }
+    ensures number { IfOk result (λ v. vec_len v ≡ max 1 count) }
 {
     let mut workers = Vec::new(alloc);
     workers.push(worker(alloc, shared, pass, gate)?)?;

@@ -1,8 +1,8 @@
-use Rattle.std.proofs.Common.{Err, ap}
+use Rattle.std.proofs.Common.{Err, refl, sym, ap, ◌∙◌}
 use Rattle.std.proofs.KnownBytes.{Keeps-refl}
 use Rattle.wk_tool_rules.specs.Generator.{generated}
 use Rattle.wk_commands.specs.Generated.{refused, settled}
-use Rattle.wk_commands.proofs.Generated.{agrees, refused-agrees, refused-on, settled-on}
+use Rattle.wk_commands.proofs.Generated.{agrees, count-on, refused-agrees, refused-on, settled-on, tells-on, whole-on}
 use Rattle.wk_commands.proofs.Lives.{sound-on}
 use Rattle.wk_commands.proofs.generates.generate_pages.Goals as goal
 
@@ -43,3 +43,27 @@ returns-in-Ok-clause-agrees g c = λ sound.
 
 pub returns-in-Err-clause-agrees : goal.returns-in-Err-clause-agrees
 returns-in-Err-clause-agrees g c = λ sound. refused-agrees c.in-Err.refusal c.end_of_refusal.result c.end_of_refusal.ensures
+
+pub returns-in-Ok-clause-tells : goal.returns-in-Ok-clause-tells
+returns-in-Ok-clause-tells g c =
+    tells-on g.K.Keeper.is_whole c.args.wiki c.generate.new.wiki c.settle.result.0 c.in-Ok.ensures.saved.made.start c.facts.ensures.whole c.facts-in-Ok.ensures.whole c.settle.ensures.settled.tells
+
+pub returns-in-Ok-clause-stays_whole : goal.returns-in-Ok-clause-stays_whole
+returns-in-Ok-clause-stays_whole g c =
+    whole-on g.K.Keeper.is_whole c.args.wiki c.generate.new.wiki c.settle.result.0 c.in-Ok.ensures.saved.made.start c.facts.ensures.whole c.facts-in-Ok.ensures.whole c.settle.ensures.settled.stays_whole
+
+pub returns-in-Err-clause-tells : goal.returns-in-Err-clause-tells
+returns-in-Err-clause-tells g c =
+    tells-on g.K.Keeper.is_whole c.args.wiki c.generate.new.wiki c.generate.new.wiki c.in-Err.ensures.refused.saved.made.start c.facts.ensures.whole c.facts-in-Err.ensures.whole refl
+
+pub returns-in-Err-clause-stays_whole : goal.returns-in-Err-clause-stays_whole
+returns-in-Err-clause-stays_whole g c =
+    whole-on g.K.Keeper.is_whole c.args.wiki c.generate.new.wiki c.generate.new.wiki c.in-Err.ensures.refused.saved.made.start c.facts.ensures.whole c.facts-in-Err.ensures.whole refl
+
+pub returns-in-Ok-clause-whole_count : goal.returns-in-Ok-clause-whole_count
+returns-in-Ok-clause-whole_count g c =
+    count-on g.K.Keeper.is_whole c.args.wiki c.generate.new.wiki c.settle.result.0 c.in-Ok.ensures.saved.made.start c.facts.ensures.whole c.facts-in-Ok.ensures.whole g.K.Keeper.faults c.in-Ok.ensures.keeper.whole
+    c.settle.ensures.settled.whole_count
+
+pub returns-in-Err-clause-whole_count : goal.returns-in-Err-clause-whole_count
+returns-in-Err-clause-whole_count g c = λ is. c.in-Err.ensures.keeper.whole (sym c.facts.ensures.whole ∙ is)

@@ -12,6 +12,9 @@ returns-in-Check g c =
           (sym c.in-Check.is) (refl, c.check_pages-end.ensures.compared);
       lived = same-on wiki c.requires.opened;
       sound = λ sound. sound;
+      tells = refl;
+      stays_whole = refl;
+      whole_count = λ _. refl;
       never_falls = c.check_pages-end.ensures.never_falls;
       no_write_fault = c.check_pages-end.ensures.no_write_fault;
       write_fault = c.check_pages-end.ensures.write_fault;
@@ -25,6 +28,9 @@ returns-in-Jobs g c =
           (sym c.in-Jobs.is) drained;
       lived = drained.lived;
       sound = drained.sound;
+      tells = drained.tells;
+      stays_whole = drained.stays_whole;
+      whole_count = drained.whole_count;
       never_falls = c.drain_jobs.ensures.never_falls;
       no_write_fault = c.drain_jobs.ensures.no_write_fault;
       write_fault = c.drain_jobs.ensures.write_fault;
@@ -37,6 +43,9 @@ returns-in-Generate g c = record {
       (sym c.in-Generate.is) c.generate_pages.ensures.generated;
   lived = c.generate_pages.ensures.lived;
   sound = c.generate_pages.ensures.sound;
+  tells = c.generate_pages.ensures.tells;
+  stays_whole = c.generate_pages.ensures.stays_whole;
+  whole_count = c.generate_pages.ensures.whole_count;
   never_falls = c.generate_pages.ensures.never_falls;
   no_write_fault = c.generate_pages.ensures.no_write_fault;
   write_fault = c.generate_pages.ensures.write_fault;
