@@ -12,7 +12,7 @@ use wk_tables::{BadStore, PageRow, TableRows, Tables};
 const LISTENING: &str = "listening on 127.0.0.1:8080\n";
 
 /// Each command with a call that fails: of the vault, of the store, of the output, of the door. A load is the store's first call.
-const FAILS: [(&str, Fails, u8, &str); 18] = [
+const FAILS: [(&str, Fails, u8, &str); 16] = [
     ("wiki check", Fails { vault: 1, ..NONE }, 5, ""),
     ("wiki jobs", Fails { vault: 1, ..NONE }, 5, ""),
     ("wiki gen --pages 1", Fails { vault: 1, ..NONE }, 5, ""),
@@ -39,24 +39,6 @@ const FAILS: [(&str, Fails, u8, &str); 18] = [
         "wiki gen --pages 1",
         Fails {
             store: &[3],
-            ..NONE
-        },
-        5,
-        "",
-    ),
-    (
-        "wiki gen --pages 1",
-        Fails {
-            store: &[5],
-            ..NONE
-        },
-        5,
-        "",
-    ),
-    (
-        "wiki gen --pages 1 --procs 4",
-        Fails {
-            store: &[5],
             ..NONE
         },
         5,
@@ -115,39 +97,51 @@ fn two_jobs<R: Threads + Wait + Sync>(rt: &R, alloc: Global) -> Result<Tables, M
     ran.tables.ok_or(Memory)
 }
 
-/// The call of a store with two jobs that fails, and how many jobs are left then by one worker: at the first job, or at the second
-/// one.
-const STORE_FAILS: [(&[u64], usize); 2] = [(&[2], 2), (&[3], 1)];
+/// Commands over a store with two jobs, of which these calls fail, and how many jobs are left. What a worker leaves where the store
+/// fails is done once more, by one thread.
+const STORE_FAILS: [(&str, &[u64], u8, &str, usize); 7] = [
+    ("wiki jobs", &[2], 0, "jobs 0\n", 0),
+    ("wiki jobs", &[3], 0, "jobs 0\n", 0),
+    ("wiki jobs", &[2, 3], 5, "", 2),
+    ("wiki jobs", &[3, 4], 5, "", 1),
+    ("wiki jobs --procs 4", &[2], 0, "jobs 0\n", 0),
+    (
+        "wiki gen --pages 1 --procs 4",
+        &[5],
+        0,
+        "pages 5 revisions 5 jobs 0 differ 0\n",
+        0,
+    ),
+    ("wiki gen --pages 1", &[5, 6], 5, "", 5),
+];
 
 #[test]
-fn a_store_that_fails_keeps_its_jobs(rt: HostRuntime) -> Result<(), Fail> {
+fn a_store_that_fails_once_is_asked_again(rt: HostRuntime) -> Result<(), Fail> {
     let alloc = rt.alloc();
-    for (store, jobs) in STORE_FAILS {
+    for (words, store, status, written, jobs) in STORE_FAILS {
         let fails = Fails { store, ..NONE };
-        let ran = run(&rt, alloc, "wiki jobs", "", two_jobs(&rt, alloc)?, fails)?;
-        assert!(rt; ran.ends(5, "") && ran.leaves_jobs(jobs), "{jobs}");
+        let ran = run(&rt, alloc, words, "", two_jobs(&rt, alloc)?, fails)?;
+        assert!(rt;
+            ran.ends(status, written) && ran.leaves_jobs(jobs),
+            "{words}"
+        );
     }
     Ok(())
 }
 
-/// The calls of a store with two jobs that fail: one, or all once it is loaded.
-const ONCE_OR_FOR_GOOD: [&[u64]; 2] = [&[2], &[2, 3, 4, 5, 6, 7, 8, 9]];
+/// All calls of a store that are made once it is loaded, by four workers and then by one thread.
+const FOR_GOOD: &[u64] = &[2, 3, 4, 5, 6, 7, 8, 9];
 
 #[test]
-fn a_store_that_fails_ends_all_workers(rt: HostRuntime) -> Result<(), Fail> {
+fn a_store_that_fails_for_good_ends_all_workers(rt: HostRuntime) -> Result<(), Fail> {
     let alloc = rt.alloc();
-    for store in ONCE_OR_FOR_GOOD {
-        let fails = Fails { store, ..NONE };
-        let ran = run(
-            &rt,
-            alloc,
-            "wiki jobs --procs 4",
-            "",
-            two_jobs(&rt, alloc)?,
-            fails,
-        )?;
-        assert!(rt; ran.ends(5, ""));
-    }
+    let fails = Fails {
+        store: FOR_GOOD,
+        ..NONE
+    };
+    let tables = two_jobs(&rt, alloc)?;
+    let ran = run(&rt, alloc, "wiki jobs --procs 4", "", tables, fails)?;
+    assert!(rt; ran.ends(5, ""));
     Ok(())
 }
 

@@ -126,11 +126,11 @@ fn serve_at_once(rt: HostRuntime) -> Result<(), Fail> {
 
 /// A run of `serve` over an empty store, of whose door these calls fail: of two links the first saves a page, and the second
 /// asks for it.
-fn saved_and_parsed<R: Threads + Wait + Sync>(
+fn saved_and_parsed<'a, R: Threads + Wait + Sync>(
     rt: &R,
     alloc: Global,
-    words: &str,
-    failing: &[u64],
+    words: &'a str,
+    failing: &'a [u64],
 ) -> Result<Ran, Memory> {
     let given = Given {
         words,
