@@ -13,7 +13,7 @@ use Rattle.wk_core.specs.Seen.{WikiSeen}
 use Rattle.wk_core.specs.declared.outcomes.LoadCause.{LoadCause}
 use Rattle.wk_core.specs.declared.outcomes.LoadCause.TheVariants as cause
 use Rattle.wk_commands.specs.Checked.{IsCompared}
-use Rattle.wk_commands.specs.Drained.{IsDrained, StoreFailed}
+use Rattle.wk_commands.specs.Drained.{IsDrained}
 use Rattle.wk_commands.specs.Generated.{IsGenerated, end_of_refusal}
 use Rattle.wk_commands.specs.Generated as made
 use Rattle.wk_commands.specs.Served.{HasServedAt}
@@ -145,29 +145,20 @@ compared-ends state text before after command.StoreFault status done written is 
 compared-ends state text before after command.Full status done written is = absurd (done.not_full refl)
 compared-ends state text before after command.DoorFault status done written is = absurd (done.no_door refl)
 
--- No whole store's count stands at its end.
-abbrev NoneAtEnd : {K : Type 0} → (K → Bool) → (K → ℕ) → Type 0
-NoneAtEnd {K = K} is_whole faults = (keeper : K) → is_whole keeper ≡ true → faults keeper < 2 ^ 64 - 1
+-- a count that isn't 0 doesn't stand at 0
+not-counted : (now : ℕ) → now ≡ 0 → 1 ≤ now → ⊥
+not-counted now is some = omega (arith, is, some)
 
-module _ {K : Type 0} {is_whole : K → Bool} {faults : K → ℕ} (none_at_end : NoneAtEnd is_whole faults) where
-  -- so a wiki over a whole store doesn't fail, unless the count of its store isn't 0
-  store-holds : (old new : WikiSeen K) → StoreFailed is_whole faults old new → old.start.whole ≡ true → faults new.keeper ≡ 0 → ⊥
-  store-holds old new (inl may) whole held =
-      let one = may whole in
-      let below = none_at_end one.0 one.1 in
-      let at_end = one.2 in
-      omega (arith, below, at_end)
-  store-holds old new (inr some) whole held = omega (arith, some, held)
-
+module _ {K : Type 0} {is_whole : K → Bool} {faults : K → ℕ} where
   drained-ends : (old new : WikiSeen K) (before after : Option (List ℕ)) (how : CommandEnd) (status : ℕ)
-      → IsDrained is_whole faults old new before after how → old.start.whole ≡ true → faults new.keeper ≡ 0 → status ≢ 4 → status ≡ status_of_command how → EndsWithoutFault Jobs status
-  drained-ends old new before after command.Done status done whole held written is = at-status Jobs status 0 is refl
-  drained-ends old new before after command.Memory status done whole held written is = at-status Jobs status 1 is refl
-  drained-ends old new before after command.Full status done whole held written is = at-status Jobs status 10 is refl
-  drained-ends old new before after command.WriteFault status done whole held written is = absurd (written is)
-  drained-ends old new before after command.StoreFault status done whole held written is = absurd (store-holds old new (done.fault refl) whole held)
-  drained-ends old new before after command.Differs status done whole held written is = absurd (done.compares_nothing refl)
-  drained-ends old new before after command.DoorFault status done whole held written is = absurd (done.no_door refl)
+      → IsDrained is_whole faults old new before after how → faults new.keeper ≡ 0 → status ≢ 4 → status ≡ status_of_command how → EndsWithoutFault Jobs status
+  drained-ends old new before after command.Done status done held written is = at-status Jobs status 0 is refl
+  drained-ends old new before after command.Memory status done held written is = at-status Jobs status 1 is refl
+  drained-ends old new before after command.Full status done held written is = at-status Jobs status 10 is refl
+  drained-ends old new before after command.WriteFault status done held written is = absurd (written is)
+  drained-ends old new before after command.StoreFault status done held written is = absurd (not-counted (faults new.keeper) held (done.fault refl))
+  drained-ends old new before after command.Differs status done held written is = absurd (done.compares_nothing refl)
+  drained-ends old new before after command.DoorFault status done held written is = absurd (done.no_door refl)
 
 -- a refusal of a save that ends as a fault of the store is one
 refused-by-fault : (why : SaveRefusal) → command.StoreFault ≡ end_of_refusal why → why ≡ refusal.StoreFault
@@ -193,32 +184,32 @@ refused-by-door (refusal.EditConflict current) is = let e : command.DoorFault �
 refused-by-door (refusal.WikiFull limit) is = let e : command.DoorFault ≡ command.Full = is in cc
 refused-by-door refusal.JournalFull is = let e : command.DoorFault ≡ command.Full = is in cc
 
-module _ {K : Type 0} {is_whole : K → Bool} {faults : K → ℕ} (none_at_end : NoneAtEnd is_whole faults) {edits : List EditAsked} {left later before after : Option (List ℕ)} where
-  generated-fault : (old new : WikiSeen K) → IsGenerated is_whole faults edits old new left later before after command.StoreFault → old.start.whole ≡ true → faults new.keeper ≡ 0 → ⊥
-  generated-fault old new (made.settled middle saved done) whole held = store-holds none_at_end middle new (done.fault refl) (ap (λ s. s.whole) saved.made.start ∙ whole) held
-  generated-fault old new (made.refused why at is kept fault) whole held = not-risen (faults old.keeper) (faults new.keeper) held (fault (refused-by-fault why is))
+module _ {K : Type 0} {is_whole : K → Bool} {faults : K → ℕ} {edits : List EditAsked} {left later before after : Option (List ℕ)} where
+  generated-fault : (old new : WikiSeen K) → IsGenerated is_whole faults edits old new left later before after command.StoreFault → faults new.keeper ≡ 0 → ⊥
+  generated-fault old new (made.settled middle saved done) held = not-counted (faults new.keeper) held (done.fault refl)
+  generated-fault old new (made.refused why at is kept fault) held = not-risen (faults old.keeper) (faults new.keeper) held (fault (refused-by-fault why is))
 
   generated-door : (old new : WikiSeen K) → IsGenerated is_whole faults edits old new left later before after command.DoorFault → ⊥
   generated-door old new (made.settled middle saved done) = done.no_door refl
   generated-door old new (made.refused why at is kept fault) = refused-by-door why is
 
   generated-ends : (old new : WikiSeen K) (how : CommandEnd) (status : ℕ)
-      → IsGenerated is_whole faults edits old new left later before after how → old.start.whole ≡ true → faults new.keeper ≡ 0 → status ≢ 4 → status ≡ status_of_command how → EndsWithoutFault Generate status
-  generated-ends old new command.Done status done whole held written is = at-status Generate status 0 is refl
-  generated-ends old new command.Memory status done whole held written is = at-status Generate status 1 is refl
-  generated-ends old new command.Differs status done whole held written is = at-status Generate status 8 is refl
-  generated-ends old new command.Full status done whole held written is = at-status Generate status 10 is refl
-  generated-ends old new command.WriteFault status done whole held written is = absurd (written is)
-  generated-ends old new command.StoreFault status done whole held written is = absurd (generated-fault old new done whole held)
-  generated-ends old new command.DoorFault status done whole held written is = absurd (generated-door old new done)
+      → IsGenerated is_whole faults edits old new left later before after how → faults new.keeper ≡ 0 → status ≢ 4 → status ≡ status_of_command how → EndsWithoutFault Generate status
+  generated-ends old new command.Done status done held written is = at-status Generate status 0 is refl
+  generated-ends old new command.Memory status done held written is = at-status Generate status 1 is refl
+  generated-ends old new command.Differs status done held written is = at-status Generate status 8 is refl
+  generated-ends old new command.Full status done held written is = at-status Generate status 10 is refl
+  generated-ends old new command.WriteFault status done held written is = absurd (written is)
+  generated-ends old new command.StoreFault status done held written is = absurd (generated-fault old new done held)
+  generated-ends old new command.DoorFault status done held written is = absurd (generated-door old new done)
 
-module _ {K : Type 0} (is_whole : K → Bool) (faults : K → ℕ) (none_at_end : NoneAtEnd is_whole faults) (left later before after : Option (List ℕ)) where
+module _ {K : Type 0} (is_whole : K → Bool) (faults : K → ℕ) (left later before after : Option (List ℕ)) where
   done-ends : (asked : Work) (old new : WikiSeen K) (how : CommandEnd) (status : ℕ)
-      → IsWorked is_whole faults asked old new left later before after how → old.start.whole ≡ true → faults new.keeper ≡ 0 → status ≢ 4 → status ≡ status_of_command how
+      → IsWorked is_whole faults asked old new left later before after how → faults new.keeper ≡ 0 → status ≢ 4 → status ≡ status_of_command how
       → EndsWithoutFault (command_of asked) status
-  done-ends asks.Check old new how status done whole held written is = compared-ends old.state _ before after how status done.1 written is
-  done-ends asks.Jobs old new how status done whole held written is = drained-ends none_at_end old new before after how status done whole held written is
-  done-ends (asks.Generate pages number) old new how status done whole held written is = generated-ends none_at_end old new how status done whole held written is
+  done-ends asks.Check old new how status done held written is = compared-ends old.state _ before after how status done.1 written is
+  done-ends asks.Jobs old new how status done held written is = drained-ends old new before after how status done held written is
+  done-ends (asks.Generate pages number) old new how status done held written is = generated-ends old new how status done held written is
 
 -- ---- serving
 
@@ -234,8 +225,29 @@ module _ {L : Type 0} (door later : DoorSeen L) {address : List ℕ} {most : ℕ
 
 module _ {K L : Type 0} (told : K → Option StoreTables) (faults : K → ℕ) (is_whole : K → Bool) (journal : ℕ) (kept : VaultStore) (opens later : ℕ) (door door_later : DoorSeen L)
     (before after : Outside) (finish : Finish K) where
-  abbrev Fine : Type 0
-  Fine = HasNoFault faults is_whole kept opens later door door_later finish
+  -- nothing failed, by the counts and by the status
+  record Fine : Type 0 where
+    pub tables : StoreTables
+    pub told_is : kept.tables ≡ Some tables
+    pub good : first_broken tables ≡ None
+    pub no_open_fault : Rose opens later → ⊥
+    pub no_read_fault : finish.status ≢ 3
+    pub no_write_fault : finish.status ≢ 4
+    pub no_door_fault : Rose door.faults door_later.faults → ⊥
+    pub no_store_fault : IfSome finish.store (λ left. faults left ≡ 0)
+
+  fine-of : (reads reads_later writes writes_later : ℕ) → (finish.status ≡ 3 → Rose reads reads_later) → (finish.status ≡ 4 → Rose writes writes_later)
+      → HasNoFault faults kept opens later reads reads_later writes writes_later door door_later finish → Fine
+  fine-of reads reads_later writes writes_later read written none = record {
+    tables = none.tables;
+    told_is = none.told_is;
+    good = none.good;
+    no_open_fault = none.no_open_fault;
+    no_read_fault = λ is. none.no_read_fault (read is);
+    no_write_fault = λ is. none.no_write_fault (written is);
+    no_door_fault = none.no_door_fault;
+    no_store_fault = none.no_store_fault;
+  }
 
   -- the tables that the store of the vault tells
   told-of : (keeper : K) → IsOpened told faults is_whole kept keeper → (fine : Fine) → told keeper ≡ Some fine.tables
@@ -281,7 +293,7 @@ module _ {K L : Type 0} (told : K → Option StoreTables) (faults : K → ℕ) (
     worked-ends keeper left end had (worked.done how is o) status_is store_is fine =
         let held = held-of faults finish.store left store_is fine.no_store_fault in
         let status : finish.status ≡ status_of_command how = status_is ∙ ap status_of_work is in
-        done-ends is_whole faults fine.none_at_end before.moments after.moments before.taken after.taken asked o.first o.last how finish.status o.worked (o.whole ∙ had.whole fine.whole) (sym (ap faults o.keeper_is) ∙ held)
+        done-ends is_whole faults before.moments after.moments before.taken after.taken asked o.first o.last how finish.status o.worked (sym (ap faults o.keeper_is) ∙ held)
         fine.no_write_fault status
 
     work-ends : IsWorkedAt told faults is_whole asked journal kept opens later before after finish → Fine → EndsWithoutFault (command_of asked) finish.status
@@ -289,17 +301,16 @@ module _ {K L : Type 0} (told : K → Option StoreTables) (faults : K → ℕ) (
     work-ends (work.not_opened is rose none) fine = absurd (fine.no_open_fault rose)
     work-ends (work.over_a_store keeper had same over) fine = worked-ends keeper over.left over.end had over.worked over.status_is over.store_is fine
 
-  -- a comparison changes nothing of the store
-  compared-whole : (keeper left : K) (end : Result CommandEnd LoadCause) → IsOpened told faults is_whole kept keeper
-      → IsWorkedOn told faults is_whole asks.Check journal keeper left before.moments after.moments before.taken after.taken end → kept.whole ≡ true → faults left ≡ 0
-  compared-whole keeper left end had (worked.not_opened why is o) whole = o.whole (had.whole whole) ∙ had.no_fault
-  compared-whole keeper left end had (worked.done how is o) whole =
-      ap faults o.keeper_is ∙ (ap (λ (w : WikiSeen K). faults w.keeper) o.worked.0 ∙ (o.faults_at_first ∙ had.no_fault))
+    -- the count of a whole store stays
+    worked-whole : (keeper left : K) (end : Result CommandEnd LoadCause) → IsOpened told faults is_whole kept keeper
+        → IsWorkedOn told faults is_whole asked journal keeper left before.moments after.moments before.taken after.taken end → kept.whole ≡ true → faults left ≡ 0
+    worked-whole keeper left end had (worked.not_opened why is o) whole = o.whole (had.whole whole) ∙ had.no_fault
+    worked-whole keeper left end had (worked.done how is o) whole = o.whole_count (had.whole whole) ∙ had.no_fault
 
-  check-whole : IsWorkedAt told faults is_whole asks.Check journal kept opens later before after finish → kept.whole ≡ true → IfSome finish.store (λ left. faults left ≡ 0)
-  check-whole (work.no_memory is none) whole = held-none faults finish.store none.no_store
-  check-whole (work.not_opened is rose none) whole = held-none faults finish.store none.no_store
-  check-whole (work.over_a_store keeper had same over) whole = held-by faults finish.store over.left over.store_is (compared-whole keeper over.left over.end had over.worked whole)
+    work-whole : IsWorkedAt told faults is_whole asked journal kept opens later before after finish → kept.whole ≡ true → IfSome finish.store (λ left. faults left ≡ 0)
+    work-whole (work.no_memory is none) whole = held-none faults finish.store none.no_store
+    work-whole (work.not_opened is rose none) whole = held-none faults finish.store none.no_store
+    work-whole (work.over_a_store keeper had same over) whole = held-by faults finish.store over.left over.store_is (worked-whole keeper over.left over.end had over.worked whole)
 
   module _ (address : List ℕ) (most : ℕ) where
     serving-ends : (keeper left : K) (end : Result CommandEnd LoadCause) → IsOpened told faults is_whole kept keeper
@@ -318,23 +329,19 @@ module _ {K L : Type 0} (told : K → Option StoreTables) (faults : K → ℕ) (
     serve-ends (work.unopened is rose none same) fine = absurd (fine.no_open_fault rose)
     serve-ends (work.over_the_store keeper had same over) fine = serving-ends keeper over.left over.end had over.served over.status_is over.store_is fine
 
--- the work that `check` asks for
-asks-to-check : (c : Command) (pages number : ℕ) (asked : Work) → work_of c pages number ≡ Some asked → (c ≡ Script) ⊎ (c ≡ Check) → asked ≡ asks.Check
-asks-to-check Script pages number asked is one = absurd (let e : None ≡ Some asked = is in cc)
-asks-to-check Serve pages number asked is one = absurd (let e : None ≡ Some asked = is in cc)
-asks-to-check Check pages number asked is one = let e : Some asks.Check ≡ Some asked = is in let same : asks.Check ≡ asked = cc in sym same
-asks-to-check Jobs pages number asked is (inl one) = absurd (let e : Jobs ≡ Script = one in cc)
-asks-to-check Jobs pages number asked is (inr one) = absurd (let e : Jobs ≡ Check = one in cc)
-asks-to-check Generate pages number asked is (inl one) = absurd (let e : Generate ≡ Script = one in cc)
-asks-to-check Generate pages number asked is (inr one) = absurd (let e : Generate ≡ Check = one in cc)
+    served-whole : (keeper left : K) (end : Result CommandEnd LoadCause) → IsOpened told faults is_whole kept keeper
+        → IsServedOn told faults is_whole address most journal keeper left door.told door_later.told door.faults door_later.faults before.taken after.taken end → kept.whole ≡ true → faults left ≡ 0
+    served-whole keeper left end had (worked.not_loaded why is same_door same_faults o) whole = o.whole (had.whole whole) ∙ had.no_fault
+    served-whole keeper left end had (worked.served_over how is o) whole = o.whole_count (had.whole whole) ∙ had.no_fault
 
-no-serving : (c : Command) → c ≡ Serve → (c ≡ Script) ⊎ (c ≡ Check) → ⊥
-no-serving c is (inl one) = let e : Serve ≡ Script = sym is ∙ one in cc
-no-serving c is (inr one) = let e : Serve ≡ Check = sym is ∙ one in cc
+    serve-whole : IsServedAt told faults is_whole address most journal kept opens later door door_later before after finish → kept.whole ≡ true → IfSome finish.store (λ left. faults left ≡ 0)
+    serve-whole (work.no_memory_to_open is none same) whole = held-none faults finish.store none.no_store
+    serve-whole (work.unopened is rose none same) whole = held-none faults finish.store none.no_store
+    serve-whole (work.over_the_store keeper had same over) whole = held-by faults finish.store over.left over.store_is (served-whole keeper over.left over.end had over.served whole)
 
 module _ {K L : Type 0} (told : K → Option StoreTables) (faults : K → ℕ) (is_whole : K → Bool) (opens later : ℕ) (door door_later : DoorSeen L) (before after : Outside) (finish : Finish K) where
   carried-ends : (wanted : Wanted) (kept : VaultStore) → IsCarriedOut told faults is_whole wanted kept opens later door door_later before after finish
-      → HasNoFault faults is_whole kept opens later door door_later finish → EndsWithoutFault wanted.command finish.status
+      → Fine told faults is_whole wanted.journal_limit kept opens later door door_later before after finish → EndsWithoutFault wanted.command finish.status
   carried-ends wanted kept (finished.scripted is done same) fine =
       subst (λ (c : Command). EndsWithoutFault c finish.status) (sym is)
       (scripted-ends told faults is_whole wanted.journal_limit kept opens later door door_later before after finish done fine)
@@ -346,13 +353,13 @@ module _ {K L : Type 0} (told : K → Option StoreTables) (faults : K → ℕ) (
       (serve-ends told faults is_whole wanted.journal_limit kept opens later door door_later before after finish wanted.listen wanted.max_connections done fine)
 
   carried-whole : (wanted : Wanted) (kept : VaultStore) → IsCarriedOut told faults is_whole wanted kept opens later door door_later before after finish
-      → (wanted.command ≡ Script) ⊎ (wanted.command ≡ Check) → kept.whole ≡ true → IfSome finish.store (λ left. faults left ≡ 0)
-  carried-whole wanted kept (finished.scripted is done same) one whole =
+      → kept.whole ≡ true → IfSome finish.store (λ left. faults left ≡ 0)
+  carried-whole wanted kept (finished.scripted is done same) whole =
       scripted-whole told faults is_whole wanted.journal_limit kept opens later door door_later before after finish done whole
-  carried-whole wanted kept (finished.worked asked is done same) one whole =
-      check-whole told faults is_whole wanted.journal_limit kept opens later door door_later before after finish
-      (subst (λ (w : Work). IsWorkedAt told faults is_whole w wanted.journal_limit kept opens later before after finish) (asks-to-check wanted.command wanted.pages wanted.number asked is one) done) whole
-  carried-whole wanted kept (finished.served is done) one whole = absurd (no-serving wanted.command is one)
+  carried-whole wanted kept (finished.worked asked is done same) whole =
+      work-whole told faults is_whole wanted.journal_limit kept opens later door door_later before after finish asked done whole
+  carried-whole wanted kept (finished.served is done) whole =
+      serve-whole told faults is_whole wanted.journal_limit kept opens later door door_later before after finish wanted.listen wanted.max_connections done whole
 
   same-wanted : (wanted other : Wanted) → runs wanted ≡ runs other → other ≡ wanted
   same-wanted wanted other is = let same : wanted ≡ other = cc in sym same
@@ -364,20 +371,23 @@ module _ {K L : Type 0} (told : K → Option StoreTables) (faults : K → ℕ) (
   not-shown wanted (inl is) = cc
   not-shown wanted (inr is) = cc
 
-  pub finished-ends : (wanted : Wanted) (vault : VaultTold) → IsFinished told faults is_whole (runs wanted) vault opens later door door_later before after finish
-      → HasNoFault faults is_whole (store_named vault wanted.store) opens later door door_later finish → EndsWithoutFault wanted.command finish.status
-  finished-ends wanted vault (finished.no_memory is same same_door none) fine = at-status wanted.command finish.status 1 is (memory-ends wanted.command)
-  finished-ends wanted vault (finished.not_taken not is same same_door none) fine = absurd (not-refused wanted not)
-  finished-ends wanted vault (finished.shown text asks same same_door shown) fine = absurd (not-shown wanted asks)
-  finished-ends wanted vault (finished.carried_out other is within done) fine =
+  pub finished-ends : (wanted : Wanted) (vault : VaultTold) (reads reads_later writes writes_later : ℕ)
+      → IsFinished told faults is_whole (runs wanted) vault opens later door door_later before after finish
+      → (finish.status ≡ 3 → Rose reads reads_later) → (finish.status ≡ 4 → Rose writes writes_later)
+      → HasNoFault faults (store_named vault wanted.store) opens later reads reads_later writes writes_later door door_later finish → EndsWithoutFault wanted.command finish.status
+  finished-ends wanted vault reads reads_later writes writes_later (finished.no_memory is same same_door none) read written fine = at-status wanted.command finish.status 1 is (memory-ends wanted.command)
+  finished-ends wanted vault reads reads_later writes writes_later (finished.not_taken not is same same_door none) read written fine = absurd (not-refused wanted not)
+  finished-ends wanted vault reads reads_later writes writes_later (finished.shown text asks same same_door shown) read written fine = absurd (not-shown wanted asks)
+  finished-ends wanted vault reads reads_later writes writes_later (finished.carried_out other is within done) read written fine =
       carried-ends wanted (store_named vault wanted.store)
-      (subst (λ (w : Wanted). IsCarriedOut told faults is_whole w (store_named vault w.store) opens later door door_later before after finish) (same-wanted wanted other is) done) fine
+      (subst (λ (w : Wanted). IsCarriedOut told faults is_whole w (store_named vault w.store) opens later door door_later before after finish) (same-wanted wanted other is) done)
+      (fine-of told faults is_whole wanted.journal_limit (store_named vault wanted.store) opens later door door_later before after finish reads reads_later writes writes_later read written fine)
 
   pub finished-whole : (wanted : Wanted) (vault : VaultTold) → IsFinished told faults is_whole (runs wanted) vault opens later door door_later before after finish
-      → (wanted.command ≡ Script) ⊎ (wanted.command ≡ Check) → vault.whole wanted.store ≡ true → IfSome finish.store (λ left. faults left ≡ 0)
-  finished-whole wanted vault (finished.no_memory is same same_door none) one whole = held-none faults finish.store none.no_store
-  finished-whole wanted vault (finished.not_taken not is same same_door none) one whole = absurd (not-refused wanted not)
-  finished-whole wanted vault (finished.shown text asks same same_door shown) one whole = absurd (not-shown wanted asks)
-  finished-whole wanted vault (finished.carried_out other is within done) one whole =
+      → vault.whole wanted.store ≡ true → IfSome finish.store (λ left. faults left ≡ 0)
+  finished-whole wanted vault (finished.no_memory is same same_door none) whole = held-none faults finish.store none.no_store
+  finished-whole wanted vault (finished.not_taken not is same same_door none) whole = absurd (not-refused wanted not)
+  finished-whole wanted vault (finished.shown text asks same same_door shown) whole = absurd (not-shown wanted asks)
+  finished-whole wanted vault (finished.carried_out other is within done) whole =
       carried-whole wanted (store_named vault wanted.store)
-      (subst (λ (w : Wanted). IsCarriedOut told faults is_whole w (store_named vault w.store) opens later door door_later before after finish) (same-wanted wanted other is) done) one whole
+      (subst (λ (w : Wanted). IsCarriedOut told faults is_whole w (store_named vault w.store) opens later door door_later before after finish) (same-wanted wanted other is) done) whole

@@ -1,17 +1,12 @@
 -- Wikis that many threads drain.
-use Rattle.std.proofs.Common.{◌≡◌, ◌⊎◌, ℕ, ◌+◌, ◌≤◌, ◌<◌, Bool, true, false, List, [], ◌++◌, length, Option, Some, None, inl, inr, refl, sym, ap, ap₂, ◌∙◌, subst, append_assoc, arith}
+use Rattle.std.proofs.Common.{◌≡◌, ℕ, ◌≤◌, ◌<◌, Bool, true, List, [], ◌++◌, inl, inr, refl, sym, ap, ap₂, ◌∙◌, subst, append_assoc, arith}
 use Rattle.std.specs.Prelude.{◌||◌}
-use Rattle.std.specs.List.{list_any}
 use Rattle.std.proofs.lemmas.List.Folds.{list_any-append}
-use mathlib.Core.List.{IsPrefix}
 use Rattle.wk_base.specs.Faults.{Rose}
-use Rattle.wk_page_rules.specs.Verdict.{max_job}
-use Rattle.wk_state_rules.specs.States.{State}
 use Rattle.wk_state_rules.specs.Events.{Event}
 use Rattle.wk_state_rules.specs.Lives.{replay}
 use Rattle.wk_wiki_rules.specs.Entries.{is_save}
 use Rattle.wk_wiki_rules.specs.Starts.{Start}
-use Rattle.wk_wiki_laws.specs.Numbers.{pages_ahead}
 use Rattle.wk_life_laws.specs.Runs.{IsRun}
 use Rattle.wk_core.specs.Seen.{WikiSeen, failed_where}
 use Rattle.wk_core.proofs.WikiSteps.{failed-same}

@@ -1,2 +1,3 @@
 mod DrainedBy
+mod Hired
 mod Sharing

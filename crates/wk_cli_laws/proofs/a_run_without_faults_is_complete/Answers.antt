@@ -2,4 +2,4 @@ use Rattle.wk_cli_laws.proofs.Complete.{finished-ends}
 use Rattle.wk_cli_laws.proofs.a_run_without_faults_is_complete.Goals as goal
 
 pub returns : goal.returns
-returns c = λ start told faults is_whole wanted vault opens later door door_later before after finish. finished-ends told faults is_whole opens later door door_later before after finish wanted vault
+returns c = λ start told faults is_whole wanted vault opens later reads reads_later writes writes_later door door_later before after finish. finished-ends told faults is_whole opens later door door_later before after finish wanted vault reads reads_later writes writes_later

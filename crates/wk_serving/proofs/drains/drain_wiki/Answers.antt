@@ -3,8 +3,8 @@ use Rattle.wk_serving.proofs.DrainedBy.{drained-by-workers, drained-whole, faile
 use Rattle.wk_serving.proofs.drains.drain_wiki.Goals as goal
 
 -- memory was wanting
-pub returns-in-Err : goal.returns-in-Err
-returns-in-Err g c =
+pub returns-in-Err-Memory : goal.returns-in-Err-Memory
+returns-in-Err-Memory g c =
     drained-by-workers g.K.Keeper.faults c.args.wiki c.drain_sealed-wiki.result.wiki c.facts.ensures.run c.facts-2.ensures.run c.drain_sealed-wiki.ensures
 
 -- one thread did what was left
