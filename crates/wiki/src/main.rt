@@ -12,6 +12,7 @@ use wk_cli::{Finish, refusal_text, wiki_main};
 use wk_core::BadStore;
 use wk_door::Door;
 use wk_gate::NoGate;
+use wk_keeper::Vault;
 use wk_net::TcpDoor;
 use wk_vault::{FileVault, Stored};
 
@@ -82,32 +83,38 @@ struct Ended {
     closed: Result<(), Failed>,
 }
 
-/// Makes the top call, and ends the store.
-fn ran<I: Source, O: Sink, C: Clock + Send, D: Door + Send, R: Threads + Wait + Sync>(
-    rt: &R,
-    alloc: Global,
-    words: &[String],
-    vault: &mut FileVault<'_>,
-    input: &mut I,
-    output: &mut O,
-    clock: &mut C,
-    door: &mut D,
-) -> Ended
-where
-    D::Link: Send,
-{
+/// Ends the store that the top call handed back.
+fn closed(finish: Finish<Stored>) -> Ended {
     let Finish {
         status,
         points: _,
         bad,
         store,
-    } = wiki_main(rt, alloc, words, vault, input, output, clock, door, NoGate);
+    } = finish;
     let closed = close(store);
     Ended {
         status,
         bad,
         closed,
     }
+}
+
+/// Makes the top call, of which no worker passes anything between its reads.
+fn ran<V: Vault, I: Source, O: Sink, C: Clock + Send, D: Door + Send, R: Threads + Wait + Sync>(
+    rt: &R,
+    alloc: Global,
+    words: &[String],
+    vault: &mut V,
+    input: &mut I,
+    output: &mut O,
+    clock: &mut C,
+    door: &mut D,
+) -> Finish<V::Store>
+where
+    V::Store: Send,
+    D::Link: Send,
+{
+    wiki_main(rt, alloc, words, vault, input, output, clock, door, NoGate)
 }
 
 /// Tells where the log of the store wasn't copied into its file.
@@ -127,11 +134,7 @@ fn main(rt: HostRuntime) -> io::Result<ExitCode> {
     let mut output = WriteSink::new(io::writer(&rt));
     let mut clock = SystemClock::new(&rt);
     let mut door = TcpDoor::new(&rt);
-    let Ended {
-        status,
-        bad,
-        closed,
-    } = ran(
+    let finish = ran(
         &rt,
         rt.alloc(),
         &words,
@@ -141,6 +144,11 @@ fn main(rt: HostRuntime) -> io::Result<ExitCode> {
         &mut clock,
         &mut door,
     );
+    let Ended {
+        status,
+        bad,
+        closed,
+    } = closed(finish);
     tell_cause(&rt, &vault)?;
     tell(&rt, &words, status, bad)?;
     tell_log(&rt, closed)?;
