@@ -12,7 +12,6 @@ use wk_cli::{Finish, refusal_text, wiki_main};
 use wk_core::BadStore;
 use wk_door::Door;
 use wk_gate::NoGate;
-use wk_keeper::Vault;
 use wk_net::TcpDoor;
 use wk_vault::{FileVault, Stored};
 
@@ -83,38 +82,32 @@ struct Ended {
     closed: Result<(), Failed>,
 }
 
-/// Ends the store that the top call handed back.
-fn closed(finish: Finish<Stored>) -> Ended {
+/// Makes the top call, and ends the store.
+fn ran<I: Source, O: Sink, C: Clock + Send, D: Door + Send, R: Threads + Wait + Sync>(
+    rt: &R,
+    alloc: Global,
+    words: &[String],
+    vault: &mut FileVault<'_>,
+    input: &mut I,
+    output: &mut O,
+    clock: &mut C,
+    door: &mut D,
+) -> Ended
+where
+    D::Link: Send,
+{
     let Finish {
         status,
         points: _,
         bad,
         store,
-    } = finish;
+    } = wiki_main(rt, alloc, words, vault, input, output, clock, door, NoGate);
     let closed = close(store);
     Ended {
         status,
         bad,
         closed,
     }
-}
-
-/// Makes the top call, of which no worker passes anything between its reads.
-fn ran<V: Vault, I: Source, O: Sink, C: Clock + Send, D: Door + Send, R: Threads + Wait + Sync>(
-    rt: &R,
-    alloc: Global,
-    words: &[String],
-    vault: &mut V,
-    input: &mut I,
-    output: &mut O,
-    clock: &mut C,
-    door: &mut D,
-) -> Finish<V::Store>
-where
-    V::Store: Send,
-    D::Link: Send,
-{
-    wiki_main(rt, alloc, words, vault, input, output, clock, door, NoGate)
 }
 
 /// Tells where the log of the store wasn't copied into its file.
@@ -134,7 +127,11 @@ fn main(rt: HostRuntime) -> io::Result<ExitCode> {
     let mut output = WriteSink::new(io::writer(&rt));
     let mut clock = SystemClock::new(&rt);
     let mut door = TcpDoor::new(&rt);
-    let finish = ran(
+    let Ended {
+        status,
+        bad,
+        closed,
+    } = ran(
         &rt,
         rt.alloc(),
         &words,
@@ -144,11 +141,6 @@ fn main(rt: HostRuntime) -> io::Result<ExitCode> {
         &mut clock,
         &mut door,
     );
-    let Ended {
-        status,
-        bad,
-        closed,
-    } = closed(finish);
     tell_cause(&rt, &vault)?;
     tell(&rt, &words, status, bad)?;
     tell_log(&rt, closed)?;

@@ -1,6 +1,6 @@
 //! A store of the program, as one keeper.
 ghost use Rattle.std.specs.Prelude.{◌≡◌, IsErr, None};
-ghost use Rattle.wk_vault.specs.Stores.{faults_by, stored_told, told_by, whole_by};
+ghost use Rattle.wk_vault.specs.Stores.{stored_faults, stored_told, stored_whole};
 
 use sqlite::{File, FileStore};
 use wk_base::Failed;
@@ -9,14 +9,13 @@ use wk_sqlkeeper::SqlKeeper;
 use wk_tables::{Change, Tables};
 
 /// A store of the program: in memory, where it tells its tables and is whole, or in a file, where it tells none and isn't.
-/// It is generic in its two keepers, since that a store goes to other threads is proved where both are seen.
-pub enum Stored<M = MemKeeper, F = SqlKeeper<FileStore<File>>> {
-    Memory(M),
-    File(F),
+pub enum Stored {
+    Memory(MemKeeper),
+    File(SqlKeeper<FileStore<File>>),
 }
 
 // It is written out, so that a caller does not prove again how a database in a file is dropped.
-impl<M: Drop, F: Drop> Drop for Stored<M, F> {
+impl Drop for Stored {
     fn drop(self) {
         match self {
             Stored::Memory(_) => {}
@@ -25,12 +24,12 @@ impl<M: Drop, F: Drop> Drop for Stored<M, F> {
     }
 }
 
-impl<M: Keeper, F: Keeper> Keeper for Stored<M, F> {
-    ghost told = { told_by M.told F.told };
+impl Keeper for Stored {
+    ghost told = { stored_told };
 
-    ghost faults = { faults_by M.faults F.faults };
+    ghost faults = { stored_faults };
 
-    ghost is_whole = { whole_by M.is_whole F.is_whole };
+    ghost is_whole = { stored_whole };
 
     /// The tables of the keeper within.
     fn load(&mut self) -> Result<Tables, KeeperRefusal> {
