@@ -123,16 +123,16 @@ module _ {K : Type 0} {told : K → Option StoreTables} {faults : K → ℕ} {is
 
 module _ {L : Type 0} {address : List ℕ} {most : ℕ} {door later : Option (DoorTold L)} {door_faults door_faults_later : ℕ} {before after : Option (List ℕ)} where
   at-door-fault : {end : CommandEnd} → HasServedAt address most door later door_faults door_faults_later before after end → end ≡ DoorFault → Rose door_faults door_faults_later
-  at-door-fault (serving.broken count rose prefix) is = rose
+  at-door-fault (serving.broken rose part) is = rose
   at-door-fault (serving.served count given all same written) is = absurd (let e : Done ≡ DoorFault = is in cc)
-  at-door-fault (serving.unwritten count prefix) is = absurd (let e : WriteFault ≡ DoorFault = is in cc)
-  at-door-fault (serving.no_memory count prefix) is = absurd (let e : Memory ≡ DoorFault = is in cc)
+  at-door-fault (serving.unwritten part) is = absurd (let e : WriteFault ≡ DoorFault = is in cc)
+  at-door-fault (serving.no_memory part) is = absurd (let e : Memory ≡ DoorFault = is in cc)
 
   at-done : {end : CommandEnd} → HasServedAt address most door later door_faults door_faults_later before after end → end ≡ Done → door_faults_later ≡ door_faults
   at-done (serving.served count given all same written) is = same
-  at-done (serving.broken count rose prefix) is = absurd (let e : DoorFault ≡ Done = is in cc)
-  at-done (serving.unwritten count prefix) is = absurd (let e : WriteFault ≡ Done = is in cc)
-  at-done (serving.no_memory count prefix) is = absurd (let e : Memory ≡ Done = is in cc)
+  at-done (serving.broken rose part) is = absurd (let e : DoorFault ≡ Done = is in cc)
+  at-done (serving.unwritten part) is = absurd (let e : WriteFault ≡ Done = is in cc)
+  at-done (serving.no_memory part) is = absurd (let e : Memory ≡ Done = is in cc)
 
 module _ {K L : Type 0} {told : K → Option StoreTables} {faults : K → ℕ} {is_whole : K → Bool} {address : List ℕ} {most journal : ℕ} {keeper left : K} {door later : Option (DoorTold L)} {door_faults door_faults_later : ℕ}
     {before after : Option (List ℕ)} where

@@ -1,4 +1,4 @@
--- What the commands `check`, `jobs` and `gen` have done by their end (own).
+-- What the commands `check`, `jobs`, `gen` and `serve` have done by their end (own).
 use Rattle.std.specs.Prelude.{◌≡◌, ℕ, Bool, List, [], Some, Result, Option}
 use Rattle.wk_base.specs.Faults.{Rose}
 use Rattle.wk_table_rules.specs.Rows.{StoreTables}

@@ -126,7 +126,8 @@ where
 /// - 2: the words aren't a legal command line ([`read`]), and nothing was touched;
 /// - 3: a read of the input failed;
 /// - 4: a write of the output failed;
-/// - 5: the store couldn't be opened, or failed when it was loaded, or in `jobs` and `gen` when it was changed;
+/// - 5: the store couldn't be opened, or failed when it was loaded, or in `jobs` and `gen` when it was changed (what fails for a worker is
+///   tried once more, on one thread);
 /// - 6: the door couldn't listen, or an accept failed;
 /// - 7: the tables that were loaded break a rule of a good store;
 /// - 8: `check` or `gen` found a page that differs;

@@ -217,9 +217,9 @@ module _ {L : Type 0} (door later : DoorSeen L) {address : List ℕ} {most : ℕ
   served-ends : {how : CommandEnd} (status : ℕ) → HasServedAt address most door.told later.told door.faults later.faults before after how → (Rose door.faults later.faults → ⊥) → status ≢ 4 → status ≡ status_of_command how
       → EndsWithoutFault Serve status
   served-ends status (served.served count given all same text) not_risen written is = at-status Serve status 0 is refl
-  served-ends status (served.broken count rose prefix) not_risen written is = absurd (not_risen rose)
-  served-ends status (served.unwritten count prefix) not_risen written is = absurd (written is)
-  served-ends status (served.no_memory count prefix) not_risen written is = at-status Serve status 1 is refl
+  served-ends status (served.broken rose part) not_risen written is = absurd (not_risen rose)
+  served-ends status (served.unwritten part) not_risen written is = absurd (written is)
+  served-ends status (served.no_memory part) not_risen written is = at-status Serve status 1 is refl
 
 -- ---- the commands
 

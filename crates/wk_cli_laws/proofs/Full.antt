@@ -238,9 +238,9 @@ module _ {K : Type 0} {text : List ℕ} {before after : Outside} {finish : Finis
 module _ {L : Type 0} (door later : DoorSeen L) {address : List ℕ} {most : ℕ} {before after : Option (List ℕ)} where
   serving-not-full : {how : CommandEnd} → HasServedAt address most door.told later.told door.faults later.faults before after how → how ≡ command.Full → ⊥
   serving-not-full (served.served count given all same written) is = let e : command.Done ≡ command.Full = is in cc
-  serving-not-full (served.broken count rose prefix) is = let e : command.DoorFault ≡ command.Full = is in cc
-  serving-not-full (served.unwritten count prefix) is = let e : command.WriteFault ≡ command.Full = is in cc
-  serving-not-full (served.no_memory count prefix) is = let e : command.Memory ≡ command.Full = is in cc
+  serving-not-full (served.broken rose part) is = let e : command.DoorFault ≡ command.Full = is in cc
+  serving-not-full (served.unwritten part) is = let e : command.WriteFault ≡ command.Full = is in cc
+  serving-not-full (served.no_memory part) is = let e : command.Memory ≡ command.Full = is in cc
 
 module _ {K L : Type 0} (told : K → Option StoreTables) (faults : K → ℕ) (is_whole : K → Bool) (address : List ℕ) (most journal : ℕ) (door door_later : DoorSeen L) (before after : Outside) where
   served-on-not-ten : (keeper left : K) (end : Result CommandEnd LoadCause)

@@ -34,7 +34,7 @@ pub fn a_whole_store_comes_back_without_faults<K, L>()
 
 /// At status 10 there is no room for the work: in `jobs` a job is left, and the journal takes fewer than two events, or the job numbers come
 /// to their end; in `gen` a save is refused since the journal or the wiki is full, and for nothing else, or it is so with the jobs behind
-/// all saves. No other command ends so.
+/// all saves. No other command ends so. Where the vault tells the store's tables, that is so of the state that they were opened in.
 pub fn a_command_without_room_has_its_cause<K, L>()
     ensures { (told : K → Option StoreTables) (faults : K → ℕ) (is_whole : K → Bool) (wanted : Wanted) (vault : VaultTold) (opens later : ℕ) (door door_later : DoorSeen L) (before after : Outside) (finish : Finish K)
         → IsFinished told faults is_whole (runs wanted) vault opens later door door_later before after finish

@@ -1,9 +1,7 @@
 -- What serving has written, and what it leaves of the wiki.
-use Rattle.std.proofs.Common.{◌≡◌, ◌≢◌, ◌⊎◌, ◌≤◌, ℕ, ◌+◌, ◌-◌, true, List, [], ◌∷◌, ◌++◌, length, take, drop, Option, None, Some, Result, Ok, Err, refl, sym, ap, ap₂, ◌∙◌, subst, inl, inr, arith, append-nil, length-append}
-use Rattle.std.proofs.Math.Seq.{take-append-add}
+use Rattle.std.proofs.Common.{◌≡◌, ◌≢◌, ◌⊎◌, ◌≤◌, ℕ, ◌+◌, ◌-◌, true, List, [], ◌∷◌, ◌++◌, length, take, drop, Option, None, Some, Result, Ok, Err, refl, sym, ap, ap₂, ◌∙◌, subst, inl, inr, arith, append-nil}
 use Rattle.std.proofs.lemmas.Bool.{false≢true}
-use Rattle.std.proofs.lemmas.List.{take-append-drop, take-append-le}
-use Rattle.std.specs.Io.KnownBytes.{Appends}
+use Rattle.std.proofs.lemmas.List.{take-append-drop}
 use Rattle.std.specs.Prelude.{IfErr, OnOk}
 use Rattle.std.proofs.KnownBytes.{Appends-nil, Appends-trans}
 use mathlib.Core.List.{IsPrefix}
@@ -25,61 +23,43 @@ use Rattle.wk_door.specs.declared.entrance.Taken.{Taken}
 use Rattle.wk_serving.specs.Returns.{ComesBack}
 use Rattle.wk_serving.specs.Serves.{HasServed}
 use Rattle.wk_commands.specs.Lived.{HasLivedOn}
-use Rattle.wk_commands.specs.Served.{EndsAsLine, EndsServing, EndsTaken, GivesAtMost, HasBegun, HasGiven, HasServedAt, IsServedFrom, WritesLine, broken, gave, no_memory, not_listening, served, unwritten}
-use Rattle.wk_commands.specs.Texts.{listening_line, serve_text, served_line}
+use Rattle.wk_commands.specs.Served.{EndsAsLine, EndsServing, EndsTaken, GivesAtMost, HasBegun, HasGiven, HasServedAt, HasWrittenPart, IsServedFrom, WritesLine, before_links, behind_links, broken, gave, no_memory, not_listening, served, unwritten}
+use Rattle.wk_commands.specs.Texts.{listening_line, served_line}
 use Rattle.wk_commands.specs.declared.ends.CommandEnd.{CommandEnd}
 use Rattle.wk_commands.specs.declared.ends.CommandEnd.TheVariants.{Done, Differs, DoorFault, Full, Memory, StoreFault, WriteFault}
 use Rattle.wk_commands.proofs.Lives.{sound-on}
 
--- ---- prefixes of two lines
+-- ---- nothing of a line
 
 nothing-yet : (before : Option (List ℕ)) (text : List ℕ) → AppendsPrefix before before text
 nothing-yet before text = (0, omega arith, Appends-nil before)
-
-within-first : (before after : Option (List ℕ)) (line later : List ℕ) → AppendsPrefix before after line → AppendsPrefix before after (line ++ later)
-within-first before after line later (k, within, first) = (
-  k,
-  (let both = length-append line later in omega (arith, within, both)),
-  subst (Appends before after) (sym (take-append-le k line later within)) first,
-)
-
-within-second : (before middle after : Option (List ℕ)) (line later : List ℕ) → Appends before middle line → AppendsPrefix middle after later → AppendsPrefix before after (line ++ later)
-within-second before middle after line later first (k, within, second) = (
-  length line + k,
-  (let both = length-append line later in omega (arith, within, both)),
-  subst (Appends before after) (sym (take-append-add line later k)) (Appends-trans before middle after line (take k later) first second),
-)
-
--- the first line, and no more
-first-alone : (before after : Option (List ℕ)) (line later : List ℕ) → Appends before after line → AppendsPrefix before after (line ++ later)
-first-alone before after line later first = within-second before after after line later first (nothing-yet after later)
 
 -- ---- before the first link
 
 module _ {L : Type 0} (address : List ℕ) (told later : Option (DoorTold L)) (faults faults_later : ℕ) where
   -- the door couldn't listen
-  pub not-listening : (before : Option (List ℕ)) (most : ℕ) → Rose faults faults_later → HasServedAt address most told later faults faults_later before before DoorFault
-  not-listening before most rose = broken 0 rose (nothing-yet before (serve_text address 0))
+  pub not-listening : (before : Option (List ℕ)) (most : ℕ) → later ≡ told → Rose faults faults_later → HasServedAt address most told later faults faults_later before before DoorFault
+  not-listening before most same rose = broken rose (before_links (inl same) (nothing-yet before (listening_line address)))
 
   -- the first line wasn't written whole
-  not-begun : (before after : Option (List ℕ)) (most : ℕ) (end : CommandEnd) → end ≢ Done → EndsAsLine (listening_line address) end before after → HasServedAt address most told later faults faults_later before after end
-  not-begun before after most Done not line = absurd (not refl)
-  not-begun before after most WriteFault not line = unwritten 0 (within-first before after (listening_line address) (served_line 0) line)
-  not-begun before after most Memory not line = no_memory 0 (subst (λ (a : Option (List ℕ)). AppendsPrefix before a (serve_text address 0)) (sym line) (nothing-yet before (serve_text address 0)))
-  not-begun before after most Differs not line = absurd line
-  not-begun before after most Full not line = absurd line
-  not-begun before after most StoreFault not line = absurd line
-  not-begun before after most DoorFault not line = absurd line
+  not-begun : (before after : Option (List ℕ)) (most : ℕ) (end : CommandEnd) → later ≡ listening told address → end ≢ Done → EndsAsLine (listening_line address) end before after → HasServedAt address most told later faults faults_later before after end
+  not-begun before after most Done listens not line = absurd (not refl)
+  not-begun before after most WriteFault listens not line = unwritten (before_links (inr listens) line)
+  not-begun before after most Memory listens not line = no_memory (before_links (inr listens) (subst (λ (a : Option (List ℕ)). AppendsPrefix before a (listening_line address)) (sym line) (nothing-yet before (listening_line address))))
+  not-begun before after most Differs listens not line = absurd line
+  not-begun before after most Full listens not line = absurd line
+  not-begun before after most StoreFault listens not line = absurd line
+  not-begun before after most DoorFault listens not line = absurd line
 
   pub begun-by : (before after : Option (List ℕ)) (end : Result (Unit {0}) CommandEnd) → later ≡ listening told address → faults_later ≡ faults → WritesLine (listening_line address) end before after
       → OnOk end (HasBegun address told later faults faults_later before after)
   begun-by before after (Ok done) listens same line = record { listens = listens; no_fault = same; written = line }
   begun-by before after (Err end) listens same line = tt
 
-  pub ended-by : (before after : Option (List ℕ)) (end : Result (Unit {0}) CommandEnd) → WritesLine (listening_line address) end before after
+  pub ended-by : (before after : Option (List ℕ)) (end : Result (Unit {0}) CommandEnd) → later ≡ listening told address → WritesLine (listening_line address) end before after
       → IfErr end (λ how. (most : ℕ) → HasServedAt address most told later faults faults_later before after how)
-  ended-by before after (Ok done) line = tt
-  ended-by before after (Err end) line = λ most. not-begun before after most end line.0 line.1
+  ended-by before after (Ok done) listens line = tt
+  ended-by before after (Err end) listens line = λ most. not-begun before after most end listens line.0 line.1
 
 -- no link more
 none-given : (counts : Option DoorCounts) → after_giving counts 0 ≡ counts
@@ -98,8 +78,12 @@ end-of-line line before after end written = written.1
 module _ {L : Type 0} (address : List ℕ) (most : ℕ) (told middle later : Option (DoorTold L)) (faults faults_middle faults_later : ℕ) (before between after : Option (List ℕ))
     (begun : HasBegun address told middle faults faults_middle before between) where
   -- no more was written
-  unchanged : after ≡ between → Appends before after (listening_line address)
-  unchanged is = subst (λ (a : Option (List ℕ)). Appends before a (listening_line address)) (sym is) begun.written
+  no-more : (line : List ℕ) → after ≡ between → AppendsPrefix between after line
+  no-more line is = subst (λ (a : Option (List ℕ)). AppendsPrefix between a line) (sym is) (nothing-yet between line)
+
+  -- the first line, and a prefix of the last one
+  part : (count : ℕ) → HasGiven address most told later count → AppendsPrefix between after (served_line count) → HasWrittenPart address most told later before after
+  part count given line = behind_links count between given begun.written line
 
   given-of : (count : ℕ) → counts_of later ≡ after_giving (counts_of middle) count → counts_of later ≡ after_giving (counts_of (listening told address)) count
   given-of count given = subst (λ (d : Option (DoorTold L)). counts_of later ≡ after_giving (counts_of d) count) begun.listens given
@@ -107,11 +91,14 @@ module _ {L : Type 0} (address : List ℕ) (most : ℕ) (told middle later : Opt
   given-so : (count : ℕ) → count ≤ most → counts_of later ≡ after_giving (counts_of middle) count → HasGiven address most told later count
   given-so count within given = record { within = within; counts = given-of count given }
 
+  none-so : counts_of later ≡ counts_of middle → HasGiven address most told later 0
+  none-so same = given-so 0 (omega arith) (same ∙ sym (none-given (counts_of middle)))
+
   to-the-end : (count : ℕ) (end : CommandEnd) → HasGiven address most told later count → (count ≡ most) ⊎ (is_emptied (counts_of later) ≡ true) → faults_later ≡ faults_middle
       → EndsAsLine (served_line count) end between after → HasServedAt address most told later faults faults_later before after end
   to-the-end count Done given all same line = served count given all (same ∙ begun.no_fault) (Appends-trans before between after (listening_line address) (served_line count) begun.written line)
-  to-the-end count WriteFault given all same line = unwritten count (within-second before between after (listening_line address) (served_line count) begun.written line)
-  to-the-end count Memory given all same line = no_memory count (first-alone before after (listening_line address) (served_line count) (unchanged line))
+  to-the-end count WriteFault given all same line = unwritten (part count given line)
+  to-the-end count Memory given all same line = no_memory (part count given (no-more (served_line count) line))
   to-the-end count Differs given all same line = absurd line
   to-the-end count Full given all same line = absurd line
   to-the-end count StoreFault given all same line = absurd line
@@ -128,19 +115,19 @@ module _ {L : Type 0} (address : List ℕ) (most : ℕ) (told middle later : Opt
       to-the-end count end (given-so count entered.within entered.given) (inr none.1) none.0 ends
   as-taken (Some Broken) count end entered over ends =
       subst (HasServedAt address most told later faults faults_later before after) (sym ends.0)
-      (broken count (subst (λ f. Rose f faults_later) begun.no_fault (entered.broken refl)) (first-alone before after (listening_line address) (served_line count) (unchanged ends.1)))
+      (broken (subst (λ f. Rose f faults_later) begun.no_fault (entered.broken refl)) (part count (given-so count entered.within entered.given) (no-more (served_line count) ends.1)))
 
   pub served-by : {E : Type 0} (taken : Result Taken E) (end : CommandEnd) → HasServed (counts_of middle) (counts_of later) faults_middle faults_later most taken → EndsServing taken end between after
       → HasServedAt address most told later faults faults_later before after end
   served-by (Ok taken) end done ends = as-taken taken.shut taken.count end done.0 done.1 ends
   served-by (Err none) end done ends =
       subst (HasServedAt address most told later faults faults_later before after) (sym ends.0)
-      (no_memory 0 (first-alone before after (listening_line address) (served_line 0) (unchanged ends.1)))
+      (no_memory (part 0 (none-so done.0) (no-more (served_line 0) ends.1)))
 
   -- whatever the end
   pub links-given : {E : Type 0} (taken : Result Taken E) → HasServed (counts_of middle) (counts_of later) faults_middle faults_later most taken → GivesAtMost address most told later
   links-given (Ok taken) done = gave taken.count (given-so taken.count done.0.within done.0.given)
-  links-given (Err none) done = gave 0 (given-so 0 (omega arith) (done.0 ∙ sym (none-given (counts_of middle))))
+  links-given (Err none) done = gave 0 (none-so done.0)
 
 -- before the first link, the door listens at the address, or it is as it was
 pub none-taken : {L : Type 0} (address : List ℕ) (most : ℕ) (told later : Option (DoorTold L)) → (later ≡ listening told address) ⊎ (later ≡ told) → GivesAtMost address most told later

@@ -57,16 +57,22 @@ pub data GivesAtMost {L : Type 0} (address : List ℕ) (most : ℕ) (told later 
   gave : (count : ℕ) → HasGiven address most told later count → GivesAtMost address most told later
   not_listening : later ≡ told → GivesAtMost address most told later
 
+-- What serving has written that didn't come to its end: a prefix of its first line, before any link was given; or that line, and, behind so
+-- many links, a prefix of the line that tells how many they are.
+pub data HasWrittenPart {L : Type 0} (address : List ℕ) (most : ℕ) (told later : Option (DoorTold L)) (before after : Option (List ℕ)) : Type 0 where
+  before_links : (later ≡ told) ⊎ (later ≡ listening told address) → AppendsPrefix before after (listening_line address) → HasWrittenPart address most told later before after
+  behind_links : (count : ℕ) (between : Option (List ℕ)) → HasGiven address most told later count → Appends before between (listening_line address) → AppendsPrefix between after (served_line count) →
+      HasWrittenPart address most told later before after
+
 -- How serving ended, of a door that told this and had so many faults, at this address and for at most so many links. Both lines were
--- written where as many links were given or none is left; else a prefix of two such lines. It ends so only where a call of the door
--- failed, or a write, or for want of memory.
+-- written where as many links were given or none is left; else a part of them. It ends so only where a call of the door failed, or a
+-- write, or for want of memory.
 pub data HasServedAt {L : Type 0} (address : List ℕ) (most : ℕ) (told later : Option (DoorTold L)) (faults faults_later : ℕ) (before after : Option (List ℕ)) : CommandEnd → Type 0 where
   served : (count : ℕ) → HasGiven address most told later count → (count ≡ most) ⊎ (is_emptied (counts_of later) ≡ true) → faults_later ≡ faults →
       Appends before after (serve_text address count) → HasServedAt address most told later faults faults_later before after Done
-  broken : (count : ℕ) → Rose faults faults_later → AppendsPrefix before after (serve_text address count) →
-      HasServedAt address most told later faults faults_later before after DoorFault
-  unwritten : (count : ℕ) → AppendsPrefix before after (serve_text address count) → HasServedAt address most told later faults faults_later before after WriteFault
-  no_memory : (count : ℕ) → AppendsPrefix before after (serve_text address count) → HasServedAt address most told later faults faults_later before after Memory
+  broken : Rose faults faults_later → HasWrittenPart address most told later before after → HasServedAt address most told later faults faults_later before after DoorFault
+  unwritten : HasWrittenPart address most told later before after → HasServedAt address most told later faults faults_later before after WriteFault
+  no_memory : HasWrittenPart address most told later before after → HasServedAt address most told later faults faults_later before after Memory
 
 -- What serving leaves of a wiki that was just opened: it began as it did, its state is given by a life from the first one, and begins
 -- with its revisions.

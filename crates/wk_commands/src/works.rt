@@ -134,9 +134,8 @@ fn released<K: Keeper>(wiki: Wiki<K>, end: CommandEnd) -> Worked<K>
 /// keeper comes back: at a refusal of the load with the tables that it had, else with those of the state in which the work
 /// ended. It tells its tables where it did, is whole where it was, and then its count of faults stays.
 ///
-/// Where the load is refused, and behind `Work::Check`, the count doesn't fall. That isn't said behind the others: the keeper
-/// stood behind the turn that the workers took, which carries how the wiki began, and with it the count of a keeper that is
-/// whole alone. It waits.
+/// Where the load is refused, and behind `Work::Check`, the count doesn't fall. Behind the others, where workers take the keeper in
+/// turns, that isn't said of a keeper that isn't whole. It waits.
 pub fn work_over<
     K: Keeper + Send,
     G: Gate + Copy + Send,

@@ -78,7 +78,7 @@ fn drain_sealed<K: Keeper + Send, G: Gate + Copy + Send, R: Threads + Wait + Syn
 ///
 /// `Done`: no job is left. `JournalFull` only where a job was left at the call, and the journal's limit is below 2, or the
 /// number of the next job, with the pages above the cursors of all fan jobs, is above 2^62. `StoreFault` only where the store
-/// failed on this thread too: the keeper's count of faults rose behind the workers, so it isn't 0. `Memory` may come. It waits.
+/// failed on this thread too, so the keeper's count of faults isn't 0. `Memory` may come. It waits.
 pub fn drain_wiki<K: Keeper + Send, G: Gate + Copy + Send, R: Threads + Wait + Sync>(
     rt: &R,
     wiki: Wiki<K>,

@@ -169,7 +169,7 @@ pub struct Served<K: Keeper> {
 /// end (`serve_session`), and then the next one, until so many were accepted, the door has none left, or an accept failed.
 /// Links are accepted one at a time.
 ///
-/// `Memory` may come before the first link is accepted; the door is then as it was. It waits.
+/// `Memory` may come before the first link is accepted; its counts are then as they were. It waits.
 pub fn serve_wiki<
     K: Keeper + Send,
     G: Gate + Copy + Send,
