@@ -1,9 +1,11 @@
-use Rattle.std.proofs.Common.{◌≡◌, List, ◌++◌, Some, sym, ap, subst, ◌∙◌}
+use Rattle.std.proofs.Common.{◌≡◌, ℕ, List, ◌++◌, None, sym, ap, subst, ◌∙◌}
 use Rattle.std.proofs.lemmas.List.{append-nil}
 use mathlib.Core.List.{IsPrefix}
 use Rattle.wk_state_rules.specs.Events.{Event}
 use Rattle.wk_wiki_rules.specs.Entries.{closes}
+use Rattle.wk_wiki_rules.specs.Starts.{Start}
 use Rattle.wk_turn.specs.Journal.{ClosesOwn, added}
+use Rattle.wk_turn.specs.Told.{Story}
 use Rattle.wk_turn.proofs.Closing.{added_none, adds_none}
 use Rattle.wk_turn.proofs.Lists.{prefix_self}
 use Rattle.wk_reads.proofs.desk.give.Goals as goal
@@ -14,3 +16,11 @@ leave-requires-clause-journal g c = subst (λ (j : List Event). IsPrefix j c.arg
 pub leave-requires-clause-closes : goal.leave-requires-clause-closes
 leave-requires-clause-closes g c =
     subst (λ (j : List Event). ClosesOwn closes j c.args.held.value.journal c.args.pass.now.own) (sym (ap (λ w. w.journal) c.requires.same)) (adds_none closes c.args.held.value.journal c.args.pass.now.own)
+
+pub returns : goal.returns
+returns g c =
+    let none : c.args.pass.now.own ++ added c.args.held.before.value.journal c.args.held.value.journal ≡ c.args.pass.now.own =
+    ap (λ (j : List Event). c.args.pass.now.own ++ added j c.args.held.value.journal) (ap (λ w. w.journal) c.requires.same)
+    ∙ (ap (λ (l : List ℕ). c.args.pass.now.own ++ l) (added_none c.args.held.value.journal) ∙ append-nil c.args.pass.now.own) in
+    c.leave.ensures.pass
+    ∙ ap (λ (own : List ℕ). let p : Story Start Event = record c.args.pass.now { seen = c.args.held.value.journal; own = own; held = None } in p) none
