@@ -1,11 +1,9 @@
-use Rattle.std.proofs.Common.{◌≡◌, ℕ, List, ◌++◌, None, sym, ap, subst, ◌∙◌}
+use Rattle.std.proofs.Common.{◌≡◌, ℕ, List, [], ◌++◌, None, sym, ap, subst, ◌∙◌}
 use Rattle.std.proofs.lemmas.List.{append-nil}
 use mathlib.Core.List.{IsPrefix}
 use Rattle.wk_state_rules.specs.Events.{Event}
 use Rattle.wk_wiki_rules.specs.Entries.{closes}
-use Rattle.wk_wiki_rules.specs.Starts.{Start}
 use Rattle.wk_turn.specs.Journal.{ClosesOwn, added}
-use Rattle.wk_turn.specs.Told.{Story}
 use Rattle.wk_turn.proofs.Closing.{added_none, adds_none}
 use Rattle.wk_turn.proofs.Lists.{prefix_self}
 use Rattle.wk_reads.proofs.desk.give.Goals as goal
@@ -19,8 +17,7 @@ leave-requires-clause-closes g c =
 
 pub returns : goal.returns
 returns g c =
-    let none : c.args.pass.now.own ++ added c.args.held.before.value.journal c.args.held.value.journal ≡ c.args.pass.now.own =
-    ap (λ (j : List Event). c.args.pass.now.own ++ added j c.args.held.value.journal) (ap (λ w. w.journal) c.requires.same)
-    ∙ (ap (λ (l : List ℕ). c.args.pass.now.own ++ l) (added_none c.args.held.value.journal) ∙ append-nil c.args.pass.now.own) in
-    c.leave.ensures.pass
-    ∙ ap (λ (own : List ℕ). let p : Story Start Event = record c.args.pass.now { seen = c.args.held.value.journal; own = own; held = None } in p) none
+    let journal = c.args.held.value.journal in
+    let none : added c.args.held.before.value.journal journal ≡ [] = subst (λ (j : List Event). added j journal ≡ []) (sym (ap (λ w. w.journal) c.requires.same)) (added_none journal) in
+    let own : c.args.pass.now.own ++ added c.args.held.before.value.journal journal ≡ c.args.pass.now.own = ap (λ (a : List ℕ). c.args.pass.now.own ++ a) none ∙ append-nil c.args.pass.now.own in
+    c.leave.ensures.pass ∙ ap (λ (o : List ℕ). record c.args.pass.now { seen = journal; own = o; held = None }) own
