@@ -1,0 +1,36 @@
+//! Taking the wiki, and giving it back.
+ghost use Rattle.std.specs.Prelude.{◌≡◌, None, Some};
+ghost use Rattle.wk_turn.specs.Told.{IsOf};
+ghost use Rattle.wk_shared.specs.Desk.{IsGiven, IsTaken, MakesAtMostOne};
+
+use std::sync::Wait;
+use wk_shared::{Held, Keeper, Pass, Shared, Wiki};
+
+/// Waits for the turn and takes the wiki.
+pub fn take<K: Keeper, R: Wait>(
+    shared: &Shared<K>,
+    rt: &R,
+    pass: &mut Pass<Wiki<K>>,
+) -> Held<Wiki<K>>
+    requires turn { IsOf shared.now pass.old }
+    requires free { pass.old.held ≡ None }
+    ensures taken { IsTaken K.is_whole shared.now pass.old pass.new result.value }
+    ensures before { result.before.value ≡ result.value }
+{
+    let held = shared.enter(rt, pass);
+    held.value.facts();
+    held
+}
+
+/// Gives the wiki back with at most one event more, and tells the point.
+pub fn give<K: Keeper>(shared: &Shared<K>, pass: &mut Pass<Wiki<K>>, held: Held<Wiki<K>>) -> u64
+    requires turn { IsOf shared.now pass.old }
+    requires entered { pass.old.held ≡ Some held.before.value.journal }
+    requires start { held.before.value.start ≡ shared.now.start }
+    requires made { MakesAtMostOne pass.old.own held.before.value held.value }
+    ensures { IsGiven pass.old pass.new held.before.value held.value result }
+{
+    held.value.facts();
+    shared.leave(pass, held);
+    pass.point()
+}
