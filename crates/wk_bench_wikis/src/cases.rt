@@ -1,6 +1,8 @@
 //! What the words ask for.
 ghost use Rattle.std.specs.Prelude.{◌≤◌, IfSome};
 
+use crate::messages::Kind;
+use crate::sessions::Way;
 use wk_bench_answers::asked_named;
 use wk_bench_core::Task;
 
@@ -16,6 +18,8 @@ pub enum Case {
     /// A wiki is opened over an empty store, and so many threads share it. Each makes the edits, all of a page of its own,
     /// and so many fetches behind each edit.
     Shared { threads: u64 },
+    /// A wiki is opened over an empty store, and a session makes the pages. Another one answers these messages.
+    Session { kind: Kind, way: Way },
 }
 
 /// A case, how many pages the store has, how many of them are edited first, and how often it is done behind them.
@@ -35,7 +39,8 @@ const MOST_THREADS: u64 = 64;
 
 pub const USAGE: &str = "wk_bench_wikis store|load PAGES, wk_bench_wikis edits PAGES EDITS, \
 wk_bench_wikis users PAGES TIMES, wk_bench_wikis claims|drafts|refreshes PAGES EDITS TIMES, \
-wk_bench_wikis shared THREADS EDITS TIMES, or \
+wk_bench_wikis shared THREADS EDITS TIMES, \
+wk_bench_wikis session parse|expand|edit pipelined|single PAGES TIMES, or \
 wk_bench_wikis answers parse|expand|backlinks|embedded|members|changes|revisions PAGES TIMES, \
 with PAGES, EDITS and TIMES from 1 to 1000000, and THREADS from 1 to 64";
 
@@ -139,6 +144,34 @@ fn answers_asked(words: &[String]) -> Option<Asked> {
     with_times(Case::Answers(question), others)
 }
 
+/// What each message of a session asks, by its word.
+fn message_named(word: &str) -> Option<Kind> {
+    match word {
+        "parse" => Some(Kind::Parse),
+        "expand" => Some(Kind::Expand),
+        "edit" => Some(Kind::Edit),
+        _ => None,
+    }
+}
+
+/// How the messages of a session come, by its word.
+fn way_named(word: &str) -> Option<Way> {
+    match word {
+        "pipelined" => Some(Way::Pipelined),
+        "single" => Some(Way::Single),
+        _ => None,
+    }
+}
+
+/// A session, of which the words tell what each message asks, how they come, the pages, and how many messages there are.
+fn session_asked(words: &[String]) -> Option<Asked> {
+    let (name, others) = words.split_first()?;
+    let kind = message_named(name.as_str())?;
+    let (name, others) = others.split_first()?;
+    let way = way_named(name.as_str())?;
+    with_times(Case::Session { kind, way }, others)
+}
+
 /// What the words ask for. None where they name no case, or don't fit it.
 pub fn chosen(words: &[String]) -> Option<Asked> {
     let (name, others) = words.split_first()?;
@@ -152,6 +185,7 @@ pub fn chosen(words: &[String]) -> Option<Asked> {
         "users" => with_times(Case::Wiki(Task::Users), others),
         "answers" => answers_asked(others),
         "shared" => shared_asked(others),
+        "session" => session_asked(others),
         _ => None,
     }
 }

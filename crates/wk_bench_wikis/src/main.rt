@@ -4,9 +4,14 @@
 #![tactic(auto)]
 
 mod cases;
+mod messages;
+mod peer;
+mod sessions;
 mod work;
 
 use cases::{Asked, Case, USAGE, chosen};
+use messages::Kind;
+use sessions::Way;
 use std::alloc::Global;
 use std::process::ExitCode;
 use std::rt::Env;
@@ -16,7 +21,7 @@ use wk_memory::Memory;
 use work::done;
 
 /// What is run without words: each of these with 20 pages, 8 edits and 5 times.
-const CASES: [Case; 15] = [
+const CASES: [Case; 21] = [
     Case::Store,
     Case::Wiki(Task::Load),
     Case::Wiki(Task::Edits),
@@ -32,6 +37,30 @@ const CASES: [Case; 15] = [
     Case::Answers(wk_bench_answers::Asked::Changes),
     Case::Answers(wk_bench_answers::Asked::Revisions),
     Case::Shared { threads: 4 },
+    Case::Session {
+        kind: Kind::Parse,
+        way: Way::Pipelined,
+    },
+    Case::Session {
+        kind: Kind::Parse,
+        way: Way::Single,
+    },
+    Case::Session {
+        kind: Kind::Expand,
+        way: Way::Pipelined,
+    },
+    Case::Session {
+        kind: Kind::Expand,
+        way: Way::Single,
+    },
+    Case::Session {
+        kind: Kind::Edit,
+        way: Way::Pipelined,
+    },
+    Case::Session {
+        kind: Kind::Edit,
+        way: Way::Single,
+    },
 ];
 
 /// The case at a small size.

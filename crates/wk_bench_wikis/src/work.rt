@@ -1,6 +1,8 @@
 //! The work over a store in memory. This is the one place in which the keeper is a certain one.
 
 use crate::cases::{Asked, Case};
+use crate::messages::Kind;
+use crate::sessions::{Sent, Way, served};
 use std::alloc::Global;
 use std::sync::Wait;
 use std::thread::Threads;
@@ -77,6 +79,24 @@ fn shared_in_memory<R: Threads + Wait + Sync>(
     Ok(ended.wiki.revision_count())
 }
 
+/// Serves what is sent on a wiki over an empty store. The bytes of the replies.
+fn served_in_memory<R: Wait>(rt: &R, alloc: Global, sent: Sent) -> Result<u64, Memory> {
+    let keeper = MemKeeper::new(Tables::new(alloc));
+    served(rt, alloc, keeper, sent)
+}
+
+/// The name of a session and of what is counted.
+fn session_word(kind: Kind, way: Way) -> &'static str {
+    match (kind, way) {
+        (Kind::Parse, Way::Pipelined) => "session parse pipelined: bytes",
+        (Kind::Parse, Way::Single) => "session parse single: bytes",
+        (Kind::Expand, Way::Pipelined) => "session expand pipelined: bytes",
+        (Kind::Expand, Way::Single) => "session expand single: bytes",
+        (Kind::Edit, Way::Pipelined) => "session edit pipelined: bytes",
+        (Kind::Edit, Way::Single) => "session edit single: bytes",
+    }
+}
+
 /// The name of the task and of what it counts.
 fn counted(task: Task) -> &'static str {
     match task {
@@ -114,6 +134,15 @@ pub fn done<R: Threads + Wait + Sync>(
         Case::Shared { threads } => {
             let revisions = shared_in_memory(rt, alloc, threads, edits, times)?;
             Ok(("shared: revisions", revisions))
+        }
+        Case::Session { kind, way } => {
+            let sent = Sent {
+                kind,
+                way,
+                pages,
+                times,
+            };
+            Ok((session_word(kind, way), served_in_memory(rt, alloc, sent)?))
         }
     }
 }
