@@ -7,10 +7,10 @@ use wk_gate::Gate;
 /// How often a wait looks at most.
 const MOST_TURNS: u64 = 1_000_000_000;
 
-/// Waits until the count is two or more; whether it came to that.
-fn reached_two(count: &AtomicU64) -> bool {
+/// Waits until the count is as great as this; whether it came to that.
+fn reached(count: &AtomicU64, wanted: u64) -> bool {
     'turns: for _ in 0..MOST_TURNS {
-        if count.load(Ordering::SeqCst) >= 2 {
+        if count.load(Ordering::SeqCst) >= wanted {
             return true;
         }
         yield_now();
@@ -18,33 +18,35 @@ fn reached_two(count: &AtomicU64) -> bool {
     false
 }
 
-/// How many copies of a gate were passed, and how many of them waited in vain.
+/// How many copies of a gate are to meet, how many were passed, and how many of them waited in vain.
 #[derive(Drop)]
 pub struct Meeting {
+    wanted: u64,
     came: AtomicU64,
     missed: AtomicU64,
 }
 
 impl Meeting {
-    /// A meeting to which nobody came yet.
-    pub fn new() -> Meeting {
+    /// A meeting of so many, to which nobody came yet.
+    pub fn new(wanted: u64) -> Meeting {
         Meeting {
+            wanted,
             came: AtomicU64::new(0),
             missed: AtomicU64::new(0),
         }
     }
 
-    /// Comes, and waits until two have come.
+    /// Comes, and waits until all have come.
     fn wait(&self) {
         self.came.fetch_add(1, Ordering::SeqCst);
-        if !reached_two(&self.came) {
+        if !reached(&self.came, self.wanted) {
             self.missed.fetch_add(1, Ordering::SeqCst);
         }
     }
 
-    /// Whether two came or more, and none waited in vain.
+    /// Whether so many came or more, and none waited in vain.
     pub fn took_place(&self) -> bool {
-        self.came.load(Ordering::SeqCst) >= 2 && self.missed.load(Ordering::SeqCst) == 0
+        self.came.load(Ordering::SeqCst) >= self.wanted && self.missed.load(Ordering::SeqCst) == 0
     }
 }
 

@@ -59,7 +59,7 @@ impl Ran {
         }
     }
 
-    /// Whether the store that was handed back has one revision, the first, with this text.
+    /// Whether the store that was handed back has one revision, the first, with this text and the first moment of the clock.
     pub fn has_saved(&self, text: &str) -> bool {
         match &self.tables {
             Some(tables) => has_one_revision(tables.revisions(), text),
@@ -68,10 +68,10 @@ impl Ran {
     }
 }
 
-/// Whether this is one revision, the first, with this text.
+/// Whether this is one revision, the first, with this text and the first moment of the clock.
 fn has_one_revision(revisions: &[RevisionRow], text: &str) -> bool {
     match revisions {
-        [row] => row.rev_id == 1 && row.rev_text.as_str() == text,
+        [row] => row.rev_id == 1 && row.rev_timestamp == 7 && row.rev_text.as_str() == text,
         _ => false,
     }
 }

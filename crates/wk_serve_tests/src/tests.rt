@@ -3,7 +3,8 @@
 use crate::gates::{Meeter, Meeting};
 use crate::runs::{Given, Ran, run_heard};
 use crate::texts::{
-    LISTENING, NOTHING, PARSE_BOTH, PARSED, SAVE_AND_PARSE, SAVED, SERVED_BOTH, TWO_PAGES,
+    LISTENING, NOTHING, PARSE_BOTH, PARSED, SAVE_AND_PARSE, SAVE_BOTH, SAVED, SERVED_BOTH,
+    TWO_PAGES,
 };
 use std::alloc::Global;
 use std::sync::Wait;
@@ -38,32 +39,34 @@ fn two_pages<R: Threads + Wait + Sync>(rt: &R, alloc: Global) -> Result<Tables, 
     ran.tables.ok_or(Memory)
 }
 
-/// A run over a store with these tables, and whether two of its workers met at their gates.
+/// A run over a store with these tables, and whether so many of its workers met at their gates.
 fn run_met<R: Threads + Wait + Sync>(
     rt: &R,
     alloc: Global,
     tables: Tables,
     given: &Given<'_>,
+    workers: u64,
 ) -> Result<(Ran, bool), Memory> {
     let mut vault = vault(alloc, tables)?;
-    let meeting = Meeting::new();
+    let meeting = Meeting::new(workers);
     let gate = Meeter::new(&meeting);
     let ran = run_heard(rt, alloc, &mut vault, given, gate)?;
     Ok((ran, meeting.took_place()))
 }
 
-/// Whether two workers meet in a run over a store with these tables, which ends with this output and leaves so many revisions,
+/// Whether so many workers meet in a run over a store with these tables, which ends with this output and leaves so many revisions,
 /// and no job.
 fn is_done_at_once<R: Threads + Wait + Sync>(
     rt: &R,
     alloc: Global,
     tables: Tables,
     words: &str,
+    workers: u64,
     written: &str,
     revisions: usize,
 ) -> Result<bool, Memory> {
     let given = Given { words, ..NOTHING };
-    let (ran, met) = run_met(rt, alloc, tables, &given)?;
+    let (ran, met) = run_met(rt, alloc, tables, &given, workers)?;
     Ok(met && ran.ends(0, written) && ran.leaves(revisions))
 }
 
@@ -73,7 +76,7 @@ fn jobs_at_once(rt: HostRuntime) -> Result<(), Fail> {
     for words in ["wiki jobs --procs 2", "wiki jobs --procs 4"] {
         let tables = two_pages(&rt, alloc)?;
         assert!(rt;
-            is_done_at_once(&rt, alloc, tables, words, "jobs 0\n", 2)?,
+            is_done_at_once(&rt, alloc, tables, words, 2, "jobs 0\n", 2)?,
             "{words}"
         );
     }
@@ -84,13 +87,13 @@ fn jobs_at_once(rt: HostRuntime) -> Result<(), Fail> {
 fn gen_at_once(rt: HostRuntime) -> Result<(), Fail> {
     let alloc = rt.alloc();
     let written = "pages 52 revisions 52 jobs 0 differ 0\n";
-    for words in [
-        "wiki gen --procs 2",
-        "wiki gen --pages 50 --number 1 --procs 4",
+    for (words, workers) in [
+        ("wiki gen --procs 2", 2),
+        ("wiki gen --pages 50 --number 1 --procs 4", 4),
     ] {
         let tables = Tables::new(alloc);
         assert!(rt;
-            is_done_at_once(&rt, alloc, tables, words, written, 52)?,
+            is_done_at_once(&rt, alloc, tables, words, workers, written, 52)?,
             "{words}"
         );
     }
@@ -117,7 +120,7 @@ fn serve_at_once(rt: HostRuntime) -> Result<(), Fail> {
         asked: PARSE_BOTH,
         ..NOTHING
     };
-    let (ran, met) = run_met(&rt, alloc, two_pages(&rt, alloc)?, &given)?;
+    let (ran, met) = run_met(&rt, alloc, two_pages(&rt, alloc)?, &given, 2)?;
     assert!(rt; met && ran.ends(0, SERVED_BOTH) && ran.leaves(2));
     assert!(rt; is_parsed(&ran.first, "\"title\":\"A\"}"));
     assert!(rt; is_parsed(&ran.second, "\"title\":\"B\"}"));
@@ -147,6 +150,29 @@ fn serve_answers_its_links(rt: HostRuntime) -> Result<(), Fail> {
     assert!(rt; ran.ends(0, SERVED_BOTH) && ran.leaves(1));
     assert!(rt; ran.has_saved("x"));
     assert!(rt; ran.tells(SAVED, PARSED));
+    Ok(())
+}
+
+/// Whether this answer is an error with this code.
+fn is_refused(heard: &[u8], code: &str) -> bool {
+    match str::from_utf8(heard) {
+        Ok(text) => text.contains("{\"error\":{\"code\":") && text.contains(code),
+        Err(_) => false,
+    }
+}
+
+#[test]
+fn a_full_journal_is_told(rt: HostRuntime) -> Result<(), Fail> {
+    let alloc = rt.alloc();
+    let given = Given {
+        words: "wiki serve --workers 1 --journal-limit 1",
+        asked: SAVE_BOTH,
+        ..NOTHING
+    };
+    let ran = run(&rt, alloc, Tables::new(alloc), &given)?;
+    assert!(rt; ran.ends(0, SERVED_BOTH) && ran.has_saved("x"));
+    assert!(rt; ran.first.as_slice() == SAVED.as_bytes());
+    assert!(rt; is_refused(&ran.second, "\"journalfull\""));
     Ok(())
 }
 

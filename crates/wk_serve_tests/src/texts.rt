@@ -30,6 +30,12 @@ pub const SAVE_AND_PARSE: [&str; 2] = [
     "GET /api.php?action=parse&page=A&minpoint=1 HTTP/1.1\r\nHost: localhost\r\n\r\n",
 ];
 
+/// Two messages, each of which saves a page.
+pub const SAVE_BOTH: [&str; 2] = [
+    "POST /api.php HTTP/1.1\r\nHost: localhost\r\nContent-Length: 39\r\n\r\naction=edit&title=A&text=x&token=%2B%5C",
+    "POST /api.php HTTP/1.1\r\nHost: localhost\r\nContent-Length: 39\r\n\r\naction=edit&title=B&text=x&token=%2B%5C",
+];
+
 /// The answer to the message that saves the page.
 pub const SAVED: &str =
     "HTTP/1.1 200 OK\r\nContent-Type: application/json; charset=utf-8\r\nContent-Length: 99\r\n\r\n\
