@@ -22,3 +22,7 @@ returns-clause-greatest c = refl
 pub returns-clause-without_effect : goal.returns-clause-without_effect
 unfolding verdict clap_on_literals
 returns-clause-without_effect c = refl
+
+pub returns-clause-serving : goal.returns-clause-serving
+unfolding verdict clap_on_literals
+returns-clause-serving c = refl
