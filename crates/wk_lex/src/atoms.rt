@@ -1,5 +1,5 @@
 //! The atoms of a text.
-ghost use Rattle.std.specs.Prelude.{◌≡◌, ◌<◌, ◌≤◌, ◌^◌, length, map, not, slice_index, IfOk};
+ghost use Rattle.std.specs.Prelude.{◌≡◌, ◌≢◌, ◌<◌, ◌≤◌, ◌^◌, length, map, not, slice_index, IfOk};
 ghost use Rattle.std.specs.Bool.{OnTrue};
 ghost use Rattle.std.specs.List.{All};
 ghost use Rattle.wk_tree_rules.specs.Atoms.{atoms};
@@ -14,6 +14,29 @@ use crate::tags::Tags;
 use std::alloc::Global;
 use wk_memory::Memory;
 use wk_tree_rules::{AtomKind, Mode};
+
+/// A dot for each byte that is text wherever it stands: no atom begins with it but the byte alone. Another mark for those
+/// with which an atom may begin, and for a space and a tab, with which a line of comments may.
+static FIRST_BYTES: [u8; 256] = *b"\
+    .........-......................\
+    -...........................--..\
+    ...........................-.-..\
+    ...........................---..\
+    ................................\
+    ................................\
+    ................................\
+    ................................\
+";
+
+/// Whether the byte is text wherever it stands.
+#[inline(always)]
+pub fn is_text(byte: u8) -> bool
+    ensures plain { OnTrue result (IsPlain byte) }
+    ensures space { OnTrue result (byte ≢ 32) }
+    ensures tab { OnTrue result (byte ≢ 9) }
+{
+    FIRST_BYTES[byte as usize] == b'.'
+}
 
 /// Whether no atom but a line of comments or a single byte begins with the byte.
 pub fn is_plain(byte: u8) -> bool
@@ -73,7 +96,7 @@ fn closing_at(text: &[u8], at: usize) -> (AtomKind, usize)
 
 /// The kind of the atom that begins at the place, and the place behind it. But for a line of comments it is looked for
 /// by its first byte.
-pub fn atom_at(tags: &mut Tags, mode: Mode, at: usize) -> (AtomKind, usize)
+fn marked_at(tags: &mut Tags, mode: Mode, at: usize) -> (AtomKind, usize)
     requires { at < length tags.old }
     ensures atom { IsAtomAt mode tags.old at result }
     ensures text { tags.new ≡ tags.old }
@@ -92,6 +115,19 @@ pub fn atom_at(tags: &mut Tags, mode: Mode, at: usize) -> (AtomKind, usize)
         b'=' => (AtomKind::Equals, at + 1),
         _ => (AtomKind::Byte, at + 1),
     }
+}
+
+/// The kind of the atom that begins at the place, and the place behind it. One look tells whether the byte is text.
+pub fn atom_at(tags: &mut Tags, mode: Mode, at: usize) -> (AtomKind, usize)
+    requires { at < length tags.old }
+    ensures atom { IsAtomAt mode tags.old at result }
+    ensures text { tags.new ≡ tags.old }
+{
+    let text = tags.text;
+    if is_text(text[at]) {
+        return (AtomKind::Byte, at + 1);
+    }
+    marked_at(tags, mode, at)
 }
 
 /// The atoms of a text that was selected, from its start to its end. Linear in the text.

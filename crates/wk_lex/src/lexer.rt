@@ -8,7 +8,7 @@ ghost use Rattle.wk_tree_rules.specs.declared.AtomKind.TheVariants.{Byte};
 ghost use Rattle.wk_tree_rules.specs.declared.Mode.{Mode as ReadingMode};
 
 use crate::Atom;
-use crate::atoms::{atom_at, is_plain};
+use crate::atoms::{atom_at, is_plain, is_text};
 use crate::tags::Tags;
 use std::marker::Model;
 use wk_tree_rules::{AtomKind, Mode};
@@ -21,8 +21,8 @@ fn goes_on(text: &[u8], at: usize) -> bool
     ensures { GoesOn text.now at result }
 {
     let byte = text[at];
-    // Most bytes are small letters.
-    if b'a' <= byte && byte <= b'z' {
+    // One look tells for most bytes.
+    if is_text(byte) {
         return true;
     }
     if !is_plain(byte) {
