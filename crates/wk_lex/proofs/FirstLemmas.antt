@@ -1,5 +1,5 @@
 -- Atoms by their first byte.
-use Rattle.std.proofs.Common.{◌≡◌, ◌≢◌, ℕ, suc, ◌+◌, ◌<◌, ◌≤◌, ◌==◌, ◌||◌, ◌⊎◌, inl, inr, Bool, true, false, if◌then◌else◌, List, [], ◌∷◌, ◌++◌, length, get_or, drop, drop-cons, codes, Option, None, Some, option_and_then, ap, ap₂, refl, sym, ◌∙◌, arith}
+use Rattle.std.proofs.Common.{◌≡◌, ◌≢◌, ℕ, suc, ◌+◌, ◌<◌, ◌≤◌, ◌==◌, ◌||◌, inl, inr, Bool, true, false, if◌then◌else◌, List, [], ◌∷◌, ◌++◌, length, get_or, drop, drop-cons, codes, Option, None, Some, option_and_then, ap, ap₂, refl, sym, ◌∙◌, arith}
 use Rattle.std.specs.List.{prefix_len}
 use Rattle.std.proofs.Math.Bool.{cond}
 use Rattle.wk_text_rules.specs.Shapes.{Shape, exactly, run_of, ◌and_then◌, ◌or_else◌, up_to, repeated, one_or_more}

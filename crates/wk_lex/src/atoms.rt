@@ -47,6 +47,7 @@ pub fn is_plain(byte: u8) -> bool
 }
 
 /// The kind of the atom that begins at a `<`, and the place behind it, where no line of comments begins.
+#[inline(always)]
 fn angle_at(tags: &mut Tags, mode: Mode, at: usize) -> (AtomKind, usize)
     requires within { at < length tags.old }
     requires angle { slice_index tags.old at ≡ 60 }
@@ -71,6 +72,7 @@ fn angle_at(tags: &mut Tags, mode: Mode, at: usize) -> (AtomKind, usize)
 }
 
 /// The same at an opening brace or bracket.
+#[inline(always)]
 fn opening_at(text: &[u8], at: usize) -> (AtomKind, usize)
     requires within { at < length text.now }
     requires opening { IsOpening (slice_index text.now at) }
@@ -83,6 +85,7 @@ fn opening_at(text: &[u8], at: usize) -> (AtomKind, usize)
 }
 
 /// The same at a closing brace or bracket.
+#[inline(always)]
 fn closing_at(text: &[u8], at: usize) -> (AtomKind, usize)
     requires within { at < length text.now }
     requires closing { IsClosing (slice_index text.now at) }
@@ -96,7 +99,8 @@ fn closing_at(text: &[u8], at: usize) -> (AtomKind, usize)
 
 /// The kind of the atom that begins at the place, and the place behind it. But for a line of comments it is looked for
 /// by its first byte.
-fn marked_at(tags: &mut Tags, mode: Mode, at: usize) -> (AtomKind, usize)
+#[inline(always)]
+pub fn marked_at(tags: &mut Tags, mode: Mode, at: usize) -> (AtomKind, usize)
     requires { at < length tags.old }
     ensures atom { IsAtomAt mode tags.old at result }
     ensures text { tags.new ≡ tags.old }
@@ -118,7 +122,7 @@ fn marked_at(tags: &mut Tags, mode: Mode, at: usize) -> (AtomKind, usize)
 }
 
 /// The kind of the atom that begins at the place, and the place behind it. One look tells whether the byte is text.
-pub fn atom_at(tags: &mut Tags, mode: Mode, at: usize) -> (AtomKind, usize)
+fn atom_at(tags: &mut Tags, mode: Mode, at: usize) -> (AtomKind, usize)
     requires { at < length tags.old }
     ensures atom { IsAtomAt mode tags.old at result }
     ensures text { tags.new ≡ tags.old }

@@ -64,6 +64,7 @@ fn line_of_comments(text: &[u8], at: usize) -> Option<usize>
 }
 
 /// The same where the byte before the place is a newline, and else none.
+#[inline(always)]
 pub fn whole_line_of_comments(text: &[u8], at: usize) -> Option<usize>
     requires { at ≤ length text.now }
     ensures { EndsAt (after_newline (byte_before at text.now) line_of_comments) text.now at result }

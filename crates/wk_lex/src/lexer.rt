@@ -8,13 +8,14 @@ ghost use Rattle.wk_tree_rules.specs.declared.AtomKind.TheVariants.{Byte};
 ghost use Rattle.wk_tree_rules.specs.declared.Mode.{Mode as ReadingMode};
 
 use crate::Atom;
-use crate::atoms::{atom_at, is_plain, is_text};
+use crate::atoms::{is_plain, is_text, marked_at};
 use crate::tags::Tags;
 use std::marker::Model;
 use wk_tree_rules::{AtomKind, Mode};
 
 /// Whether bytes that come as one go on over the byte at the place. Over no mark, and over a space or a tab only within
 /// a line, since a line of comments may begin with it.
+#[inline(always)]
 fn goes_on(text: &[u8], at: usize) -> bool
     requires some { 0 < at }
     requires within { at < length text.now }
@@ -27,9 +28,6 @@ fn goes_on(text: &[u8], at: usize) -> bool
     }
     if !is_plain(byte) {
         return false;
-    }
-    if byte != b' ' && byte != b'\t' {
-        return true;
     }
     if text[at - 1] == b'\n' {
         return false;
@@ -63,7 +61,10 @@ fn next_at(tags: &mut Tags, mode: Mode, at: usize) -> (AtomKind, usize)
     ensures text { tags.new ≡ tags.old }
 {
     let text = tags.text;
-    let (kind, end) = atom_at(tags, mode, at);
+    if is_text(text[at]) {
+        return (AtomKind::Byte, behind_bytes(text, at));
+    }
+    let (kind, end) = marked_at(tags, mode, at);
     match kind {
         AtomKind::Byte => (kind, behind_bytes(text, at)),
         _ => (kind, end),
