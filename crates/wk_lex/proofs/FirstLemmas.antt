@@ -1,5 +1,5 @@
 -- Atoms by their first byte.
-use Rattle.std.proofs.Common.{◌≡◌, ◌≢◌, ℕ, suc, ◌+◌, ◌<◌, ◌≤◌, ◌==◌, ◌||◌, inl, inr, Bool, true, false, if◌then◌else◌, List, [], ◌∷◌, ◌++◌, length, get_or, drop, drop-cons, codes, Option, None, Some, option_and_then, ap, ap₂, refl, sym, ◌∙◌, arith}
+use Rattle.std.proofs.Common.{◌≡◌, ◌≢◌, ℕ, suc, ◌+◌, ◌<◌, ◌==◌, ◌||◌, inl, inr, Bool, true, false, if◌then◌else◌, List, [], ◌∷◌, ◌++◌, length, get_or, drop, drop-cons, codes, Option, None, Some, option_and_then, ap, ap₂, refl, sym, ◌∙◌, arith}
 use Rattle.std.specs.List.{prefix_len}
 use Rattle.std.proofs.Math.Bool.{cond}
 use Rattle.wk_text_rules.specs.Shapes.{Shape, exactly, run_of, ◌and_then◌, ◌or_else◌, up_to, repeated, one_or_more}
@@ -8,7 +8,7 @@ use Rattle.wk_tree_rules.specs.Tags.{is_space_or_tab, closed_comment, comment, l
 use Rattle.wk_tree_rules.specs.declared.AtomKind.{AtomKind}
 use Rattle.wk_tree_rules.specs.declared.AtomKind.TheVariants.{LineComment, Comment, Sealed, Ignored, Tag, Open, Close, Bar, Equals, Byte}
 use Rattle.wk_tree_rules.specs.declared.Mode.{Mode}
-use Rattle.wk_lex.specs.FirstBytes.{IsClosing, IsNoLineAt, IsOpening, GoesOn, no_first_of_a_line}
+use Rattle.wk_lex.specs.FirstBytes.{IsClosing, IsNoLineAt, IsOpening}
 use Rattle.wk_lex.specs.Parts.{spaced_comment}
 use Rattle.wk_lex.specs.Places.{EndsAt, byte_before}
 use Rattle.wk_lex.specs.Spans.{IsAtomAt}
@@ -204,18 +204,3 @@ module _ (text : List ℕ) (at : ℕ) (within : at < length text) (mode : Mode) 
       equals-beside (other-than lead 61 60 is (λ e. absurd (omega arith))) (closing-beside 61 is (λ e. absurd (omega arith)) (λ e. absurd (omega arith)))
       (no-closing (other-than lead 61 125 is (λ e. absurd (omega arith))) (other-than lead 61 93 is (λ e. absurd (omega arith))))
       (no-bar (other-than lead 61 124 is (λ e. absurd (omega arith)))) is
-
--- a small letter
-pub letter-goes_on : (text : List ℕ) (at : ℕ) → 97 ≤ get_or text at 0 → get_or text at 0 ≤ 122 → GoesOn text at true
-letter-goes_on text at low high =
-    no_first_of_a_line refl
-    (record {
-      angle = λ e. absurd (omega arith);
-      open_brace = λ e. absurd (omega arith);
-      open_bracket = λ e. absurd (omega arith);
-      close_brace = λ e. absurd (omega arith);
-      close_bracket = λ e. absurd (omega arith);
-      bar = λ e. absurd (omega arith);
-      equals = λ e. absurd (omega arith);
-    })
-    (λ e. absurd (omega arith)) (λ e. absurd (omega arith))

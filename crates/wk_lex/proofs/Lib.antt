@@ -8,3 +8,4 @@ pub mod NearestLemmas
 pub mod PlaceLemmas
 pub mod PlainLemmas
 pub mod SpanSteps
+pub mod TaglessLemmas

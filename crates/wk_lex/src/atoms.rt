@@ -1,10 +1,10 @@
 //! The atoms of a text.
 ghost use Rattle.std.specs.Prelude.{◌≡◌, ◌≢◌, ◌<◌, ◌≤◌, ◌^◌, length, map, not, slice_index, IfOk};
-ghost use Rattle.std.specs.Bool.{OnTrue};
+ghost use Rattle.std.specs.Bool.{OnFalse, OnTrue};
 ghost use Rattle.std.specs.List.{All};
 ghost use Rattle.wk_tree_rules.specs.Atoms.{atoms};
 ghost use Rattle.wk_lex.specs.Spans.{span_of, is_mark, IsAtomAt, IsPlain, IsRow, IsWithin, IsRunWhereMarks};
-ghost use Rattle.wk_lex.specs.FirstBytes.{IsClosing, IsNoLineAt, IsOpening};
+ghost use Rattle.wk_lex.specs.FirstBytes.{IsClosing, IsNoLineAt, IsNoTagByte, IsOpening};
 ghost use Rattle.wk_tree_rules.specs.declared.Mode.{Mode as ReadingMode};
 
 use crate::Atom;
@@ -46,6 +46,25 @@ pub fn is_plain(byte: u8) -> bool
     !matches!(byte, b'<' | b'{' | b'[' | b'}' | b']' | b'|' | b'=')
 }
 
+/// Whether a comment may go on with the byte behind a `<`, or a tag that is known.
+#[inline(always)]
+fn is_tag_byte(byte: u8) -> bool
+    ensures { OnFalse result (IsNoTagByte byte) }
+{
+    matches!(
+        byte,
+        b'!' | b'/' | b'n' | b'N' | b'p' | b'P' | b'i' | b'I' | b'o' | b'O'
+    )
+}
+
+/// The same of the place behind a `<`.
+#[inline(always)]
+fn is_tag_at(text: &[u8], at: usize) -> bool
+    ensures { OnFalse result (IsNoTagByte (slice_index text.now at)) }
+{
+    at < text.len() && is_tag_byte(text[at])
+}
+
 /// The kind of the atom that begins at a `<`, and the place behind it, where no line of comments begins.
 #[inline(always)]
 fn angle_at(tags: &mut Tags, mode: Mode, at: usize) -> (AtomKind, usize)
@@ -56,6 +75,10 @@ fn angle_at(tags: &mut Tags, mode: Mode, at: usize) -> (AtomKind, usize)
     ensures text { tags.new ≡ tags.old }
 {
     let text = tags.text;
+    // Most are no tags.
+    if !is_tag_at(text, at + 1) {
+        return (AtomKind::Byte, at + 1);
+    }
     if let Some(end) = comment(text, at) {
         return (AtomKind::Comment, end);
     }
