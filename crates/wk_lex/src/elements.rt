@@ -59,6 +59,7 @@ impl<'a> Tags<'a> {
 
     /// The place behind the element of the name at the place, if one begins there. Without an end it runs to the end
     /// of the text.
+    #[inline(always)]
     fn open_ended_element(&mut self, at: usize, name: &[u8]) -> Option<usize>
         requires within { at ≤ length self.old }
         requires some { 0 < length name.now }
@@ -88,6 +89,7 @@ impl<'a> Tags<'a> {
     }
 
     /// The place behind the tag of the name at the place, opening or end, if one begins there.
+    #[inline(always)]
     fn any_tag(&mut self, at: usize, name: &[u8]) -> Option<usize>
         requires within { at ≤ length self.old }
         requires some { 0 < length name.now }

@@ -9,6 +9,7 @@ use memchr::memmem;
 use wk_bytes::trim_start;
 
 /// The place behind the word, where it stands at the place.
+#[inline(always)]
 pub fn word_at(text: &[u8], at: usize, word: &[u8]) -> Option<usize>
     requires within { at ≤ length text.now }
     requires some { 0 < length word.now }
@@ -23,6 +24,7 @@ pub fn word_at(text: &[u8], at: usize, word: &[u8]) -> Option<usize>
 }
 
 /// The place behind the name, where it stands at the place in whichever case its letters are written.
+#[inline(always)]
 pub fn name_at(text: &[u8], at: usize, name: &[u8]) -> Option<usize>
     requires within { at ≤ length text.now }
     requires some { 0 < length name.now }

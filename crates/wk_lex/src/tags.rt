@@ -102,6 +102,7 @@ impl<'a> Tags<'a> {
     }
 
     /// The place behind the opening tag of the name at the place, if one begins there.
+    #[inline(always)]
     pub fn opening_tag(&mut self, at: usize, name: &[u8]) -> Option<usize>
         requires within { at ≤ length self.old }
         requires some { 0 < length name.now }
@@ -114,6 +115,7 @@ impl<'a> Tags<'a> {
     }
 
     /// The place behind the end tag of the name at the place, if one begins there.
+    #[inline(always)]
     pub fn end_tag(&mut self, at: usize, name: &[u8]) -> Option<usize>
         requires within { at ≤ length self.old }
         requires some { 0 < length name.now }
