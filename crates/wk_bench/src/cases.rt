@@ -22,6 +22,11 @@ pub enum Case {
     Tree(Reading),
     /// The links in a text, as an output, are found.
     Links(Reading),
+    /// So many random texts are read, of a row that begins with the seed.
+    Random {
+        texts: u64,
+        seed: u64,
+    },
     /// Two numerals of so many bytes are compared so many times.
     Same {
         size: usize,
@@ -110,12 +115,13 @@ pub struct Reading {
 }
 
 pub const USAGE: &str = "wk_bench turns N T, with N from 0 to 10000000 and T from 1 to 64; or \
-wk_bench select|atoms|tree|links SORT SIZE ROUNDS, wk_bench same SIZE ROUNDS, wk_bench append|handoff TIMES, \
+wk_bench select|atoms|tree|links SORT SIZE ROUNDS, wk_bench random TEXTS SEED, wk_bench same SIZE ROUNDS, \
+wk_bench append|handoff TIMES, \
 wk_bench expand|cold infobox|calls|nesting|deepest ROUNDS, wk_bench resume|anew TEMPLATES, wk_bench stack ROUNDS, or \
 wk_bench http messages|head|body SIZE PIECE, with SIZE and PIECE up to 16777216, or \
 wk_bench set_page|add_revision TIMES, wk_bench set_rows PAGES TIMES, wk_bench broken PAGES, \
 wk_bench saves|claims|users|members PAGES TIMES, \
-and ROUNDS, TIMES, TEMPLATES and PAGES from 1 to 1000000";
+and ROUNDS, TIMES, TEMPLATES, TEXTS, SEED and PAGES from 1 to 1000000";
 
 /// The number, where the word is one between these.
 fn number(word: &str, least: u64, most: u64) -> Option<u64>
@@ -150,6 +156,16 @@ fn reading_asked(words: &[String]) -> Option<Reading> {
     let size = number(&words[1], 0, 16_777_216)? as usize;
     let rounds = number(&words[2], 1, 1_000_000)?;
     Some(Reading { sort, size, rounds })
+}
+
+/// The random texts that the words behind a case's name ask for.
+fn random_asked(words: &[String]) -> Option<Case> {
+    if words.len() != 2 {
+        return None;
+    }
+    let texts = number(&words[0], 1, 1_000_000)?;
+    let seed = number(&words[1], 1, 1_000_000)?;
+    Some(Case::Random { texts, seed })
 }
 
 /// The numerals that the words behind a case's name ask for.
@@ -262,6 +278,7 @@ pub fn chosen(words: &[String]) -> Option<Case> {
         "atoms" => Some(Case::Atoms(reading_asked(others)?)),
         "tree" => Some(Case::Tree(reading_asked(others)?)),
         "links" => Some(Case::Links(reading_asked(others)?)),
+        "random" => random_asked(others),
         "same" => same_asked(others),
         "append" => Some(Case::Append {
             times: only_asked(others)?,

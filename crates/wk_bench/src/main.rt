@@ -7,6 +7,7 @@ mod cases;
 mod drafts;
 mod handoff;
 mod lists;
+mod random;
 mod reading;
 mod stores;
 mod texts;
@@ -27,7 +28,7 @@ use wire::Stream;
 use wk_memory::Memory;
 
 /// What is run without words.
-const SMALL: [Case; 25] = [
+const SMALL: [Case; 26] = [
     Case::Turns(Turns {
         turns: 400,
         threads: 4,
@@ -53,6 +54,10 @@ const SMALL: [Case; 25] = [
         size: 4096,
         rounds: 1,
     }),
+    Case::Random {
+        texts: 100,
+        seed: 1,
+    },
     Case::Same {
         size: 1024,
         rounds: 1,
@@ -149,6 +154,10 @@ fn worked<R: Threads + Wait + Sync>(
         Case::Links(Reading { sort, size, rounds }) => Ok((
             "links: links",
             reading::linked(alloc, sort, size, rounds)?,
+        )),
+        Case::Random { texts, seed } => Ok((
+            "random: checksum",
+            random::checksum(alloc, texts, seed)?,
         )),
         Case::Same { size, rounds } => Ok(("same: equal", values::compared(alloc, size, rounds)?)),
         Case::Http {
