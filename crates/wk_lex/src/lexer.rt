@@ -54,6 +54,17 @@ fn behind_bytes(text: &[u8], at: usize) -> usize
     end
 }
 
+/// The kind of the atom that begins at a place where no text stands, and the place behind it. A call of its own, so that
+/// the way over text stays short.
+#[inline(never)]
+fn mark_at(tags: &mut Tags, mode: Mode, at: usize) -> (AtomKind, usize)
+    requires { at < length tags.old }
+    ensures atom { IsAtomAt mode tags.old at result }
+    ensures text { tags.new ≡ tags.old }
+{
+    marked_at(tags, mode, at)
+}
+
 /// The kind of the atom that begins at the place, or of bytes as one, and the place behind it.
 fn next_at(tags: &mut Tags, mode: Mode, at: usize) -> (AtomKind, usize)
     requires { at < length tags.old }
@@ -64,7 +75,7 @@ fn next_at(tags: &mut Tags, mode: Mode, at: usize) -> (AtomKind, usize)
     if is_text(text[at]) {
         return (AtomKind::Byte, behind_bytes(text, at));
     }
-    let (kind, end) = marked_at(tags, mode, at);
+    let (kind, end) = mark_at(tags, mode, at);
     match kind {
         AtomKind::Byte => (kind, behind_bytes(text, at)),
         _ => (kind, end),

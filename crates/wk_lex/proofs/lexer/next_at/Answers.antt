@@ -7,16 +7,16 @@ use Rattle.wk_lex.proofs.lexer.next_at.Goals as goal
 
 pub returns-in-Byte-clause-next : goal.returns-in-Byte-clause-next
 returns-in-Byte-clause-next c =
-    let here = byte-here c.args.mode c.args.tags.now c.args.at c.marked_at-kind.result.0 c.marked_at-kind.result.1 c.in-Byte.is c.marked_at-kind.ensures.atom in
-    next-bytes c.args.mode c.args.tags.now c.args.at c.marked_at-kind.result.0 c.behind_bytes-in-Byte.result c.in-Byte.is
+    let here = byte-here c.args.mode c.args.tags.now c.args.at c.mark_at-kind.result.0 c.mark_at-kind.result.1 c.in-Byte.is c.mark_at-kind.ensures.atom in
+    next-bytes c.args.mode c.args.tags.now c.args.at c.mark_at-kind.result.0 c.behind_bytes-in-Byte.result c.in-Byte.is
     (subst (λ t. AreBytes c.args.mode t c.args.at c.behind_bytes-in-Byte.result) c.tags.view_is
     (c.behind_bytes-in-Byte.ensures.bytes c.args.mode (subst (λ t. IsAtomAt c.args.mode t c.args.at (Byte, c.args.at + 1)) (sym c.tags.view_is) here)))
     (subst (λ t. IsLongest t c.args.at c.behind_bytes-in-Byte.result) c.tags.view_is c.behind_bytes-in-Byte.ensures.longest)
 
 pub returns-in_default : goal.returns-in_default
 returns-in_default c = record {
-  next = next-other c.args.mode c.args.tags.now c.args.at c.marked_at-kind.result.0 c.marked_at-kind.result.1 c.in_default.not-Byte c.marked_at-kind.ensures.atom;
-  text = c.marked_at-kind.ensures.text;
+  next = next-other c.args.mode c.args.tags.now c.args.at c.mark_at-kind.result.0 c.mark_at-kind.result.1 c.in_default.not-Byte c.mark_at-kind.ensures.atom;
+  text = c.mark_at-kind.ensures.text;
 }
 
 pub returns-then-is_text-clause-next : goal.returns-then-is_text-clause-next
