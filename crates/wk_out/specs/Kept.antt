@@ -1,5 +1,5 @@
 -- How an output is kept: all its bytes as one text, and the lengths and marks of its runs.
-use Rattle.std.specs.Prelude.{ℕ, ◌≤◌, ◌≡◌, Bool, true, false, List, [], ◌∷◌, ◌++◌, length, take, drop, if◌then◌else◌}
+use Rattle.std.specs.Prelude.{ℕ, ◌≤◌, ◌≡◌, Bool, true, false, List, [], ◌∷◌, ◌++◌, length, take, drop, if◌then◌else◌, zero, suc}
 use Rattle.std.specs.Bool.{beq}
 use Rattle.wk_text_rules.specs.Blank.{trimmed_start, trimmed_end}
 use Rattle.wk_out.specs.Runs.{AreMaximal, AreTexts}
@@ -9,6 +9,15 @@ use Rattle.wk_out.specs.declared.run.Run.{Run}
 abbrev pub cut : List ℕ → List Run → List (List ℕ × Bool)
 cut text [] = []
 cut text (run ∷ runs) = (take run.len text, run.sealed) ∷ cut (drop run.len text) runs
+
+-- the runs of a text of so many bytes, for which no list is written where all of it is plain
+abbrev pub plain_run : ℕ → List Run
+plain_run zero = []
+plain_run (suc n) = record { len = suc n; sealed = false } ∷ []
+
+abbrev pub listed : ℕ → List Run → List Run
+listed n [] = plain_run n
+listed n (run ∷ runs) = run ∷ runs
 
 -- the lengths of the runs add up to the text's
 abbrev pub Covers : List ℕ → List Run → Type 0

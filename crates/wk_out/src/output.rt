@@ -7,7 +7,7 @@ ghost use Rattle.wk_out.specs.Runs.{AreMaximal, joined, marked};
 
 use crate::blank::{trim_end, trim_start};
 use crate::error_text::shows_error;
-use crate::run::{Run, add_runs, is_any_sealed};
+use crate::run::{Run, add_runs, is_any_sealed, write_list, written};
 use crate::runs::Runs;
 use std::alloc::Global;
 use std::marker::Model;
@@ -19,20 +19,21 @@ use wk_memory::Memory;
 #[derive(Debug, Drop)]
 pub struct Out {
     text: String,
+    // no list is written while all of the text is plain
     runs: Vec<Run>,
 }
 
 impl Model for Out {
-    ghost use Rattle.std.specs.Prelude.{List, string_bytes};
+    ghost use Rattle.std.specs.Prelude.{List, length, string_bytes};
     ghost use Rattle.wk_text_rules.specs.Marked.{MarkedByte};
-    ghost use Rattle.wk_out.specs.Kept.{cut, IsKept};
+    ghost use Rattle.wk_out.specs.Kept.{cut, listed, IsKept};
     ghost use Rattle.wk_out.specs.Runs.{joined};
 
     ghost Value = { List MarkedByte };
 
-    ghost view = { λ o. joined (cut (string_bytes o.text) o.runs.items) };
+    ghost view = { λ o. joined (cut (string_bytes o.text) (listed (length (string_bytes o.text)) o.runs.items)) };
 
-    ghost invariant = { λ o. IsKept (string_bytes o.text) o.runs.items };
+    ghost invariant = { λ o. IsKept (string_bytes o.text) (listed (length (string_bytes o.text)) o.runs.items) };
 }
 
 impl Out {
@@ -51,9 +52,27 @@ impl Out {
         ensures ok { OnOk result (self.new ≡ self.old ++ joined runs.now) }
         ensures err { OnErr result (self.new ≡ self.old) }
     {
-        self.runs.reserve(runs.runs.len())?;
+        if self.runs.is_empty() && runs.runs.is_empty() {
+            self.text.push_str(runs.text)?;
+            return Ok(());
+        }
+        self.extend_listed(runs)
+    }
+
+    /// The same, with the lists of the runs written.
+    fn extend_listed(&mut self, runs: &Runs<'_>) -> Result<(), Memory>
+        ensures ok { OnOk result (self.new ≡ self.old ++ joined runs.now) }
+        ensures err { OnErr result (self.new ≡ self.old) }
+    {
+        write_list(&mut self.runs, self.text.len())?;
+        let plain = [Run {
+            len: runs.text.len(),
+            sealed: false,
+        }];
+        let more = written(runs.runs, runs.text.len(), &plain);
+        self.runs.reserve(more.len())?;
         self.text.push_str(runs.text)?;
-        add_runs(&mut self.runs, runs.runs);
+        add_runs(&mut self.runs, more);
         Ok(())
     }
 
@@ -63,6 +82,9 @@ impl Out {
     {
         if text.is_empty() {
             return Ok(());
+        }
+        if !sealed {
+            return self.extend(&Runs { text, runs: &[] });
         }
         let runs = [Run {
             len: text.len(),

@@ -1,7 +1,10 @@
 //! The lengths and marks of an output's runs.
-ghost use Rattle.std.specs.Prelude.{◌≡◌, ℕ, ◌+◌, ◌^◌, ◌<◌, ◌≤◌, List, ◌++◌, length, All, vec_len, vec_capacity};
+ghost use Rattle.std.specs.Prelude.{◌≡◌, ℕ, ◌+◌, ◌^◌, ◌<◌, ◌≤◌, List, ◌++◌, length, All, vec_len, vec_capacity, [], ◌∷◌, false, OnOk, OnErr};
 ghost use Rattle.std.specs.List.{list_any};
-ghost use Rattle.wk_out.specs.Kept.{Covers, cut, with_run, with_runs};
+ghost use Rattle.wk_out.specs.Kept.{Covers, cut, listed, with_run, with_runs};
+ghost use Rattle.wk_out.specs.declared.run.Run.{Run as RunValue};
+
+use wk_memory::Memory;
 
 /// The length in bytes of a run, and its mark.
 #[derive(Clone, Copy, Debug)]
@@ -52,5 +55,28 @@ pub fn add_runs(runs: &mut Vec<Run>, new: &[Run])
     add_run(runs, *first);
     for run in others {
         runs.push_reserved(*run);
+    }
+}
+
+/// Writes the list of the runs of a text of so many bytes, where none is written because all of the text is plain.
+pub fn write_list(runs: &mut Vec<Run>, len: usize) -> Result<(), Memory>
+    ensures ok { OnOk result (runs.new.items ≡ listed len runs.old.items) }
+    ensures err { OnErr result (runs.new.items ≡ runs.old.items) }
+{
+    if runs.is_empty() && 0 < len {
+        runs.push(Run { len, sealed: false })?;
+    }
+    Ok(())
+}
+
+/// The runs of a text of so many bytes: the list, or else the plain run, where no list is written.
+pub fn written<'a>(runs: &'a [Run], len: usize, plain: &'a [Run]) -> &'a [Run]
+    requires { plain.now ≡ record { len = len; sealed = false } ∷ [] }
+    ensures { result.now ≡ listed len runs.now }
+{
+    if runs.is_empty() && 0 < len {
+        plain
+    } else {
+        runs
     }
 }

@@ -10,18 +10,19 @@ use std::marker::Model;
 #[derive(Debug, Drop)]
 pub struct Runs<'a> {
     pub(crate) text: &'a str,
+    // no list is written where all of the text is plain
     pub(crate) runs: &'a [Run],
 }
 
 impl<'a> Model for Runs<'a> {
-    ghost use Rattle.std.specs.Prelude.{ℕ, Bool, List};
-    ghost use Rattle.wk_out.specs.Kept.{cut, IsKept};
+    ghost use Rattle.std.specs.Prelude.{ℕ, Bool, List, length};
+    ghost use Rattle.wk_out.specs.Kept.{cut, listed, IsKept};
 
     ghost Value = { List (List ℕ × Bool) };
 
-    ghost view = { λ r. cut r.text.now r.runs.now };
+    ghost view = { λ r. cut r.text.now (listed (length r.text.now) r.runs.now) };
 
-    ghost invariant = { λ r. IsKept r.text.now r.runs.now };
+    ghost invariant = { λ r. IsKept r.text.now (listed (length r.text.now) r.runs.now) };
 }
 
 impl<'a> Iterator for Runs<'a> {
@@ -32,7 +33,14 @@ impl<'a> Iterator for Runs<'a> {
     ghost remaining = { item_count (λ s. s) };
 
     fn next(&mut self) -> Option<(&'a str, bool)> {
-        let (run, runs) = self.runs.split_first()?;
+        let Some((run, runs)) = self.runs.split_first() else {
+            if self.text.is_empty() {
+                return None;
+            }
+            let text = self.text;
+            self.text = "";
+            return Some((text, false));
+        };
         let (text, rest) = self.text.split_at(run.len);
         self.text = rest;
         self.runs = runs;
@@ -44,7 +52,14 @@ impl<'a> DoubleEndedIterator for Runs<'a> {
     ghost next_back_gives = { YieldsLastBy (λ x. (x.0.now, x.1)) (λ s. s) };
 
     fn next_back(&mut self) -> Option<(&'a str, bool)> {
-        let (run, runs) = self.runs.split_last()?;
+        let Some((run, runs)) = self.runs.split_last() else {
+            if self.text.is_empty() {
+                return None;
+            }
+            let text = self.text;
+            self.text = "";
+            return Some((text, false));
+        };
         let (rest, text) = self.text.split_at(self.text.len() - run.len);
         self.text = rest;
         self.runs = runs;

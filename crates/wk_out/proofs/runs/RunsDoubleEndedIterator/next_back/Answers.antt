@@ -1,22 +1,20 @@
 use Rattle.std.proofs.Common.{◌≡◌, ℕ, ◌<◌, Bool, List, [], ◌∷◌, ◌++◌, length, length-append, ap, sym, ◌∙◌, arith}
-use Rattle.wk_out.specs.Kept.{cut}
-use Rattle.wk_out.proofs.RunLaws.{boundary-last, IsKept-front}
+use Rattle.wk_out.proofs.ListedLaws.{IsKept-front_listed, IsKept-others, boundary-last_listed, cut-others}
 use Rattle.wk_out.proofs.runs.RunsDoubleEndedIterator.next_back.Goals as goal
 
 pub overflow_sub-self-inside : goal.overflow_sub-self-inside
-overflow_sub-self-inside c = (IsKept-front _ _ _ _ c.self.invariant c.in_ok-run.ensures.cases.0).0.fits
+overflow_sub-self-inside c = (IsKept-front_listed _ _ _ _ c.self.invariant c.in-Some.ensures.cases.0).0.fits
 
 pub split_at-requires : goal.split_at-requires
-split_at-requires c = boundary-last _ _ _ _ c.self.invariant c.in_ok-run.ensures.cases.0
+split_at-requires c = boundary-last_listed _ _ _ _ c.self.invariant c.in-Some.ensures.cases.0
 
-pub invariant_of-self : goal.invariant_of-self
-invariant_of-self c = rw c.split_at.ensures.front (IsKept-front _ _ _ _ c.self.invariant c.in_ok-run.ensures.cases.0).1
+pub invariant_of-self-2 : goal.invariant_of-self-2
+invariant_of-self-2 c = rw c.split_at.ensures.front (IsKept-others _ _ _ _ c.self.invariant c.in-Some.ensures.cases.0)
 
 pub returns-clause-steps : goal.returns-clause-steps
 returns-clause-steps c =
-    let front = IsKept-front _ _ _ _ c.self.invariant c.in_ok-run.ensures.cases.0 in
     rw (c.split_at.ensures.front, c.split_at.ensures.back)
-    (sym c.self.view_is ∙ ap (cut c.self.inside.text.now) c.in_ok-run.ensures.cases.0 ∙ front.0.is)
+    (sym c.self.view_is ∙ cut-others _ _ _ _ c.self.invariant c.in-Some.ensures.cases.0)
 
 shorter : (s t : List (List ℕ × Bool)) (x : List ℕ × Bool) → s ≡ t ++ x ∷ [] → length t < length s
 shorter s t x e = omega (arith, ap length e, length-append t (x ∷ []))
