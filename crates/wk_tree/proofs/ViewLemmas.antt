@@ -5,7 +5,7 @@ use Rattle.std.proofs.lemmas.List.{get_or-reverse, length-map, length-reverse}
 use Rattle.std.specs.List.{slice_get, flat_map, AllByRecursion}
 use Rattle.std.specs.Option.{IfSome, IsSome, option_and_then, option_to_list, unwrap_or}
 use Rattle.wk_tree.proofs.LayoutLemmas.{nodes-long}
-use Rattle.wk_tree.specs.Layout.{NodeShown, PartShown, laid, node_of, part_of}
+use Rattle.wk_tree.specs.Layout.{NodeShown, PartShown, laid, listed, node_of, part_of}
 use Rattle.wk_tree.specs.Parsed.{ParsedText, IsParsed, IsTextIn, part_at, node_with, part_with, list_with, nodes_of, tree_of}
 use Rattle.wk_tree.specs.declared.item.ListId.{ListId}
 use Rattle.wk_tree.specs.declared.item.ListId.TheVariants.{Root, Title, Name, Value}
@@ -159,11 +159,11 @@ a_name-shown (a_name h) = h
 no_name-shown : {ns : List Node} (cs : List Item) {name : Option (List TreeItem)} → ShowsName ns None name → IfSome name (ShowsItems ns cs)
 no_name-shown cs no_name = tt
 
-pub name-shown : (ns : List Node) (lists : PartLists) (o : Option Part) (cs : List Item) → option_map (λ v. v.items) lists.name ≡ Some cs → IfSome o (ShowsPart ns (part_of lists)) → IfSome (option_and_then (λ q. q.name) o) (ShowsItems ns cs)
+pub name-shown : (ns : List Node) (lists : PartLists) (o : Option Part) (cs : List Item) → option_map listed lists.name ≡ Some cs → IfSome o (ShowsPart ns (part_of lists)) → IfSome (option_and_then (λ q. q.name) o) (ShowsItems ns cs)
 name-shown ns lists None cs e h = tt
 name-shown ns lists (Some q) cs e h = a_name-shown (subst (λ n. ShowsName ns n q.name) e h.name)
 
-pub name-none : (ns : List Node) (lists : PartLists) (o : Option Part) (cs : List Item) → option_map (λ v. v.items) lists.name ≡ None → IfSome o (ShowsPart ns (part_of lists)) → IfSome (option_and_then (λ q. q.name) o) (ShowsItems ns cs)
+pub name-none : (ns : List Node) (lists : PartLists) (o : Option Part) (cs : List Item) → option_map listed lists.name ≡ None → IfSome o (ShowsPart ns (part_of lists)) → IfSome (option_and_then (λ q. q.name) o) (ShowsItems ns cs)
 name-none ns lists None cs e h = tt
 name-none ns lists (Some q) cs e h = no_name-shown cs (subst (λ n. ShowsName ns n q.name) e h.name)
 

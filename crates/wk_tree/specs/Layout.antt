@@ -2,6 +2,8 @@
 use Rattle.std.specs.Prelude.{ℕ, ◌+◌, Bool, if◌then◌else◌, List, [], ◌∷◌, length, map, reverse, Option, Some, None, option_map}
 use Rattle.wk_tree.specs.declared.item.Item.{Item}
 use Rattle.wk_tree.specs.declared.item.Item.TheVariants as code
+use Rattle.wk_tree.specs.declared.layout.Listed.{Listed}
+use Rattle.wk_tree.specs.declared.layout.Listed.TheVariants.{Empty, One, Many}
 use Rattle.wk_tree.specs.declared.layout.OpenNode.{OpenNode}
 use Rattle.wk_tree.specs.declared.layout.Layout.{Layout}
 use Rattle.wk_tree.specs.declared.layout.NodeLists.{NodeLists}
@@ -52,17 +54,31 @@ pub record LayoutShown : Type 0 where
 
 -- ---- what the code keeps
 
+-- the items of a list
+abbrev pub listed : Listed → List Item
+listed Empty = []
+listed (One i) = i ∷ []
+listed (Many items) = items.items
+
+-- the first item, and others from the last
+abbrev pub items_by : Option Item → List Item → List Item
+items_by None others = []
+items_by (Some i) others = i ∷ reverse others
+
+abbrev pub items_of : Section → List Item
+items_of section = items_by section.first section.others.items
+
 abbrev pub section_of : Section → SectionShown
-section_of section = record { items = reverse section.items.items; len = section.len }
+section_of section = record { items = items_of section; len = section.len }
 
 abbrev pub value_of : Value → ValueShown
 value_of value = record { equals = value.equals; section = section_of value.section }
 
 abbrev pub part_of : PartLists → PartShown
-part_of part = record { name = option_map (λ items. items.items) part.name; value = part.value.items; start = part.start; len = part.len }
+part_of part = record { name = option_map listed part.name; value = listed part.value; start = part.start; len = part.len }
 
 abbrev pub node_of : NodeLists → NodeShown
-node_of n = record { argument = n.argument; start = n.start; len = n.len; title = n.title.items; parts = map part_of n.parts.items }
+node_of n = record { argument = n.argument; start = n.start; len = n.len; title = listed n.title; parts = map part_of n.parts.items }
 
 abbrev pub open_node_of : OpenNode → OpenNodeShown
 open_node_of open_node = record {

@@ -3,18 +3,42 @@ ghost use Rattle.std.specs.Prelude.{◌≡◌, ◌+◌, ◌<◌, ◌^◌, List, 
 ghost use Rattle.wk_tree.specs.Tokens.{items_tokens};
 ghost use Rattle.wk_tree.specs.Tree.{IsLaidAs};
 ghost use Rattle.wk_tree_rules.specs.Trees.{Item as TreeItem};
-ghost use Rattle.wk_tree.specs.Layout.{section_of, value_of, part_of, node_of, open_node_of, layout_of, no_section, no_open_node, put_each, joined, put, with_item, with_equals, new_part, with_bar, new_node, with_node, with_token, laid};
+ghost use Rattle.std.specs.Slice.Iter.{iter_rest};
+ghost use Rattle.wk_tree.specs.Layout.{listed, items_of, section_of, value_of, part_of, node_of, open_node_of, layout_of, no_section, no_open_node, put_each, joined, put, with_item, with_equals, new_part, with_bar, new_node, with_node, with_token, laid};
 
 use crate::item::{Item, NodeId};
 use crate::token::Token;
 use std::alloc::Global;
-use std::mem;
+use std::{mem, slice};
 use wk_memory::Memory;
 
-/// Items from the last to the first, and how many bytes they stand for.
+/// The items of a list, in the order of the text. None and one of them take no memory of their own.
+#[derive(Debug, Drop)]
+pub enum Listed {
+    Empty,
+    One(Item),
+    Many(Vec<Item>),
+}
+
+impl Listed {
+    /// The items, in order.
+    pub fn iter(&self) -> slice::Iter<'_, Item>
+        ensures { iter_rest result ≡ listed self.now }
+    {
+        match self {
+            Listed::Empty => [].iter(),
+            Listed::One(item) => slice::from_ref(item).iter(),
+            Listed::Many(items) => items.iter(),
+        }
+    }
+}
+
+/// Items that were met from the last to the first: the first of them in the text, and the others from the last. Where
+/// there is no first, the others don't count. How many bytes they stand for.
 #[derive(Debug, Drop)]
 pub struct Section {
-    pub items: Vec<Item>,
+    pub first: Option<Item>,
+    pub others: Vec<Item>,
     pub len: u32,
 }
 
@@ -28,8 +52,8 @@ pub struct Value {
 /// The lists of a part, and the span of its value.
 #[derive(Debug, Drop)]
 pub struct PartLists {
-    pub name: Option<Vec<Item>>,
-    pub value: Vec<Item>,
+    pub name: Option<Listed>,
+    pub value: Listed,
     pub start: u32,
     pub len: u32,
 }
@@ -40,7 +64,7 @@ pub struct NodeLists {
     pub argument: bool,
     pub start: u32,
     pub len: u32,
-    pub title: Vec<Item>,
+    pub title: Listed,
     pub parts: Vec<PartLists>,
 }
 
@@ -67,7 +91,8 @@ fn no_section(alloc: Global) -> Section
     ensures { section_of result ≡ no_section }
 {
     Section {
-        items: Vec::new(alloc),
+        first: None,
+        others: Vec::new(alloc),
         len: 0,
     }
 }
@@ -90,38 +115,45 @@ fn sum(a: u32, b: u32) -> Result<u32, Memory>
     a.checked_add(b).ok_or(Memory)
 }
 
-/// An item behind items from the last to the first. Plain text goes together.
-fn put(items: &mut Vec<Item>, item: Item) -> Result<(), Memory>
-    ensures { OnOk result (reverse items.new.items ≡ put item (reverse items.old.items)) }
+/// An item before those of a section. Plain text goes together.
+#[inline(always)]
+fn put(section: &mut Section, item: Item) -> Result<(), Memory>
+    ensures items { OnOk result (items_of section.new ≡ put item (items_of section.old)) }
+    ensures len { section.new.len ≡ section.old.len }
 {
-    let Item::Plain { start, len } = item else {
-        items.push(item)?;
+    let Some(first) = section.first else {
+        section.others.clear();
+        section.first = Some(item);
         return Ok(());
     };
-    if let Some(Item::Plain { len: more, .. }) = items.last().copied() {
-        let len = sum(len, more)?;
-        items.pop();
-        items.push(Item::Plain { start, len })?;
-        return Ok(());
+    if let Item::Plain { start, len } = item {
+        if let Item::Plain { len: more, .. } = first {
+            let len = sum(len, more)?;
+            section.first = Some(Item::Plain { start, len });
+            return Ok(());
+        }
     }
-    items.push(item)?;
+    section.others.push(first)?;
+    section.first = Some(item);
     Ok(())
 }
 
-/// Items behind others, all from the last to the first.
-fn put_each(items: &mut Vec<Item>, more: &[Item]) -> Result<(), Memory>
-    ensures { OnOk result (reverse items.new.items ≡ put_each (reverse more.now) (reverse items.old.items)) }
+/// Items before those of a section, all from the last to the first.
+fn put_each(section: &mut Section, more: &[Item]) -> Result<(), Memory>
+    ensures items { OnOk result (items_of section.new ≡ put_each (reverse more.now) (items_of section.old)) }
+    ensures len { section.new.len ≡ section.old.len }
 {
     for item in more {
-        put(items, *item)?;
+        put(section, *item)?;
     }
     Ok(())
 }
 
+#[inline(always)]
 fn push_item(open_node: &mut OpenNode, item: Item, len: u32) -> Result<(), Memory>
     ensures { OnOk result (open_node_of open_node.new ≡ with_item item len (open_node_of open_node.old)) }
 {
-    put(&mut open_node.section.items, item)?;
+    put(&mut open_node.section, item)?;
     open_node.section.len = sum(len, open_node.section.len)?;
     open_node.total = sum(len, open_node.total)?;
     Ok(())
@@ -137,14 +169,19 @@ fn join(section: Section, value: Option<Value>) -> Result<Section, Memory>
             let start = value.equals;
             let behind = value.section;
             let len = sum(section.len, sum(1, behind.len)?)?;
-            let mut items = behind.items;
-            put(&mut items, Item::Plain { start, len: 1 })?;
-            put_each(&mut items, &section.items)?;
-            Ok(Section { items, len })
+            let mut whole = behind;
+            put(&mut whole, Item::Plain { start, len: 1 })?;
+            if let Some(first) = section.first {
+                put_each(&mut whole, &section.others)?;
+                put(&mut whole, first)?;
+            }
+            whole.len = len;
+            Ok(whole)
         }
     }
 }
 
+#[inline(always)]
 fn push_equals(alloc: Global, open_node: &mut OpenNode, start: u32) -> Result<(), Memory>
     ensures { OnOk result (open_node_of open_node.new ≡ with_equals start (open_node_of open_node.old)) }
 {
@@ -160,19 +197,26 @@ fn push_equals(alloc: Global, open_node: &mut OpenNode, start: u32) -> Result<()
 }
 
 /// The items in the order of the text.
-fn in_order(items: Vec<Item>) -> Vec<Item>
-    ensures { result.items ≡ reverse items.items }
+fn in_order(section: Section) -> Result<Listed, Memory>
+    ensures { IfOk result (λ list. listed list ≡ items_of section) }
 {
-    let mut list = items;
-    list.reverse();
-    list
+    let Some(first) = section.first else {
+        return Ok(Listed::Empty);
+    };
+    if section.others.is_empty() {
+        return Ok(Listed::One(first));
+    }
+    let mut items = section.others;
+    items.push(first)?;
+    items.reverse();
+    Ok(Listed::Many(items))
 }
 
 fn new_part(start: u32, section: Section, value: Option<Value>) -> Result<PartLists, Memory>
     ensures { IfOk result (λ part. part_of part ≡ new_part start (section_of section) (option_map value_of value)) }
 {
     let len = section.len;
-    let items = in_order(section.items);
+    let items = in_order(section)?;
     match value {
         None => {
             Ok(PartLists {
@@ -188,7 +232,7 @@ fn new_part(start: u32, section: Section, value: Option<Value>) -> Result<PartLi
             let len = behind.len;
             Ok(PartLists {
                 name: Some(items),
-                value: in_order(behind.items),
+                value: in_order(behind)?,
                 start,
                 len,
             })
@@ -196,6 +240,7 @@ fn new_part(start: u32, section: Section, value: Option<Value>) -> Result<PartLi
     }
 }
 
+#[inline(always)]
 fn push_bar(alloc: Global, open_node: &mut OpenNode, start: u32) -> Result<(), Memory>
     ensures { OnOk result (open_node_of open_node.new ≡ with_bar start (open_node_of open_node.old)) }
 {
@@ -213,7 +258,7 @@ fn new_node(argument: bool, start: u32, open_node: OpenNode) -> Result<NodeLists
     let braces = if argument { 6 } else { 4 };
     let len = sum(braces, open_node.total)?;
     let whole = join(open_node.section, open_node.value)?;
-    let title = in_order(whole.items);
+    let title = in_order(whole)?;
     let mut parts = open_node.parts;
     parts.reverse();
     Ok(NodeLists {
@@ -241,6 +286,7 @@ fn push_node(alloc: Global, layout: &mut Layout, argument: bool, start: u32) -> 
     Ok(())
 }
 
+#[inline(always)]
 fn end_node(alloc: Global, layout: &mut Layout) -> Result<(), Memory>
     ensures { OnOk result (layout_of layout.new ≡ with_token Token.NodeEnd (layout_of layout.old)) }
 {
@@ -249,6 +295,7 @@ fn end_node(alloc: Global, layout: &mut Layout) -> Result<(), Memory>
     Ok(())
 }
 
+#[inline(always)]
 fn step(alloc: Global, layout: &mut Layout, token: Token) -> Result<(), Memory>
     ensures { OnOk result (layout_of layout.new ≡ with_token token (layout_of layout.old)) }
 {
@@ -294,12 +341,12 @@ pub fn lay(alloc: Global, tokens: &[Token]) -> Result<Layout, Memory>
 }
 
 /// The root's list and the nodes of the tree that the tokens are laid out to, from its last node.
-pub fn finish(alloc: Global, tokens: &[Token]) -> Result<(Vec<Item>, Vec<NodeLists>), Memory>
-    ensures { IfOk result (λ found. (items : List TreeItem) → laid tokens.now ≡ laid (items_tokens items) → IsLaidAs items found.0.items (map node_of (reverse found.1.items))) }
+pub fn finish(alloc: Global, tokens: &[Token]) -> Result<(Listed, Vec<NodeLists>), Memory>
+    ensures { IfOk result (λ found. (items : List TreeItem) → laid tokens.now ≡ laid (items_tokens items) → IsLaidAs items (listed found.0) (map node_of (reverse found.1.items))) }
 {
     let layout = lay(alloc, tokens)?;
     let open_node = layout.open_node;
     let whole = join(open_node.section, open_node.value)?;
-    let root = in_order(whole.items);
+    let root = in_order(whole)?;
     Ok((root, layout.nodes))
 }

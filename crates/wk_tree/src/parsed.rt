@@ -10,7 +10,7 @@ ghost use Rattle.wk_tree_rules.specs.Tree.{item_of, node_length, title_part, fur
 ghost use Rattle.std.specs.Slice.Iter.{iter_rest};
 
 use crate::item::{Item, ListId, NodeId};
-use crate::layout::{NodeLists, PartLists, finish};
+use crate::layout::{Listed, NodeLists, PartLists, finish};
 use crate::matching::matched;
 use crate::token::Token;
 use std::alloc::Global;
@@ -36,20 +36,20 @@ pub struct Parsed {
     mode: Mode,
     text: Text,
     selected: Option<Vec<u8>>,
-    root: Vec<Item>,
+    root: Listed,
     nodes: Vec<NodeLists>,
 }
 
 impl Model for Parsed {
     ghost use Rattle.std.specs.Prelude.{map, reverse, option_map};
-    ghost use Rattle.wk_tree.specs.Layout.{node_of};
+    ghost use Rattle.wk_tree.specs.Layout.{listed, node_of};
     ghost use Rattle.wk_tree.specs.Parsed.{ParsedText, IsParsed};
 
     ghost Value = { ParsedText };
 
     ghost view = { λ p. record { mode = p.mode; text = p.text } };
 
-    ghost invariant = { λ p. IsParsed p.mode p.text (option_map (λ v. v.items) p.selected) p.root.items (map node_of (reverse p.nodes.items)) };
+    ghost invariant = { λ p. IsParsed p.mode p.text (option_map (λ v. v.items) p.selected) (listed p.root) (map node_of (reverse p.nodes.items)) };
 }
 
 /// The text that is read: what is selected, or the whole.
@@ -329,10 +329,10 @@ mod tests {
     fn show_part(out: &mut String, source: &str, part: &PartLists) -> Result<(), Fail> {
         out.push_str("|")?;
         if let Some(name) = &part.name {
-            show_items(out, source, name)?;
+            show_items(out, source, name.iter().as_slice())?;
             out.push_str("=")?;
         }
-        show_items(out, source, &part.value)?;
+        show_items(out, source, part.value.iter().as_slice())?;
         out.push_str("@")?;
         show_span(out, part.start, part.len)
     }
@@ -342,7 +342,7 @@ mod tests {
         out.push_str(&format!(in *out.allocator(); " #{at}{braces}")?)?;
         show_span(out, node.start, node.len)?;
         out.push_str(":")?;
-        show_items(out, source, &node.title)?;
+        show_items(out, source, node.title.iter().as_slice())?;
         for part in &node.parts {
             show_part(out, source, part)?;
         }

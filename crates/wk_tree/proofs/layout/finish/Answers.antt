@@ -6,4 +6,4 @@ use Rattle.wk_tree.proofs.layout.finish.Goals as goal
 pub returns : goal.returns
 returns c = λ items t.
     is-laid items c.args.tokens.now (layout_of c.in_ok-layout.layout) _ _ t c.in_ok-layout.ensures
-    (c.in_order-root.ensures ∙ ap (λ (s : SectionShown). s.items) c.in_ok-whole.ensures) refl
+    (c.in_ok-root.ensures ∙ ap (λ (s : SectionShown). s.items) c.in_ok-whole.ensures) refl
