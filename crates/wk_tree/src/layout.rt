@@ -1,10 +1,10 @@
 //! The lists of a tree, laid out from the last token to the first.
-ghost use Rattle.std.specs.Prelude.{◌≡◌, ◌+◌, ◌<◌, ◌^◌, List, [], ◌∷◌, length, map, reverse, option_map, OnOk, IfOk};
+ghost use Rattle.std.specs.Prelude.{◌≡◌, ◌+◌, ◌<◌, ◌^◌, List, [], ◌∷◌, length, map, reverse, option_map, Some, OnOk, IfOk};
 ghost use Rattle.wk_tree.specs.Tokens.{items_tokens};
 ghost use Rattle.wk_tree.specs.Tree.{IsLaidAs};
 ghost use Rattle.wk_tree_rules.specs.Trees.{Item as TreeItem};
 ghost use Rattle.std.specs.Slice.Iter.{iter_rest};
-ghost use Rattle.wk_tree.specs.Layout.{listed, items_of, section_of, value_of, part_of, node_of, open_node_of, layout_of, no_section, no_open_node, put_each, joined, put, with_item, with_equals, new_part, with_bar, new_node, with_node, with_token, laid};
+ghost use Rattle.wk_tree.specs.Layout.{listed, items_by, items_of, section_of, value_of, part_of, node_of, open_node_of, layout_of, no_section, no_open_node, put_each, joined, put, with_item, with_equals, new_part, with_bar, new_node, with_node, with_token, laid};
 
 use crate::item::{Item, NodeId};
 use crate::token::Token;
@@ -160,24 +160,30 @@ fn push_item(open_node: &mut OpenNode, item: Item, len: u32) -> Result<(), Memor
 }
 
 /// Items before an equals sign that is plain text, and what stands behind it.
+fn join_value(section: Section, value: Value) -> Result<Section, Memory>
+    ensures { IfOk result (λ whole. section_of whole ≡ joined (section_of section) (Some (value_of value))) }
+{
+    let start = value.equals;
+    let behind = value.section;
+    let len = sum(section.len, sum(1, behind.len)?)?;
+    let mut whole = behind;
+    put(&mut whole, Item::Plain { start, len: 1 })?;
+    if let Some(first) = section.first {
+        put_each(&mut whole, &section.others)?;
+        put(&mut whole, first)?;
+    }
+    whole.len = len;
+    Ok(whole)
+}
+
+/// The same where there may be no equals sign.
+#[inline(always)]
 fn join(section: Section, value: Option<Value>) -> Result<Section, Memory>
     ensures { IfOk result (λ whole. section_of whole ≡ joined (section_of section) (option_map value_of value)) }
 {
     match value {
         None => Ok(section),
-        Some(value) => {
-            let start = value.equals;
-            let behind = value.section;
-            let len = sum(section.len, sum(1, behind.len)?)?;
-            let mut whole = behind;
-            put(&mut whole, Item::Plain { start, len: 1 })?;
-            if let Some(first) = section.first {
-                put_each(&mut whole, &section.others)?;
-                put(&mut whole, first)?;
-            }
-            whole.len = len;
-            Ok(whole)
-        }
+        Some(value) => join_value(section, value),
     }
 }
 
@@ -196,7 +202,18 @@ fn push_equals(alloc: Global, open_node: &mut OpenNode, start: u32) -> Result<()
     Ok(())
 }
 
+/// The items in the order of the text, where there are more than one.
+fn many_in_order(first: Item, others: Vec<Item>) -> Result<Listed, Memory>
+    ensures { IfOk result (λ list. listed list ≡ items_by (Some first) others.items) }
+{
+    let mut items = others;
+    items.push(first)?;
+    items.reverse();
+    Ok(Listed::Many(items))
+}
+
 /// The items in the order of the text.
+#[inline(always)]
 fn in_order(section: Section) -> Result<Listed, Memory>
     ensures { IfOk result (λ list. listed list ≡ items_of section) }
 {
@@ -206,10 +223,7 @@ fn in_order(section: Section) -> Result<Listed, Memory>
     if section.others.is_empty() {
         return Ok(Listed::One(first));
     }
-    let mut items = section.others;
-    items.push(first)?;
-    items.reverse();
-    Ok(Listed::Many(items))
+    many_in_order(first, section.others)
 }
 
 fn new_part(start: u32, section: Section, value: Option<Value>) -> Result<PartLists, Memory>

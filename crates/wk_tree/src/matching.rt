@@ -56,6 +56,7 @@ pub struct Matching {
 }
 
 /// Appends opening delimiters as plain text, with a token for each delimiter.
+#[inline(always)]
 fn push_plain(tokens: &mut Vec<Token>, start: u32, len: u32) -> Result<(), Memory>
     ensures { OnOk result (tokens.new.items ≡ tokens.old.items ++ plain_tokens start len) }
 {
@@ -101,6 +102,7 @@ fn raise(openers: &mut Vec<Opener>, height: usize)
 }
 
 /// An opening run behind all that was seen.
+#[inline(always)]
 fn open(matching: &mut Matching, run: Run) -> Result<(), Memory>
     ensures { OnOk result ((seen : PassState) → IsKept seen matching.old → 2 ≤ run.count → run.count ≤ run.end
         → IsKept (opened (as_run run) seen) matching.new) }
@@ -316,6 +318,7 @@ fn close(matching: &mut Matching, run: Run) -> Result<(), Memory>
 }
 
 /// A bar or an equals sign behind all that was seen.
+#[inline(always)]
 fn push_bar(matching: &mut Matching, token: Token) -> Result<(), Memory>
     ensures { OnOk result ((seen : PassState) (e : Entry) → IsKept seen matching.old → IsBarOf e token → IsKept (added (e ∷ []) seen) matching.new) }
 {
@@ -349,6 +352,7 @@ fn run_at(text: &[u8], atom: &Atom) -> Run
 }
 
 /// The next atom behind all that was seen.
+#[inline(always)]
 fn step(matching: &mut Matching, text: &[u8], atom: &Atom) -> Result<(), Memory>
     requires within { IsWithin (length text.now) atom.now }
     requires short { length text.now < 2 ^ 32 }
@@ -389,8 +393,8 @@ fn step(matching: &mut Matching, text: &[u8], atom: &Atom) -> Result<(), Memory>
     }
 }
 
-/// The tokens of a text, by the atoms of it that are to come. Bars and equals signs outside nodes are plain text. No
-/// text has more tokens than bytes.
+/// The tokens of a text, by the atoms of it that are to come. Bars and equals signs outside nodes are plain text.
+/// No text has more tokens than bytes.
 pub fn matched(alloc: Global, text: &[u8], atoms: Lexer) -> Result<Vec<Token>, Memory>
     requires whole { atoms.text ≡ text.now }
     requires short { length text.now < 2 ^ 32 }
