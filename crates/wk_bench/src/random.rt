@@ -1,7 +1,7 @@
 //! Random texts, and a checksum of how they are read.
 
 use std::alloc::Global;
-use wk_lex::{Atom, AtomKind, Lexer, Mode, lex};
+use wk_lex::{Atom, AtomKind, Mode, lex};
 use wk_memory::Memory;
 
 /// What random texts are put together from. All is ASCII.
@@ -101,20 +101,13 @@ fn mixed_atom(code: u64, atom: Atom) -> u64 {
     mixed_place(mixed_place(code, atom.start), atom.len)
 }
 
-/// The same of all atoms of a text, and of them as they come one after another.
+/// The same of all atoms of a text.
 fn mixed_text(alloc: Global, code: u64, text: &[u8], mode: Mode) -> Result<u64, Memory> {
     let mut code = code;
     if text.len() as u64 >= 1 << 32 {
         return Ok(code);
     }
     for atom in lex(alloc, mode, text)? {
-        code = mixed_atom(code, atom);
-    }
-    let mut ahead = Lexer::new(mode, text);
-    for _ in 0..text.len() {
-        let Some(atom) = ahead.next() else {
-            break;
-        };
         code = mixed_atom(code, atom);
     }
     Ok(code)
