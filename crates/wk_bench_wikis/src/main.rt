@@ -17,11 +17,12 @@ use std::process::ExitCode;
 use std::rt::Env;
 use std::{env, io};
 use wk_bench_core::Task;
+use wk_bench_reads::{PageKind, ReadKind};
 use wk_memory::Memory;
 use work::done;
 
 /// What is run without words: each of these with 20 pages, 8 edits and 5 times.
-const CASES: [Case; 21] = [
+const CASES: [Case; 28] = [
     Case::Store,
     Case::Wiki(Task::Load),
     Case::Wiki(Task::Edits),
@@ -60,6 +61,39 @@ const CASES: [Case; 21] = [
     Case::Session {
         kind: Kind::Edit,
         way: Way::Single,
+    },
+    Case::Reads {
+        kind: ReadKind::Hit,
+        threads: 2,
+        with_writer: false,
+    },
+    Case::Reads {
+        kind: ReadKind::Same,
+        threads: 2,
+        with_writer: false,
+    },
+    Case::Reads {
+        kind: ReadKind::Check,
+        threads: 2,
+        with_writer: true,
+    },
+    Case::Reads {
+        kind: ReadKind::Draft,
+        threads: 2,
+        with_writer: false,
+    },
+    Case::Reads {
+        kind: ReadKind::Draft,
+        threads: 2,
+        with_writer: true,
+    },
+    Case::Drains {
+        kind: PageKind::Light,
+        workers: 2,
+    },
+    Case::Drains {
+        kind: PageKind::Heavy,
+        workers: 2,
     },
 ];
 

@@ -9,6 +9,7 @@ use std::thread::Threads;
 use thiserror::Error;
 use wk_bench_answers::{AnswersRefusal, answered, asked_word};
 use wk_bench_core::{Task, Work, WorkRefusal, store, worked};
+use wk_bench_reads::{Drains, DrainsRefusal, PageKind, ReadKind, Reads, drained, read_by_threads};
 use wk_keeper::MemKeeper;
 use wk_memory::Memory;
 use wk_tables::Tables;
@@ -22,6 +23,9 @@ pub enum Refusal {
     /// Answers are refused.
     #[error("{0}")]
     Answers(AnswersRefusal),
+    /// A drain is refused.
+    #[error("{0}")]
+    Drains(DrainsRefusal),
     /// Memory ran out.
     #[error("out of memory")]
     Memory,
@@ -85,6 +89,52 @@ fn served_in_memory<R: Wait>(rt: &R, alloc: Global, sent: Sent) -> Result<u64, M
     served(rt, alloc, keeper, sent)
 }
 
+/// Lets threads read a wiki over an empty store. How many reads were answered.
+fn read_in_memory<R: Threads + Wait + Sync>(
+    rt: &R,
+    alloc: Global,
+    reads: Reads,
+) -> Result<u64, Memory> {
+    let keeper = MemKeeper::new(Tables::new(alloc));
+    let ended = read_by_threads(rt, alloc, keeper, reads)?;
+    Ok(ended.answers)
+}
+
+/// Drains a wiki over an empty store. How many refreshes were done.
+fn drained_in_memory<R: Threads + Wait + Sync>(
+    rt: &R,
+    alloc: Global,
+    drains: Drains,
+) -> Result<u64, Refusal> {
+    let keeper = MemKeeper::new(Tables::new(alloc));
+    match drained(rt, alloc, keeper, drains) {
+        Ok(count) => Ok(count),
+        Err(refusal) => Err(Refusal::Drains(refusal)),
+    }
+}
+
+/// The name of reads and of what is counted.
+fn reads_word(kind: ReadKind, with_writer: bool) -> &'static str {
+    match (kind, with_writer) {
+        (ReadKind::Hit, false) => "reads hit: answers",
+        (ReadKind::Same, false) => "reads same: answers",
+        (ReadKind::Check, false) => "reads check: answers",
+        (ReadKind::Draft, false) => "reads draft: answers",
+        (ReadKind::Hit, true) => "reads hit writer: answers",
+        (ReadKind::Same, true) => "reads same writer: answers",
+        (ReadKind::Check, true) => "reads check writer: answers",
+        (ReadKind::Draft, true) => "reads draft writer: answers",
+    }
+}
+
+/// The name of drains and of what is counted.
+fn drains_word(kind: PageKind) -> &'static str {
+    match kind {
+        PageKind::Light => "drains light: refreshed",
+        PageKind::Heavy => "drains heavy: refreshed",
+    }
+}
+
 /// The name of a session and of what is counted.
 fn session_word(kind: Kind, way: Way) -> &'static str {
     match (kind, way) {
@@ -143,6 +193,29 @@ pub fn done<R: Threads + Wait + Sync>(
                 times,
             };
             Ok((session_word(kind, way), served_in_memory(rt, alloc, sent)?))
+        }
+        Case::Reads {
+            kind,
+            threads,
+            with_writer,
+        } => {
+            let reads = Reads {
+                kind,
+                threads,
+                rounds: times,
+                with_writer,
+            };
+            let answers = read_in_memory(rt, alloc, reads)?;
+            Ok((reads_word(kind, with_writer), answers))
+        }
+        Case::Drains { kind, workers } => {
+            let drains = Drains {
+                kind,
+                pages: edits,
+                workers,
+                times,
+            };
+            Ok((drains_word(kind), drained_in_memory(rt, alloc, drains)?))
         }
     }
 }
