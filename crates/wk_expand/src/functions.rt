@@ -11,7 +11,7 @@ ghost use Rattle.wk_expand.specs.Searches.{HasDefault, behind_turned, search_of}
 ghost use Rattle.wk_expand.specs.Stack.{IsHere, LeadsTo, Place, parts_at, searched, text_at};
 ghost use Rattle.wk_expand.specs.State.{current};
 
-use crate::search::Search;
+use crate::search::{Search, Searching};
 use crate::stack::{Next, Use, Waiting};
 use crate::state::Expander;
 use crate::texts::trimmed;
@@ -21,7 +21,7 @@ use wk_tree::{ListId, NodeId};
 
 impl Expander {
     /// The items of a `#switch` from one on, by what was met before.
-    pub fn switch(&self, node: NodeId, search: Search, at: usize) -> Next
+    pub fn switch(&self, node: NodeId, search: Searching, at: usize) -> Next
         requires there { IsSome (node_with (current self.now) node) }
         requires default { HasDefault (current self.now) search }
         ensures { (seen : Answers) (p : Place) → IsHere self.now node p
@@ -29,14 +29,14 @@ impl Expander {
             (drop at (parts_at p))) self.now result self.now }
     {
         if self.tree().parts(node) <= at {
-            return self.without_result(search);
+            return self.without_result(search.found());
         }
         let part = self.tree().part(node, at);
         let out = Out::new(self.alloc);
         match part.name {
             None => Next::Expands(Waiting::Bare(search, at + 1), part.value, out),
             Some(name) => {
-                if search.matched {
+                if search.matched() {
                     return Next::Expands(Waiting::Part(Use::Operand), part.value, out);
                 }
                 Next::Expands(Waiting::Named(search, at + 1, part.value), name, out)
@@ -71,7 +71,7 @@ impl Expander {
     pub fn bare_item(
         &self,
         node: NodeId,
-        search: Search,
+        search: Searching,
         next: usize,
         out: Out,
     ) -> Result<Next, Memory>
@@ -91,7 +91,7 @@ impl Expander {
     pub fn named_item(
         &self,
         node: NodeId,
-        search: Search,
+        search: Searching,
         next: usize,
         value: ListId,
         name: Out,

@@ -1,8 +1,13 @@
 //! What an expansion has begun and not ended: the nodes that are open within each other, and the list that is expanded.
+ghost use Rattle.std.specs.Prelude.{◌≡◌, IfOk};
+
 use crate::levels::{Bound, Level};
-use crate::search::Search;
+use crate::search::Searching;
+use std::alloc::Global;
+use std::marker::Model;
 use wk_args::Args;
 use wk_bytes::Text;
+use wk_memory::Memory;
 use wk_out::Out;
 use wk_title::Title;
 use wk_tree::{ListId, NodeId};
@@ -43,6 +48,37 @@ pub struct Inclusion {
     pub text: Text,
 }
 
+/// The same in memory of its own, so that little is handed on from step to step.
+#[derive(Drop)]
+pub struct Included {
+    page: Box<Inclusion>,
+}
+
+impl Model for Included {
+    ghost use Rattle.wk_expand.specs.declared.stack.Inclusion.{Inclusion};
+
+    ghost Value = { Inclusion };
+
+    ghost view = { λ p. p.page.value };
+}
+
+impl Included {
+    /// The page, in memory of its own.
+    pub fn new(alloc: Global, page: Inclusion) -> Result<Included, Memory>
+        ensures { IfOk result (λ included. included ≡ page) }
+    {
+        let page = Box::new(alloc, page)?;
+        Ok(Included { page })
+    }
+
+    /// The page itself. Takes no memory.
+    pub fn found(self) -> Inclusion
+        ensures { result ≡ self }
+    {
+        Box::into_inner(self.page)
+    }
+}
+
 /// What of a template's further parts is bound.
 #[derive(Drop)]
 pub struct Binder {
@@ -66,13 +102,13 @@ pub enum Waiting {
     /// It is a further part, with what stands before it.
     Part(Use),
     /// It is a name that is bound to this value, before the further parts that are bound next.
-    Binding(Inclusion, Binder, Bound),
+    Binding(Included, Binder, Bound),
     /// It is the text of the page that is included in this title's place.
     Included(Title),
     /// It is an item of a `#switch` without an equals sign, before the part of this number.
-    Bare(Search, usize),
+    Bare(Searching, usize),
     /// It is the name of an item of a `#switch`, before the part of this number; the item's value is this list.
-    Named(Search, usize, ListId),
+    Named(Searching, usize, ListId),
 }
 
 /// What a node is about to do, with no list that is expanded for it.
@@ -83,7 +119,7 @@ pub enum Pending {
     /// The page of the first title redirects to the second, whose text is included in the first one's place.
     Target(Title, Title),
     /// The further parts are bound, and then the page is included.
-    Binds(Inclusion, Binder),
+    Binds(Included, Binder),
 }
 
 /// What a node does next.

@@ -16,9 +16,9 @@ use crate::bind::bind_number;
 use crate::decide::Decision;
 use crate::inclusion::Found;
 use crate::levels::{Bound, Level};
-use crate::search::Search;
+use crate::search::Searching;
 use crate::seen::Seen;
-use crate::stack::{Binder, Inclusion, Next, Pending, Waiting};
+use crate::stack::{Binder, Included, Inclusion, Next, Pending, Waiting};
 use crate::state::{Expander, Stop};
 use crate::texts::node_error;
 use crate::trees::Trees;
@@ -57,7 +57,10 @@ impl Expander {
             Decision::Gives(out) => Ok(Next::Gives(out)),
             Decision::Operand(n) => Ok(self.operand(node, n)),
             Decision::Equality(first) => Ok(self.equality(node, first)),
-            Decision::Switch(subject) => Ok(self.switch(node, Search::new(subject), 0)),
+            Decision::Switch(subject) => {
+                let search = Searching::new(self.alloc, subject)?;
+                Ok(self.switch(node, search, 0))
+            }
             Decision::Written => Ok(self.written(node, name)?),
             Decision::Redirects(title, target) => Ok(Next::Goes(Pending::Target(title, target))),
             Decision::Includes(title, source, text) => {
@@ -109,6 +112,7 @@ impl Expander {
         if !self.charge(page.text.len() as u64 / 64) {
             return Ok(Next::Gives(node_error(self.alloc)?));
         }
+        let page = Included::new(self.alloc, page)?;
         let binder = Binder {
             args: Args::new(self.alloc),
             numbered: 0,
@@ -122,7 +126,7 @@ impl Expander {
         &mut self,
         trees: &mut Trees,
         node: NodeId,
-        page: Inclusion,
+        page: Included,
         binder: Binder,
     ) -> Result<Next, Memory>
         requires there { IsSome (node_with (current self.old) node) }
@@ -163,7 +167,7 @@ impl Expander {
     fn enter_page(
         &mut self,
         trees: &mut Trees,
-        page: Inclusion,
+        page: Included,
         args: Args<Bound>,
     ) -> Result<Next, Memory>
         requires { HasLists (current self.old) args }
@@ -171,6 +175,7 @@ impl Expander {
             → IsHere self.old id p → ShowsBindings (text_at p) args bindings
             → LeadsTo seen p (included_with p page bindings) self.old next self.new) }
     {
+        let page = page.found();
         let tree = trees.tree(self.alloc, &page.text, Mode::Include)?;
         let root = tree.root();
         let Inclusion { title, source, .. } = page;

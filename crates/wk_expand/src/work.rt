@@ -61,6 +61,7 @@ impl Expander {
 
 impl Work {
     /// The list goes on behind a node that gives this output.
+    #[inline(always)]
     fn passed(&mut self, one: &Out) -> Result<(), Memory>
         ensures { OnOk result (IsPassed self.old one.now self.new) }
     {
@@ -69,6 +70,7 @@ impl Work {
     }
 
     /// A node is open from now on, and waits for the output of this list.
+    #[inline(always)]
     fn wait(&mut self, node: NodeId, waiting: Waiting, listing: Listing) -> Result<(), Memory>
         ensures { OnOk result (HasOpened self.old node waiting listing self.new) }
     {
@@ -82,6 +84,7 @@ impl Work {
     }
 
     /// A node does next what is said.
+    #[inline(always)]
     fn follow(&mut self, node: NodeId, next: Next) -> Result<Turn, Memory>
         ensures { IfOk result (λ turn. (seen : Answers) (e : Expansion Output)
             → IsGoing self.old node self.old.listing (λ p rest. IsNext p self.old.expander next rest) e
@@ -132,6 +135,7 @@ impl Work {
     }
 
     /// A node does next what is said, as far as it can be done at once.
+    #[inline(always)]
     fn lead(&mut self, node: NodeId, next: Next) -> Result<Turn, Memory>
         requires { (e : Expansion Output) × IsGoing self.old node self.old.listing
             (λ p rest. IsNext p self.old.expander next rest) e }
@@ -146,6 +150,7 @@ impl Work {
     }
 
     /// A node of the list is opened, or gives an error where it can't be.
+    #[inline(always)]
     fn open(&mut self, node: NodeId) -> Result<Turn, Memory>
         requires { (e : Expansion Output) × IsAtNode self.old node self.old.listing e }
         ensures { IfOk result (λ turn. (seen : Answers) (e : Expansion Output)
@@ -168,6 +173,7 @@ impl Work {
     }
 
     /// The list has ended: the innermost node that is open goes on, if there is one.
+    #[inline(always)]
     fn ended(&mut self) -> Result<Turn, Memory>
         requires { (e : Expansion Output) × IsEnded self.old self.old.listing.out e }
         ensures { IfOk result (λ turn. (seen : Answers) (e : Expansion Output)
@@ -187,6 +193,7 @@ impl Work {
     }
 
     /// The list is expanded up to its next node, or to its end.
+    #[inline(always)]
     fn expand_list(&mut self) -> Result<Turn, Memory>
         requires { (e : Expansion Output) × IsListing self.old self.old.listing e }
         ensures { IfOk result (λ turn. (seen : Answers) (e : Expansion Output)
@@ -245,6 +252,7 @@ impl Work {
     }
 
     /// One step.
+    #[inline(always)]
     pub fn step(&mut self, seen: &Seen, trees: &mut Trees, now: Now) -> Result<Turn, Memory>
         requires { (e : Expansion Output) × IsNow self.old now e }
         ensures { IfOk result (λ turn. (e : Expansion Output)

@@ -1,11 +1,12 @@
-use Rattle.std.proofs.Common.{◌/◌, [], refl, sym, subst, arith, length}
-use Rattle.wk_view_rules.specs.Expand.{included}
-use Rattle.wk_view_rules.specs.Expansions.{charged, give}
+use Rattle.std.proofs.Common.{◌/◌, [], ap, refl, sym, subst, arith, length}
+use Rattle.wk_view_rules.specs.Expand.{included, with_bindings}
+use Rattle.wk_view_rules.specs.Expansions.{charged, give, ◌>>=◌}
 use Rattle.wk_view_rules.specs.Texts.{node_error}
 use Rattle.wk_expand.specs.Running.{ComesTo}
-use Rattle.wk_expand.specs.Stack.{parts_at, text_at}
+use Rattle.wk_expand.specs.Stack.{included_with, parts_at, text_at}
 use Rattle.wk_expand.specs.Levels.{HasLists}
 use Rattle.wk_expand.specs.State.{ShowsBindings}
+use Rattle.wk_expand.specs.declared.stack.Inclusion.{Inclusion}
 use Rattle.wk_expand.proofs.BindLaws.{has-none, shows-none}
 use Rattle.wk_expand.proofs.LeadLaws.{here-later, leads-comes}
 use Rattle.wk_expand.proofs.PageLaws.{charged-as, included-is, run_text}
@@ -46,11 +47,11 @@ returns c =
         record {
           bindings = [];
           bound = record {
-            shows = subst (λ args. ShowsBindings (text_at p) args []) (sym c.new.ensures) (shows-none (text_at p));
-            lists = subst (HasLists (text_at p)) (sym c.new.ensures) (has-none (text_at p));
+            shows = subst (λ args. ShowsBindings (text_at p) args []) (sym c.new-2.ensures) (shows-none (text_at p));
+            lists = subst (HasLists (text_at p)) (sym c.new-2.ensures) (has-none (text_at p));
             few = omega arith;
           };
-          is = refl;
+          is = ap (λ (x : Inclusion). with_bindings p.inner p.viewed p.frame 1 [] (parts_at p) >>= included_with p x) (sym c.in_ok-page.ensures);
         },
       );
       passes = begun.passes;

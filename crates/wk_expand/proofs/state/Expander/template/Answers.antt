@@ -68,8 +68,8 @@ returns-in-Equality-clause-leads c =
     (c.in_ok-out.ensures.leads p.viewed p.frame (frame-here s c.args.node p h) p.inner parts count))
     (c.equality.ensures seen p (here-later s c.args.node p h t c.in_ok-out.ensures.same))
 
-pub returns-in-Switch-clause-leads : goal.returns-in-Switch-clause-leads
-returns-in-Switch-clause-leads c =
+pub returns-in_ok-search-in-Switch-clause-leads : goal.returns-in_ok-search-in-Switch-clause-leads
+returns-in_ok-search-in-Switch-clause-leads c =
     λ p h.
     let s = c.args.self.now in
     let t = c.decide.new.self in
@@ -81,8 +81,8 @@ returns-in-Switch-clause-leads c =
     leads-behind seen p e (decision_rest p.inner p.viewed p.frame c.args.name.now parts d) s t c.switch.result t
     (decided-comes p.inner p.viewed p.frame c.args.name.now parts seen e s t c.in_ok-out.field-0 d c.in-Switch.is
     (c.in_ok-out.ensures.leads p.viewed p.frame (frame-here s c.args.node p h) p.inner parts count))
-    (leads-in seen p (decision_rest p.inner p.viewed p.frame c.args.name.now parts d) (switch_output p.inner p.viewed p.frame (search_of (text_at p) c.new.result) parts) t c.switch.result t
-    (sym (ap (λ (x : Search). switch_output p.inner p.viewed p.frame (search_of (text_at p) x) parts) c.new.ensures))
+    (leads-in seen p (decision_rest p.inner p.viewed p.frame c.args.name.now parts d) (switch_output p.inner p.viewed p.frame (search_of (text_at p) c.in_ok-search-in-Switch.search) parts) t c.switch.result t
+    (sym (ap (λ (x : Search). switch_output p.inner p.viewed p.frame (search_of (text_at p) x) parts) c.in_ok-search-in-Switch.ensures))
     (c.switch.ensures seen p (here-later s c.args.node p h t c.in_ok-out.ensures.same)))
 
 pub returns-in_ok-written-in-Written-clause-leads : goal.returns-in_ok-written-in-Written-clause-leads
