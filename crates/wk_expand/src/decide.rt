@@ -16,6 +16,7 @@ use crate::inclusion::Found;
 use crate::seen::Seen;
 use crate::state::{Expander, Stop};
 use crate::texts::{made_or, trimmed_copy};
+use crate::trees::Trees;
 use crate::words::{called_title, first_operand, variable_text};
 use wk_bytes::Text;
 use wk_func::{Func, Word, find};
@@ -95,7 +96,7 @@ impl Expander {
     }
 
     /// What is to be done for a template whose trimmed title part calls no variable and no function.
-    fn called(&mut self, seen: &Seen, title: &Out) -> Result<Decision, Stop>
+    fn called(&mut self, seen: &Seen, trees: &mut Trees, title: &Out) -> Result<Decision, Stop>
         ensures same { OnOk result (IsSame self.old self.new) }
         ensures keeps { Keeps result self.old self.new }
         ensures further { IfOk result Further }
@@ -105,7 +106,7 @@ impl Expander {
             → Leads seen.now (page_output inner viewed frame name parts) self.old
             (decision_rest inner viewed frame name parts) result self.new }
     {
-        let Some(title) = called_title(self.alloc, title)? else {
+        let Some(title) = called_title(self.alloc, trees, title)? else {
             return Ok(Decision::Written);
         };
         match self.inclusion(seen, &title)? {
@@ -116,7 +117,13 @@ impl Expander {
     }
 
     /// What is to be done for a template with so many further parts, whose title part gives this name.
-    pub fn decide(&mut self, seen: &Seen, name: &Out, count: usize) -> Result<Decision, Stop>
+    pub fn decide(
+        &mut self,
+        seen: &Seen,
+        trees: &mut Trees,
+        name: &Out,
+        count: usize,
+    ) -> Result<Decision, Stop>
         ensures same { OnOk result (IsSame self.old self.new) }
         ensures keeps { Keeps result self.old self.new }
         ensures further { IfOk result Further }
@@ -136,7 +143,7 @@ impl Expander {
                 let first = first_operand(self.alloc, title, place)?;
                 self.function(seen, func, first, count)
             }
-            Word::Page => self.called(seen, title),
+            Word::Page => self.called(seen, trees, title),
         }
     }
 }

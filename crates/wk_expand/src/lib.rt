@@ -17,6 +17,7 @@ mod laws;
 mod levels;
 mod limits;
 mod machine;
+mod names;
 mod parts;
 mod reads;
 mod resuming;

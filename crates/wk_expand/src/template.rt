@@ -31,7 +31,13 @@ use wk_tree_rules::Mode;
 
 impl Expander {
     /// What a node does, whose title part gives this name.
-    pub fn titled(&mut self, seen: &Seen, node: NodeId, name: &Out) -> Result<Next, Stop>
+    pub fn titled(
+        &mut self,
+        seen: &Seen,
+        trees: &mut Trees,
+        node: NodeId,
+        name: &Out,
+    ) -> Result<Next, Stop>
         requires { IsSome (node_with (current self.old) node) }
         ensures keeps { Keeps result self.old self.new }
         ensures leads { (p : Place) → IsHere self.old node p
@@ -41,11 +47,17 @@ impl Expander {
         if self.tree().argument(node) {
             return Ok(self.argument(node, name)?);
         }
-        self.template(seen, node, name)
+        self.template(seen, trees, node, name)
     }
 
     /// What a template does, whose title part gives this name.
-    fn template(&mut self, seen: &Seen, node: NodeId, name: &Out) -> Result<Next, Stop>
+    fn template(
+        &mut self,
+        seen: &Seen,
+        trees: &mut Trees,
+        node: NodeId,
+        name: &Out,
+    ) -> Result<Next, Stop>
         requires { IsSome (node_with (current self.old) node) }
         ensures keeps { Keeps result self.old self.new }
         ensures leads { (p : Place) → IsHere self.old node p
@@ -53,7 +65,7 @@ impl Expander {
             self.old result self.new }
     {
         let count = self.tree().parts(node);
-        match self.decide(seen, name, count)? {
+        match self.decide(seen, trees, name, count)? {
             Decision::Gives(out) => Ok(Next::Gives(out)),
             Decision::Operand(n) => Ok(self.operand(node, n)),
             Decision::Equality(first) => Ok(self.equality(node, first)),

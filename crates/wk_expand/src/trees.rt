@@ -1,8 +1,10 @@
 //! Parsed texts that are kept.
-ghost use Rattle.std.specs.Prelude.{◌≡◌, ◌≤◌, length, IfOk, IfSome};
+ghost use Rattle.std.specs.Prelude.{◌≡◌, ◌≤◌, length, pos, IfOk, IfSome};
 ghost use Rattle.std.specs.NonZero.{non_zero_usize_get};
+ghost use Rattle.wk_text_rules.specs.Titles.{normal};
 ghost use Rattle.wk_expand.specs.Trees.{AreKept, IsKeyOf, most_bytes, parsed_text};
 
+use crate::names::Names;
 use crate::tree::Tree;
 use lru::LruCache;
 use std::alloc::Global;
@@ -10,6 +12,7 @@ use std::marker::Model;
 use std::num::NonZeroUsize;
 use wk_bytes::Text;
 use wk_memory::Memory;
+use wk_title::Title;
 use wk_tree::parse;
 use wk_tree_rules::Mode;
 
@@ -127,6 +130,7 @@ fn kept_tree(
 pub struct Trees {
     capacity: usize,
     kept: Option<LruCache<Reading, Tree>>,
+    names: Names,
 }
 
 impl Model for Trees {
@@ -149,7 +153,12 @@ impl Trees {
             Some(most) => Some(LruCache::sparse(alloc, most)?),
             None => None,
         };
-        Ok(Trees { capacity, kept })
+        let names = Names::new(alloc, capacity)?;
+        Ok(Trees {
+            capacity,
+            kept,
+            names,
+        })
     }
 
     /// The tree of a text that is read in a mode: the kept one, or a new one, which is kept where the text isn't long.
@@ -161,5 +170,13 @@ impl Trees {
             Some(kept) if text.len() <= MOST_BYTES => kept_tree(alloc, kept, text, mode),
             _ => made(alloc, text, mode),
         }
+    }
+
+    /// The title that a name calls, in the namespace Template where it names none. Names that were called are kept.
+    pub(crate) fn called(&mut self, alloc: Global, name: &str) -> Result<Option<Title>, Memory>
+        ensures title { IfOk result (λ found. found ≡ normal name.now (pos 10)) }
+        ensures same { self.new ≡ self.old }
+    {
+        self.names.called(alloc, name)
     }
 }

@@ -8,6 +8,7 @@ ghost use Rattle.wk_view_rules.specs.Texts.{variable_text};
 ghost use Rattle.wk_view_rules.specs.Words.{function_called};
 
 use crate::texts::{plain, trimmed};
+use crate::trees::Trees;
 use std::alloc::Global;
 use wk_memory::Memory;
 use wk_out::Out;
@@ -115,11 +116,14 @@ fn named_title(alloc: Global, name: &Out, default_ns: i8) -> Result<Option<Title
 
 /// The page that a trimmed title part calls, a template where no namespace is named; none where it holds a sealed
 /// byte, or is no title.
-pub fn called_title(alloc: Global, title: &Out) -> Result<Option<Title>, Memory>
+pub fn called_title(alloc: Global, trees: &mut Trees, title: &Out) -> Result<Option<Title>, Memory>
     ensures { IfOk result (λ found.
         found ≡ option_and_then (λ text. normal text (pos 10)) (plain_text_of title.now)) }
 {
-    named_title(alloc, title, 10)
+    match title.plain_text() {
+        Some(text) => trees.called(alloc, text),
+        None => Ok(None),
+    }
 }
 
 /// The page that an operand tests; none where it holds a sealed byte, is no title, or a title in a negative namespace.

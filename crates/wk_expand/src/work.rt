@@ -226,7 +226,7 @@ impl Work {
             → IsTurn seen.now e self.old.expander turn self.new) }
     {
         match pending {
-            Pending::Named(name) => match self.expander.titled(seen, node, &name) {
+            Pending::Named(name) => match self.expander.titled(seen, trees, node, &name) {
                 Ok(next) => self.lead(node, next),
                 Err(Stop::Needs(title, kind)) => {
                     let now = Now::Node(node, Pending::Named(name));

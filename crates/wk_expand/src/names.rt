@@ -1,0 +1,121 @@
+//! The titles of names that were called.
+ghost use Rattle.std.specs.Prelude.{◌≡◌, IfOk, IfSome, Some, pos};
+ghost use Rattle.wk_text_rules.specs.Titles.{normal};
+
+use std::alloc::Global;
+use std::marker::Model;
+use wk_memory::Memory;
+use wk_title::{Title, named};
+
+/// How many names have a place at most.
+const MOST_NAMES: usize = 1024;
+
+/// How many bytes a name has at most that is kept.
+const MOST_BYTES: usize = 256;
+
+/// The number of the namespace Template.
+const TEMPLATE: i8 = 10;
+
+/// A name that calls a page, a template where it names no namespace, and the page's title.
+#[derive(Drop)]
+pub struct Called {
+    name: String,
+    title: Title,
+}
+
+impl Model for Called {
+    ghost use Rattle.std.specs.Prelude.{◌≡◌, Some, pos, string_bytes};
+    ghost use Rattle.wk_text_rules.specs.Titles.{normal};
+
+    ghost Value = { Unit {0} };
+
+    ghost view = { λ c. tt };
+
+    ghost invariant = { λ c. normal (string_bytes c.name) (pos 10) ≡ Some c.title };
+}
+
+impl Called {
+    fn new(alloc: Global, name: &str, title: &Title) -> Result<Called, Memory>
+        requires { normal name.now (pos 10) ≡ Some title.now }
+    {
+        let name = String::from_str(alloc, name)?;
+        let title = title.share()?;
+        Ok(Called { name, title })
+    }
+
+    /// The title, where the name is this one.
+    fn by(&self, name: &str) -> Result<Option<Title>, Memory>
+        ensures { IfOk result (λ found. IfSome found (λ title. normal name.now (pos 10) ≡ Some title)) }
+    {
+        if self.name.as_str() != name {
+            return Ok(None);
+        }
+        Ok(Some(self.title.share()?))
+    }
+}
+
+/// The names that were called last, each in a place that its bytes give (own). A name takes the place of another. A
+/// name of more than 256 bytes isn't kept, so that what is kept has a bound.
+#[derive(Drop)]
+pub struct Names {
+    places: Vec<Option<Called>>,
+}
+
+/// The number that the bytes of a name give (the FNV-1a hash).
+fn code_of(name: &[u8]) -> u64 {
+    let mut code = 0xcbf2_9ce4_8422_2325;
+    for byte in name {
+        code = (code ^ *byte as u64).wrapping_mul(0x0000_0100_0000_01b3);
+    }
+    code
+}
+
+impl Names {
+    /// Places for so many names at most.
+    pub fn new(alloc: Global, most: usize) -> Result<Names, Memory> {
+        let mut places = Vec::new(alloc);
+        for _ in 0..most.min(MOST_NAMES) {
+            places.push(None)?;
+        }
+        Ok(Names { places })
+    }
+
+    /// The title in the place, where that is the name's.
+    fn kept(&self, name: &str, place: usize) -> Result<Option<Title>, Memory>
+        ensures { IfOk result (λ found. IfSome found (λ title. normal name.now (pos 10) ≡ Some title)) }
+    {
+        match self.places.get(place) {
+            Some(Some(called)) => called.by(name),
+            _ => Ok(None),
+        }
+    }
+
+    /// Keeps the name in the place.
+    fn keep(&mut self, alloc: Global, name: &str, place: usize, title: &Title) -> Result<(), Memory>
+        requires { normal name.now (pos 10) ≡ Some title.now }
+    {
+        if let Some(kept) = self.places.get_mut(place) {
+            *kept = Some(Called::new(alloc, name, title)?);
+        }
+        Ok(())
+    }
+
+    /// The title that a name calls, in the namespace Template where it names none.
+    pub fn called(&mut self, alloc: Global, name: &str) -> Result<Option<Title>, Memory>
+        ensures { IfOk result (λ found. found ≡ normal name.now (pos 10)) }
+    {
+        let count = self.places.as_slice().len();
+        if count == 0 || MOST_BYTES < name.len() {
+            return named(alloc, name, TEMPLATE);
+        }
+        let place = (code_of(name.as_bytes()) % count as u64) as usize;
+        if let Some(title) = self.kept(name, place)? {
+            return Ok(Some(title));
+        }
+        let Some(title) = named(alloc, name, TEMPLATE)? else {
+            return Ok(None);
+        };
+        self.keep(alloc, name, place, &title)?;
+        Ok(Some(title))
+    }
+}
