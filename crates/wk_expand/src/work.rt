@@ -8,6 +8,8 @@ ghost use Rattle.wk_expand.specs.Stack.{IsNext};
 ghost use Rattle.wk_expand.specs.State.{current};
 ghost use Rattle.wk_expand.specs.Work.{IsAtNode, IsEnded, IsFilled, IsGoing, IsListing, IsNow, IsTurn, HasOpened, IsPassed};
 ghost use Rattle.wk_expand.specs.declared.stack.Next.TheVariants.{Expands as ExpandsNext, Goes as GoesNext};
+ghost use Rattle.wk_expand.specs.declared.stack.Pending.TheVariants.{Named as NamedPending};
+ghost use Rattle.wk_expand.specs.declared.stack.Waiting.TheVariants.{Title as TitleWaiting};
 
 use crate::seen::Seen;
 use crate::stack::{Listing, Next, Now, Opened, Pending, Turn, Waiting};
@@ -149,12 +151,65 @@ impl Work {
         }
     }
 
+    /// A node goes on whose title part gives this name.
+    fn named(
+        &mut self,
+        seen: &Seen,
+        trees: &mut Trees,
+        node: NodeId,
+        name: Out,
+    ) -> Result<Turn, Memory>
+        requires { (e : Expansion Output) × IsGoing self.old node self.old.listing
+            (λ p rest. IsNext p self.old.expander (GoesNext (NamedPending name)) rest) e }
+        ensures { IfOk result (λ turn. (e : Expansion Output)
+            → IsGoing self.old node self.old.listing
+            (λ p rest. IsNext p self.old.expander (GoesNext (NamedPending name)) rest) e
+            → IsTurn seen.now e self.old.expander turn self.new) }
+    {
+        match self.expander.titled(seen, trees, node, &name) {
+            Ok(next) => self.lead(node, next),
+            Err(Stop::Needs(title, kind)) => {
+                let now = Now::Node(node, Pending::Named(name));
+                Ok(Turn::Needs(title, kind, now))
+            }
+            Err(Stop::Memory) => Err(Memory),
+        }
+    }
+
+    /// The title part of a node is expanded, up to the next node in it, which is opened then; the node goes on at once
+    /// where there is none.
+    fn title_part(
+        &mut self,
+        seen: &Seen,
+        trees: &mut Trees,
+        node: NodeId,
+        list: ListId,
+        before: Out,
+    ) -> Result<Turn, Memory>
+        requires { (e : Expansion Output) × IsGoing self.old node self.old.listing
+            (λ p rest. IsNext p self.old.expander (ExpandsNext TitleWaiting list before) rest) e }
+        ensures { IfOk result (λ turn. (e : Expansion Output)
+            → IsGoing self.old node self.old.listing
+            (λ p rest. IsNext p self.old.expander (ExpandsNext TitleWaiting list before) rest) e
+            → IsTurn seen.now e self.old.expander turn self.new) }
+    {
+        let mut out = before;
+        let (at, inner) = self.expander.fill(list, 0, &mut out)?;
+        match inner {
+            Some(first) => {
+                self.wait(node, Waiting::Title, Listing { list, at, out })?;
+                Ok(Turn::On(Now::Open(first)))
+            }
+            None => self.named(seen, trees, node, out),
+        }
+    }
+
     /// A node of the list is opened, or gives an error where it can't be.
     #[inline(always)]
-    fn open(&mut self, node: NodeId) -> Result<Turn, Memory>
+    fn open(&mut self, seen: &Seen, trees: &mut Trees, node: NodeId) -> Result<Turn, Memory>
         requires { (e : Expansion Output) × IsAtNode self.old node self.old.listing e }
-        ensures { IfOk result (λ turn. (seen : Answers) (e : Expansion Output)
-            → IsAtNode self.old node self.old.listing e → IsTurn seen e self.old.expander turn self.new) }
+        ensures { IfOk result (λ turn. (e : Expansion Output)
+            → IsAtNode self.old node self.old.listing e → IsTurn seen.now e self.old.expander turn self.new) }
     {
         let alloc = self.expander.alloc;
         if !self.expander.charge(1) {
@@ -169,7 +224,7 @@ impl Work {
         }
         let title = self.expander.tree().title(node);
         let before = Out::new(alloc);
-        self.expand_for(node, Waiting::Title, title, before)
+        self.title_part(seen, trees, node, title, before)
     }
 
     /// The list has ended: the innermost node that is open goes on, if there is one.
@@ -194,10 +249,10 @@ impl Work {
 
     /// The list is expanded up to its next node, or to its end.
     #[inline(always)]
-    fn expand_list(&mut self) -> Result<Turn, Memory>
+    fn expand_list(&mut self, seen: &Seen, trees: &mut Trees) -> Result<Turn, Memory>
         requires { (e : Expansion Output) × IsListing self.old self.old.listing e }
-        ensures { IfOk result (λ turn. (seen : Answers) (e : Expansion Output)
-            → IsListing self.old self.old.listing e → IsTurn seen e self.old.expander turn self.new) }
+        ensures { IfOk result (λ turn. (e : Expansion Output)
+            → IsListing self.old self.old.listing e → IsTurn seen.now e self.old.expander turn self.new) }
     {
         let list = self.listing.list;
         let (at, node) = self
@@ -205,7 +260,7 @@ impl Work {
             .fill(list, self.listing.at, &mut self.listing.out)?;
         self.listing.at = at;
         match node {
-            Some(node) => self.open(node),
+            Some(node) => self.open(seen, trees, node),
             None => self.ended(),
         }
     }
@@ -226,14 +281,7 @@ impl Work {
             → IsTurn seen.now e self.old.expander turn self.new) }
     {
         match pending {
-            Pending::Named(name) => match self.expander.titled(seen, trees, node, &name) {
-                Ok(next) => self.lead(node, next),
-                Err(Stop::Needs(title, kind)) => {
-                    let now = Now::Node(node, Pending::Named(name));
-                    Ok(Turn::Needs(title, kind, now))
-                }
-                Err(Stop::Memory) => Err(Memory),
-            },
+            Pending::Named(name) => self.named(seen, trees, node, name),
             Pending::Target(title, target) => {
                 match self.expander.redirected_page(seen, node, &title, &target) {
                     Ok(next) => self.lead(node, next),
@@ -259,8 +307,8 @@ impl Work {
             → IsNow self.old now e → IsTurn seen.now e self.old.expander turn self.new) }
     {
         match now {
-            Now::List => self.expand_list(),
-            Now::Open(node) => self.open(node),
+            Now::List => self.expand_list(seen, trees),
+            Now::Open(node) => self.open(seen, trees, node),
             Now::Node(node, pending) => self.go_on(seen, trees, node, pending),
         }
     }

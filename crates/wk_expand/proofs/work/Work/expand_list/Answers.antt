@@ -36,10 +36,10 @@ ended-requires c =
 
 pub returns-in-Some : goal.returns-in-Some
 returns-in-Some c =
-    IfOk-weaker c.open.result _ _ (λ turn k seen e h.
-    k seen e (at-node c.args.self.now c.fill.new.out c.in_ok-at.at c.in_ok-at.node c.in-Some.node e c.in-Some.is c.in_ok-at.ensures h)) c.open.ensures
+    IfOk-weaker c.open.result _ _ (λ turn k e h.
+    k e (at-node c.args.self.now c.fill.new.out c.in_ok-at.at c.in_ok-at.node c.in-Some.node e c.in-Some.is c.in_ok-at.ensures h)) c.open.ensures
 
 pub returns-in-None : goal.returns-in-None
 returns-in-None c =
-    IfOk-weaker c.ended.result _ _ (λ turn k seen e h.
-    k seen e (at-end c.args.self.now c.fill.new.out c.in_ok-at.at c.in_ok-at.node e c.in-None.is c.in_ok-at.ensures h)) c.ended.ensures
+    IfOk-weaker c.ended.result _ _ (λ turn k e h.
+    k c.args.seen.now e (at-end c.args.self.now c.fill.new.out c.in_ok-at.at c.in_ok-at.node e c.in-None.is c.in_ok-at.ensures h)) c.ended.ensures

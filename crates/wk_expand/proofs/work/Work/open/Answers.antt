@@ -17,7 +17,8 @@ use Rattle.wk_expand.proofs.work.Work.open.Goals as goal
 
 pub returns-then-not-charge : goal.returns-then-not-charge
 returns-then-not-charge c =
-    λ seen e h.
+    λ e h.
+    let seen = c.args.seen.now in
     let w = c.args.self.now in
     let u : Work = c.passed.new.self in
     let first = charged_node h.left w.expander.page h.frame h.node.kind h.node.content in
@@ -30,7 +31,8 @@ returns-then-not-charge c =
 
 pub returns-then-as_slice-ge-MOST_OPEN : goal.returns-then-as_slice-ge-MOST_OPEN
 returns-then-as_slice-ge-MOST_OPEN c =
-    λ seen e h.
+    λ e h.
+    let seen = c.args.seen.now in
     let w = c.args.self.now in
     let u : Work = c.passed-then-as_slice-ge-MOST_OPEN.new.self in
     let page = w.expander.page in
@@ -53,8 +55,8 @@ title-title-requires c =
     (node-there c.args.self.now.expander c.charge.new.self c.args.node (c.if-not-charge.ensures.within [] (give [])).same
     (some_of (node_with (current c.args.self.now.expander) c.args.node) h.node h.node_is))
 
-pub expand_for-requires : goal.expand_for-requires
-expand_for-requires c =
+pub title_part-requires : goal.title_part-requires
+title_part-requires c =
     let h = c.requires.1 in
     let w = c.args.self.now in
     let u : Work = record w { expander = c.charge.new.self } in
@@ -72,7 +74,8 @@ returns c =
     let w = c.args.self.now in
     let u : Work = record w { expander = c.charge.new.self } in
     let page = w.expander.page in
-    IfOk-weaker c.expand_for.result _ _ (λ turn k seen e h.
+    let seen = c.args.seen.now in
+    IfOk-weaker c.title_part.result _ _ (λ turn k e h.
     let rest = opened h.left page h.frame h.node.kind h.node.content in
     let total : h.left + length (reverse w.opened.items) ≡ 200 = continues-left h.left page w.expander.levels (reverse w.opened.items) h.after h.continues in
     let more : 0 < h.left = omega (arith, total, length-reverse w.opened.items, c.if-as_slice-ge-MOST_OPEN.false, c.as_slice.ensures.value) in
@@ -80,4 +83,4 @@ returns c =
     let there = ap (λ parsed. node_with parsed c.args.node) (current-same w.expander u.expander come.same) ∙ h.node_is in
     let title = title-is c.tree.result.now (current u.expander) c.args.node c.title-title.result h.node c.tree.ensures c.title-title.ensures there in
     let opens = node-opens seen w u c.args.node w.listing e h refl more come c.title-title.result c.new-before.result title c.new-before.ensures in
-    turn-behind seen e opens.0 w.expander u.expander turn c.expand_for.new.self opens.2 (k seen opens.0 opens.1)) c.expand_for.ensures
+    turn-behind seen e opens.0 w.expander u.expander turn c.title_part.new.self opens.2 (k opens.0 opens.1)) c.title_part.ensures

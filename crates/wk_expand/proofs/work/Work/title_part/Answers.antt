@@ -1,0 +1,63 @@
+use Rattle.std.proofs.Common.{Option, Some, None, subst, refl}
+use Rattle.std.proofs.lemmas.Result.{IfOk-weaker}
+use Rattle.wk_tree.specs.Parsed.{list_with}
+use Rattle.wk_tree.specs.declared.item.NodeId.{NodeId}
+use Rattle.wk_view_rules.specs.Expansions.{Output, ◌>>=◌}
+use Rattle.wk_view_rules.specs.Worlds.{Seen}
+use Rattle.wk_expand.specs.Stack.{LeadsTo, Waits}
+use Rattle.wk_expand.specs.State.{current}
+use Rattle.wk_expand.specs.Work.{IsFilled}
+use Rattle.wk_expand.specs.declared.stack.Next.TheVariants.{Goes}
+use Rattle.wk_expand.specs.declared.stack.Pending.TheVariants.{Named}
+use Rattle.wk_expand.specs.declared.stack.Waiting.TheVariants.{Title}
+use Rattle.wk_expand.specs.declared.state.Expander.{Expander}
+use Rattle.wk_expand.proofs.PartLaws.{some_of}
+use Rattle.wk_expand.proofs.RunLaws.{passes-as}
+use Rattle.wk_expand.proofs.WorkLaws.{AreFilled, expands-end, expands-node, expands-waits, going-leads}
+use Rattle.wk_expand.proofs.work.Work.title_part.Goals as goal
+
+-- the output of the title part is the name by which the node goes on
+name-leads : (seen : Seen) (s : Expander) (id : NodeId) (out : Output) (k : Waits s id Title) → LeadsTo seen k.place (k.step out) s (Goes (Named out)) s
+name-leads seen s id out k = record {
+  page = refl;
+  rest = k.step out;
+  next_is = (k.within, k.step_is out);
+  passes = passes-as seen (k.step out) (k.step out) s refl;
+}
+
+pub fill-requires : goal.fill-requires
+fill-requires c =
+    let g = c.requires.1 in
+    some_of (list_with (current c.args.self.now.expander) c.args.list) g.rest_is.items g.rest_is.there
+
+pub returns-in_ok-wait-in-Some : goal.returns-in_ok-wait-in-Some
+returns-in_ok-wait-in-Some c =
+    λ e g.
+    let w = c.args.self.now in
+    let filled : AreFilled w.expander c.args.list c.args.before (c.in_ok-at.at, Some c.in-Some.first) c.fill.new.out = λ items k.
+    subst (λ (n : Option NodeId). IsFilled (current w.expander) items 0 c.args.before (c.in_ok-at.at, n) c.fill.new.out) c.in-Some.is (c.in_ok-at.ensures items k)
+    in
+    expands-node c.args.seen.now e w c.wait.new.self c.args.node c.in-Some.first Title c.args.list c.args.before c.fill.new.out c.in_ok-at.at filled c.in_ok-wait-in-Some.ensures g
+
+pub named-requires : goal.named-requires
+named-requires c =
+    let w = c.args.self.now in
+    let seen = c.args.seen.now in
+    let id = c.args.node in
+    let new = c.fill.new.out in
+    let g = c.requires.1 in
+    let h = name-leads seen w.expander id new (expands-waits w id Title c.args.list c.args.before c.requires.0 g) in
+    (h.rest >>= g.one, going-leads seen w w id w.listing (Goes (Named new)) g.spot (g.rest_is.step new) g.one g.list g.is_place g.continues refl h)
+
+pub returns-in-None : goal.returns-in-None
+returns-in-None c =
+    let w = c.args.self.now in
+    let seen = c.args.seen.now in
+    let id = c.args.node in
+    let new = c.fill.new.out in
+    let filled : AreFilled w.expander c.args.list c.args.before (c.in_ok-at.at, None) new = λ items k.
+    subst (λ (n : Option NodeId). IsFilled (current w.expander) items 0 c.args.before (c.in_ok-at.at, n) new) c.in-None.is (c.in_ok-at.ensures items k)
+    in
+    IfOk-weaker c.named.result _ _ (λ turn k e g.
+    expands-end seen e w c.named.new.self w.expander id Title c.args.list c.args.before new c.in_ok-at.at (Goes (Named new)) turn filled
+    (λ q. name-leads seen w.expander id new q) (λ f h. k f h) g) c.named.ensures
