@@ -49,6 +49,7 @@ module _ (s : Expander) (id : NodeId) (p : Place) (h : IsHere s id p) where
       root_is = ap (λ (v : LevelsShown). v.root) same.levels ∙ h.is.root_is;
       shows = h.is.shows;
       there = h.is.there;
+      plainly = h.is.plainly;
     };
     home = same.levels ∙ h.home;
   }
@@ -60,6 +61,12 @@ module _ (s : Expander) (id : NodeId) (p : Place) (h : IsHere s id p) where
   -- a further part
   pub part-here : (shown : ParsedText) (at : ℕ) (kept : Kept) (part : Part) → shown ≡ current s → IfSome (part_with shown id at) (IsPart shown kept) → slice_get (parts_at p) at ≡ Some part → IsPart (text_at p) kept part
   part-here shown at kept part is is_part e = part-is shown (text_at p) id at kept part (is ∙ text-here) is_part (part-of (text_at p) id at p.node h.is.there ∙ e)
+
+  -- a further part that is there
+  pub part-there : (at : ℕ) → IsSome (part_with (current s) id at) → (part : Part) × (slice_get (parts_at p) at ≡ Some part)
+  part-there at there =
+      let q = some_part (part_with (current s) id at) there in
+      (q.0, sym (part-of (text_at p) id at p.node h.is.there) ∙ ap (λ parsed. part_with parsed id at) (sym text-here) ∙ q.1)
 
   pub list-here : (list : ListId) (items : List Item) → list_with (current s) list ≡ Some items → list_with (text_at p) list ≡ Some items
   list-here list items e = ap (λ parsed. list_with parsed list) (sym text-here) ∙ e

@@ -1,5 +1,6 @@
 pub mod ArgumentLaws
 pub mod BindLaws
+pub mod BinderLaws
 pub mod DecideLaws
 pub mod DraftLaws
 pub mod ExistsLaws
@@ -11,6 +12,7 @@ pub mod ListLaws
 pub mod NodeLaws
 pub mod PageLaws
 pub mod PartLaws
+pub mod PlainLaws
 pub mod ReadLaws
 pub mod ResumedLaws
 pub mod RoundLaws

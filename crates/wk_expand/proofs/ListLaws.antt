@@ -156,6 +156,13 @@ module _ (left : ℕ) (viewed : PageTitle) (frame : Frame) where
       (plans-regrouped (items_output (charged_node left viewed frame) items end.1) (λ last. gives (end.0 ++ last.0, last.1)) (behind_out out)
       ∙ ap (and_then (items_output (charged_node left viewed frame) items end.1)) (λ n last. gives (sym (append_assoc out end.0 last.0) n, last.1))) j)) k
 
+-- a list of one plain part
+pub expand-plain : (left : ℕ) (viewed : PageTitle) (frame : Frame) (start : ℕ) (text : List ℕ) → expand left viewed frame (plain start text ∷ []) ≡ give (all_plain text)
+unfolding items_output
+expand-plain left viewed frame start text =
+    expand-is left viewed frame (plain start text ∷ [])
+    ∙ ap give (append-nil (all_plain text))
+
 -- ---- a list up to its next node
 
 -- how far a list is added to an output

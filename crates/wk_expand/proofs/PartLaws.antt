@@ -68,6 +68,12 @@ pub part-is : (shown tree : ParsedText) (node : NodeId) (at : ℕ) (p : Part) (q
 part-is shown tree node at p q same h e =
     at_some (IsPart tree p) (part_with tree node at) q e (subst (λ parsed. IfSome (part_with parsed node at) (IsPart parsed p)) same h)
 
+-- the value of a part that is there
+pub value-there : (shown tree : ParsedText) (node : NodeId) (at : ℕ) (p : Part) → shown ≡ tree → IfSome (part_with shown node at) (IsPart shown p) → IsSome (part_with tree node at) → IsSome (list_with tree p.value)
+value-there shown tree node at p same h there =
+    let q = some_part (part_with tree node at) there in
+    some_of (list_with tree p.value) q.0.value (part-is shown tree node at p q.0 same h q.1).value
+
 -- a list of a text is one of the same text later on
 pub list-later : (s t : Expander) (list : ListId) (items : List Item) → IsSame s t → list_with (current s) list ≡ Some items → list_with (current t) list ≡ Some items
 list-later s t list items same e = ap (λ parsed. list_with parsed list) (current-same s t same) ∙ e

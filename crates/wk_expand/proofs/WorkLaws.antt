@@ -34,7 +34,7 @@ use Rattle.wk_expand.specs.declared.stack.Waiting.TheVariants.{Title, Value, Nam
 use Rattle.wk_expand.specs.declared.state.Expander.{Expander}
 use Rattle.wk_expand.specs.declared.state.Stop.TheVariants.{Needs}
 use Rattle.wk_expand.specs.declared.work.Work.{Work}
-use Rattle.wk_expand.proofs.ListLaws.{expand-is}
+use Rattle.wk_expand.proofs.ListLaws.{expand-is, expand-plain}
 use Rattle.wk_expand.proofs.NodeLaws.{behind_title, node-is, opened-more}
 use Rattle.wk_expand.proofs.RunLaws.{passes-as, passes-in, passes-on, passes-out, passes-then, stops-as, stops-bind}
 use Rattle.wk_expand.proofs.WrittenLaws.{regrouped}
@@ -175,6 +175,7 @@ going-leads seen w u id behind next spot rest one list is_place continues same h
     root_is = next-root (place_of spot) u.expander next h.rest h.next_is;
     shows = is_place.shows;
     there = is_place.there;
+    plainly = is_place.plainly;
   };
   one = one;
   list = list;
@@ -252,6 +253,7 @@ module _ (seen : Seen) (w u : Work) (id : NodeId) (behind : Listing) (e : Expans
             root_is = refl;
             shows = shows;
             there = subst (λ (v : LevelsShown). node_with (tree_in v.root v.included) id ≡ Some h.node) (sym levels) h.node_is;
+            plainly = expand-plain left page;
           };
           one = one;
           list = record {

@@ -1,6 +1,7 @@
 -- The items of a list, as the code finds them.
-use Rattle.std.specs.Prelude.{◌≡◌, ℕ, ◌+◌, ◌≤◌, List, length, slice_get, slice_range, Option, Some, option_and_then}
+use Rattle.std.specs.Prelude.{◌≡◌, ℕ, ◌+◌, ◌≤◌, List, [], ◌∷◌, length, slice_get, slice_range, Option, Some, option_and_then}
 use Rattle.std.specs.Str.{IsUtf8}
+use Rattle.wk_text_rules.specs.Blank.{trimmed}
 use Rattle.wk_tree.specs.Parsed.{ParsedText, list_with, node_with, source_of}
 use Rattle.wk_tree.specs.declared.item.Item.{Item}
 use Rattle.wk_tree.specs.declared.item.Item.TheVariants.{Plain, Sealed, Nothing, Node}
@@ -20,6 +21,12 @@ text_at parsed start len = slice_range (source_of parsed) start (start + len)
 pub record IsTextAt (parsed : ParsedText) (start len : ℕ) : Type 0 where
   pub within : start + len ≤ length (source_of parsed)
   pub utf8 : IsUtf8 (text_at parsed start len)
+
+-- a list is one plain part, this text, without a blank byte at its ends
+pub record IsPlainList (parsed : ParsedText) (list : ListId) (text : List ℕ) : Type 0 where
+  pub start : ℕ
+  pub there : list_with parsed list ≡ Some (plain start text ∷ [])
+  pub trimmed : trimmed text ≡ text
 
 -- what an item stands for
 abbrev pub IsItem : ParsedText → Item → TreeItem → Type 0

@@ -1,10 +1,10 @@
 -- What an expansion that has begun is still to do: what each open node does with the output that it waits for.
-use Rattle.std.specs.Prelude.{◌≡◌, ℕ, ◌+◌, ◌≤◌, List, ◌∷◌, ◌++◌, drop, codes, true, Option, Some, None, if◌then◌else◌, Result, Ok, Err}
+use Rattle.std.specs.Prelude.{◌≡◌, ℕ, ◌+◌, ◌≤◌, List, [], ◌∷◌, ◌++◌, drop, codes, true, Option, Some, None, if◌then◌else◌, Result, Ok, Err}
 use Rattle.wk_text_rules.specs.Marked.{all_plain, plain_text_of, trimmed_output}
 use Rattle.wk_text_rules.specs.Numerals.{same_output}
 use Rattle.wk_text_rules.specs.Titles.{PageTitle}
 use Rattle.wk_tree_rules.specs.Tree.{Node, Part, further_parts, tree}
-use Rattle.wk_tree_rules.specs.Trees.{Item}
+use Rattle.wk_tree_rules.specs.Trees.{Item, plain}
 use Rattle.wk_tree_rules.specs.declared.Mode.TheVariants as mode
 use Rattle.wk_tree.specs.Parsed.{ParsedText, list_with, node_with}
 use Rattle.wk_tree.specs.declared.item.NodeId.{NodeId}
@@ -57,6 +57,7 @@ pub record IsPlace (page : PageTitle) (root : ParsedText) (id : NodeId) (p : Pla
   pub root_is : root ≡ p.home.root
   pub shows : ShowsFrame p.home.root p.home.included p.frame
   pub there : node_with (text_at p) id ≡ Some p.node
+  pub plainly : (frame : Frame) (start : ℕ) (text : List ℕ) → p.inner frame (plain start text ∷ []) ≡ give (all_plain text)
 
 -- the expansion stands in the text of this node
 pub record IsHere (s : Expander) (id : NodeId) (p : Place) : Type 0 where
@@ -111,6 +112,19 @@ pub record IsBinder (p : Place) (page : Inclusion) (binder : Binder) (v : Bound)
   pub is : (out : Output) → f out
       ≡ (with_bindings p.inner p.viewed p.frame (binder.numbered + 1) (named_binding value (plain_text_of (trimmed_output out)) bindings) (drop binder.at (parts_at p))
       >>= included_with p page)
+
+-- the name of a further part is expanded, to which a value is bound
+pub record IsNameNext (p : Place) (page : Inclusion) (binder : Binder) (name : ListId) (v : Bound) (rest : Expansion Output) : Type 0 where
+  pub items : List Item
+  pub there : list_with (text_at p) name ≡ Some items
+  pub step : Output → Expansion Output
+  pub step_is : IsBinder p page binder v step
+  pub is : rest ≡ (p.inner p.frame items >>= step)
+
+-- The next further part is bound, so that the rest is as it was; or its name is expanded first, to which a value is bound.
+abbrev pub IsBoundNext : Place → Binder → Option (ListId × Bound) → Binder → Type 0
+IsBoundNext p before None after = (page : Inclusion) (rest : Expansion Output) → IsBinds p page before rest → IsBinds p page after rest
+IsBoundNext p before (Some found) after = (page : Inclusion) (rest : Expansion Output) → IsBinds p page before rest → IsNameNext p page after found.0 found.1 rest
 
 -- the search of a `#switch`, by the search behind an item with an equals sign and this value
 abbrev pub searched : Place → List Item → List Part → Option Rule → Expansion Output

@@ -12,7 +12,7 @@ use wk_memory::Memory;
 use wk_out::Out;
 
 /// Binds a text to a value.
-fn bind(args: &mut Args<Bound>, name: &str, value: Bound) -> Result<(), Memory>
+pub fn bind(args: &mut Args<Bound>, name: &str, value: Bound) -> Result<(), Memory>
     ensures { OnOk result (args.new ≡ map.insert args.old name.now value) }
 {
     match args.bind(name, value) {

@@ -1,18 +1,18 @@
 //! The expansion of templates (MediaWiki's Help:Templates).
-ghost use Rattle.std.specs.Prelude.{◌≡◌, ◌+◌, ◌≤◌, List, [], drop, length, IfOk, IfSome, IsSome, OnOk};
+ghost use Rattle.std.specs.Prelude.{◌≡◌, ◌+◌, ◌<◌, ◌≤◌, List, [], drop, length, IfOk, IfSome, IsSome, OnOk};
 ghost use Rattle.std.specs.FinMap.{empty};
 ghost use Rattle.wk_view_rules.specs.Expand.{included, kind_output, redirected, template_output};
 ghost use Rattle.wk_view_rules.specs.Expansions.{Expansion, Output};
 ghost use Rattle.wk_view_rules.specs.Frames.{Binding};
 ghost use Rattle.wk_view_rules.specs.Worlds.{Seen as Answers};
-ghost use Rattle.wk_tree.specs.Parsed.{node_with};
+ghost use Rattle.wk_tree.specs.Parsed.{node_with, part_with};
 ghost use Rattle.wk_tree.specs.declared.item.NodeId.{NodeId as NodeName};
 ghost use Rattle.wk_expand.specs.Levels.{HasLists};
 ghost use Rattle.wk_expand.specs.Running.{Keeps};
-ghost use Rattle.wk_expand.specs.Stack.{IsBinds, IsHere, LeadsTo, LeadsOn, Place, included_with, parts_at, text_at};
+ghost use Rattle.wk_expand.specs.Stack.{IsBinds, IsBoundNext, IsHere, LeadsTo, LeadsOn, Place, included_with, parts_at, text_at};
 ghost use Rattle.wk_expand.specs.State.{ShowsBindings, current};
 
-use crate::bind::bind_number;
+use crate::bind::{bind, bind_number};
 use crate::decide::Decision;
 use crate::inclusion::Found;
 use crate::levels::{Bound, Level};
@@ -26,7 +26,7 @@ use wk_args::Args;
 use wk_memory::Memory;
 use wk_out::Out;
 use wk_title::Title;
-use wk_tree::NodeId;
+use wk_tree::{ListId, NodeId};
 use wk_tree_rules::Mode;
 
 impl Expander {
@@ -81,7 +81,7 @@ impl Expander {
                     source,
                     text,
                 };
-                Ok(self.page_text(node, page)?)
+                Ok(self.page_text(trees, node, page)?)
             }
         }
     }
@@ -90,6 +90,7 @@ impl Expander {
     pub fn redirected_page(
         &mut self,
         seen: &Seen,
+        trees: &mut Trees,
         node: NodeId,
         title: &Title,
         target: &Title,
@@ -109,13 +110,18 @@ impl Expander {
                     source,
                     text,
                 };
-                Ok(self.page_text(node, page)?)
+                Ok(self.page_text(trees, node, page)?)
             }
         }
     }
 
     /// A page's text is included.
-    fn page_text(&mut self, node: NodeId, page: Inclusion) -> Result<Next, Memory>
+    fn page_text(
+        &mut self,
+        trees: &mut Trees,
+        node: NodeId,
+        page: Inclusion,
+    ) -> Result<Next, Memory>
         requires { IsSome (node_with (current self.old) node) }
         ensures { IfOk result (λ next. (seen : Answers) (p : Place) → IsHere self.old node p
             → LeadsTo seen p (included p.inner p.viewed p.frame page.title page.source page.text (parts_at p))
@@ -124,21 +130,21 @@ impl Expander {
         if !self.charge(page.text.len() as u64 / 64) {
             return Ok(Next::Gives(node_error(self.alloc)?));
         }
-        let page = Included::new(self.alloc, page)?;
         let binder = Binder {
             args: Args::new(self.alloc),
             numbered: 0,
             at: 0,
         };
-        Ok(Next::Goes(Pending::Binds(page, binder)))
+        self.bind(trees, node, page, binder)
     }
 
-    /// Binds the next of a node's further parts, or begins to expand its name; behind the last the page is included.
+    /// Binds a node's further parts from one on, up to the first whose name is to be expanded, which it begins to do;
+    /// behind the last the page is included.
     pub fn bind(
         &mut self,
         trees: &mut Trees,
         node: NodeId,
-        page: Included,
+        page: Inclusion,
         binder: Binder,
     ) -> Result<Next, Memory>
         requires there { IsSome (node_with (current self.old) node) }
@@ -147,31 +153,54 @@ impl Expander {
         ensures { IfOk result (λ next. (seen : Answers) (p : Place) (rest : Expansion Output)
             → IsHere self.old node p → IsBinds p page binder rest → LeadsTo seen p rest self.old next self.new) }
     {
-        let Binder { args, numbered, at } = binder;
-        if self.tree().parts(node) <= at {
-            return Ok(self.enter_page(trees, page, args)?);
+        let mut binder = binder;
+        let count = self.tree().parts(node);
+        'parts: while binder.at < count {
+            if let Some((name, bound)) = self.bind_part(node, &mut binder)? {
+                let page = Included::new(self.alloc, page)?;
+                let waiting = Waiting::Binding(page, binder, bound);
+                let before = Out::new(self.alloc);
+                return Ok(Next::Expands(waiting, name, before));
+            }
         }
-        let part = self.tree().part(node, at);
+        self.enter_page(trees, page, binder.args)
+    }
+
+    /// Binds the next of a node's further parts, or gives its name and what is to be bound to it, where the name is more
+    /// than a part of the text.
+    fn bind_part(
+        &self,
+        node: NodeId,
+        binder: &mut Binder,
+    ) -> Result<Option<(ListId, Bound)>, Memory>
+        requires there { IsSome (part_with (current self.now) node binder.old.at) }
+        requires lists { HasLists (current self.now) binder.old.args }
+        requires few { binder.old.numbered ≤ binder.old.at }
+        requires last { binder.old.at < usize.MAX }
+        ensures at { OnOk result (binder.new.at ≡ binder.old.at + 1) }
+        ensures few { OnOk result (binder.new.numbered ≤ binder.new.at) }
+        ensures lists { OnOk result (HasLists (current self.now) binder.new.args) }
+        ensures bound { IfOk result (λ found. (p : Place) → IsHere self.now node p
+            → IsBoundNext p binder.old found binder.new) }
+    {
+        let part = self.tree().part(node, binder.at);
         let bound = Bound {
             value: part.value,
             len: part.len,
             named: part.name.is_some(),
         };
-        let at = at + 1;
-        match part.name {
-            None => {
-                let mut args = args;
-                let numbered = numbered + 1;
-                bind_number(self.alloc, &mut args, numbered, bound)?;
-                let binder = Binder { args, numbered, at };
-                Ok(Next::Goes(Pending::Binds(page, binder)))
+        binder.at += 1;
+        let Some(name) = part.name else {
+            binder.numbered += 1;
+            bind_number(self.alloc, &mut binder.args, binder.numbered, bound)?;
+            return Ok(None);
+        };
+        match self.plain_part(name) {
+            Some(text) => {
+                bind(&mut binder.args, text, bound)?;
+                Ok(None)
             }
-            Some(name) => {
-                let binder = Binder { args, numbered, at };
-                let waiting = Waiting::Binding(page, binder, bound);
-                let before = Out::new(self.alloc);
-                Ok(Next::Expands(waiting, name, before))
-            }
+            None => Ok(Some((name, bound))),
         }
     }
 
@@ -179,7 +208,7 @@ impl Expander {
     fn enter_page(
         &mut self,
         trees: &mut Trees,
-        page: Included,
+        page: Inclusion,
         args: Args<Bound>,
     ) -> Result<Next, Memory>
         requires { HasLists (current self.old) args }
@@ -187,7 +216,6 @@ impl Expander {
             → IsHere self.old id p → ShowsBindings (text_at p) args bindings
             → LeadsTo seen p (included_with p page bindings) self.old next self.new) }
     {
-        let page = page.found();
         let tree = trees.tree(self.alloc, &page.text, Mode::Include)?;
         let root = tree.root();
         let Inclusion { title, source, .. } = page;

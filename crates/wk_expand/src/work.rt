@@ -283,7 +283,10 @@ impl Work {
         match pending {
             Pending::Named(name) => self.named(seen, trees, node, name),
             Pending::Target(title, target) => {
-                match self.expander.redirected_page(seen, node, &title, &target) {
+                match self
+                    .expander
+                    .redirected_page(seen, trees, node, &title, &target)
+                {
                     Ok(next) => self.lead(node, next),
                     Err(Stop::Needs(needed, kind)) => {
                         let now = Now::Node(node, Pending::Target(title, target));
@@ -293,7 +296,7 @@ impl Work {
                 }
             }
             Pending::Binds(page, binder) => {
-                let next = self.expander.bind(trees, node, page, binder)?;
+                let next = self.expander.bind(trees, node, page.found(), binder)?;
                 self.lead(node, next)
             }
         }

@@ -6,7 +6,6 @@ use Rattle.wk_view_rules.specs.Expansions.{Expansion, Output, inclusion_within_l
 use Rattle.wk_expand.specs.Stack.{included_with}
 use Rattle.wk_expand.specs.State.{ShowsBindings, progress_of}
 use Rattle.wk_expand.specs.declared.levels.Level.{Level}
-use Rattle.wk_expand.specs.declared.stack.Inclusion.{Inclusion}
 use Rattle.wk_expand.proofs.LeadLaws.{frame-here, text-here}
 use Rattle.wk_expand.proofs.PageLaws.{frame-entered, list-entered}
 use Rattle.wk_expand.proofs.RunLaws.{passes-at}
@@ -17,7 +16,7 @@ pub returns : goal.returns
 returns c =
     λ seen p id bindings h shows.
     let s = c.args.self.now in
-    let page = c.found-page.result in
+    let page = c.args.page in
     let level : Level = record { title = page.source; tree = c.in_ok-tree.tree; args = c.args.args } in
     let w = c.enter.new.self in
     let u = record s { levels = w } in
@@ -42,6 +41,6 @@ returns c =
         step_is = λ out. refl;
         is = refl;
       };
-      passes = passes-at seen (included_with p c.args.page bindings) next s u refl
-          (ap (λ (e : Expansion Output). e (progress_of s)) (ap (λ (x : Inclusion). included_with p x bindings) (sym c.found-page.ensures) ∙ bind-same (p.inner frame1 text) limit (λ out. limit (before ++ out)) (λ out. ap (λ (b : Output). limit (b ++ out)) (sym c.new-out.ensures))));
+      passes = passes-at seen (included_with p page bindings) next s u refl
+          (ap (λ (e : Expansion Output). e (progress_of s)) (bind-same (p.inner frame1 text) limit (λ out. limit (before ++ out)) (λ out. ap (λ (b : Output). limit (b ++ out)) (sym c.new-out.ensures))));
     }

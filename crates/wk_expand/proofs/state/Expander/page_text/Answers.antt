@@ -1,14 +1,15 @@
-use Rattle.std.proofs.Common.{◌/◌, [], ap, refl, sym, subst, arith, length}
-use Rattle.wk_view_rules.specs.Expand.{included, with_bindings}
-use Rattle.wk_view_rules.specs.Expansions.{charged, give, ◌>>=◌}
+use Rattle.std.proofs.Common.{◌/◌, [], refl, sym, subst, arith, length}
+use Rattle.std.proofs.lemmas.Result.{IfOk-weaker}
+use Rattle.wk_view_rules.specs.Expand.{included}
+use Rattle.wk_view_rules.specs.Expansions.{charged, give}
 use Rattle.wk_view_rules.specs.Texts.{node_error}
 use Rattle.wk_expand.specs.Running.{ComesTo}
-use Rattle.wk_expand.specs.Stack.{included_with, parts_at, text_at}
+use Rattle.wk_expand.specs.Stack.{parts_at, text_at}
 use Rattle.wk_expand.specs.Levels.{HasLists}
-use Rattle.wk_expand.specs.State.{ShowsBindings}
-use Rattle.wk_expand.specs.declared.stack.Inclusion.{Inclusion}
+use Rattle.wk_expand.specs.State.{ShowsBindings, current}
 use Rattle.wk_expand.proofs.BindLaws.{has-none, shows-none}
-use Rattle.wk_expand.proofs.LeadLaws.{here-later, leads-comes}
+use Rattle.wk_expand.proofs.LeadLaws.{here-later, leads-behind, leads-comes}
+use Rattle.wk_expand.proofs.NodeLaws.{node-there}
 use Rattle.wk_expand.proofs.PageLaws.{charged-as, included-is, run_text}
 use Rattle.wk_expand.proofs.RunLaws.{comes-in, gives-then}
 use Rattle.wk_expand.proofs.state.Expander.page_text.Goals as goal
@@ -27,32 +28,34 @@ returns-then-not-charge c =
     (charged-as seen c.len.result (length page.text) rest (give node_error) s t c.len.ensures.value (c.if-not-charge.ensures.spent seen rest)))
     refl c.in_ok-node_error.ensures)
 
+pub bind-requires-clause-there : goal.bind-requires-clause-there
+bind-requires-clause-there c =
+    node-there c.args.self.now c.charge.new.self c.args.node (c.if-not-charge.ensures.within [] (give [])).same c.requires
+
+pub bind-requires-clause-lists : goal.bind-requires-clause-lists
+bind-requires-clause-lists c =
+    subst (HasLists (current c.charge.new.self)) (sym c.new.ensures) (has-none (current c.charge.new.self))
+
 pub returns : goal.returns
 returns c =
-    λ seen p h.
     let s = c.args.self.now in
     let t = c.charge.new.self in
     let page = c.args.page in
+    IfOk-weaker c.bind.result _ _ (λ next leads seen p h.
     let whole = included p.inner p.viewed p.frame page.title page.source page.text (parts_at p) in
     let rest = run_text p.inner p.viewed p.frame page.title page.source page.text (parts_at p) in
     let begun : ComesTo seen whole s rest t =
     comes-in seen whole (charged (length page.text / 64) rest) rest s t (included-is p.inner p.viewed p.frame page.title page.source page.text (parts_at p))
     (charged-as seen c.len.result (length page.text) rest rest s t c.len.ensures.value (c.if-not-charge.ensures.within seen rest))
     in
-    record {
-      page = begun.same.page;
-      rest = rest;
-      next_is = (
-        (here-later s c.args.node p h t begun.same).home,
-        record {
-          bindings = [];
-          bound = record {
-            shows = subst (λ args. ShowsBindings (text_at p) args []) (sym c.new-2.ensures) (shows-none (text_at p));
-            lists = subst (HasLists (text_at p)) (sym c.new-2.ensures) (has-none (text_at p));
-            few = omega arith;
-          };
-          is = ap (λ (x : Inclusion). with_bindings p.inner p.viewed p.frame 1 [] (parts_at p) >>= included_with p x) (sym c.in_ok-page.ensures);
-        },
-      );
-      passes = begun.passes;
-    }
+    leads-behind seen p whole rest s t next c.bind.new.self begun
+    (leads seen p rest (here-later s c.args.node p h t begun.same)
+    (record {
+      bindings = [];
+      bound = record {
+        shows = subst (λ args. ShowsBindings (text_at p) args []) (sym c.new.ensures) (shows-none (text_at p));
+        lists = subst (HasLists (text_at p)) (sym c.new.ensures) (has-none (text_at p));
+        few = omega arith;
+      };
+      is = refl;
+    }))) c.bind.ensures

@@ -1,12 +1,13 @@
 use Rattle.std.proofs.lemmas.Result.{IfOk-weaker}
-use Rattle.std.proofs.Common.{◌≡◌, Err, Result, IsSome, refl, ap, subst}
+use Rattle.std.proofs.Common.{◌≡◌, Err, Result, IsSome, refl, sym, ap, subst}
 use Rattle.wk_tree.specs.Parsed.{node_with}
 use Rattle.wk_view_rules.specs.Expand.{redirected}
 use Rattle.wk_view_rules.specs.Expansions.{Expansion, Output}
 use Rattle.wk_expand.specs.Running.{Keeps}
-use Rattle.wk_expand.specs.Stack.{IsNext, LeadsOn, Place, parts_at}
+use Rattle.wk_expand.specs.Stack.{IsBinds, IsNext, LeadsOn, Place, parts_at}
 use Rattle.wk_expand.specs.State.{current}
 use Rattle.wk_expand.specs.Work.{IsGoing, place_of}
+use Rattle.wk_expand.specs.declared.stack.Inclusion.{Inclusion}
 use Rattle.wk_expand.specs.declared.stack.Next.{Next}
 use Rattle.wk_expand.specs.declared.stack.Next.TheVariants.{Goes}
 use Rattle.wk_expand.specs.declared.stack.Pending.{Pending}
@@ -89,7 +90,8 @@ lead-requires-in-Binds c =
     let u : Work = record w { expander = c.bind.new.self } in
     let k = going-as w id c.args.pending pending c.requires.0 c.in-Binds.is c.requires.1 in
     going-next seen w u id w.listing pending c.in_ok-next-in-Binds.next c.requires.0 k.rest k refl
-    (c.in_ok-next-in-Binds.ensures seen (place_of k.spot) k.rest (going-here w id w.listing pending c.requires.0 k) k.rest_is.1)
+    (c.in_ok-next-in-Binds.ensures seen (place_of k.spot) k.rest (going-here w id w.listing pending c.requires.0 k)
+    (subst (λ (x : Inclusion). IsBinds (place_of k.spot) x c.in-Binds.binder k.rest) (sym c.found.ensures) k.rest_is.1))
 
 pub returns-in_ok-next-in-Binds : goal.returns-in_ok-next-in-Binds
 returns-in_ok-next-in-Binds c =
@@ -101,5 +103,6 @@ returns-in_ok-next-in-Binds c =
     IfOk-weaker c.lead-in-Binds.result _ _ (λ turn follows e g.
     let k = going-as w id c.args.pending pending e c.in-Binds.is g in
     going-turn seen w u c.lead-in-Binds.new.self id w.listing pending c.in_ok-next-in-Binds.next e k.rest turn k refl refl
-    (c.in_ok-next-in-Binds.ensures seen (place_of k.spot) k.rest (going-here w id w.listing pending e k) k.rest_is.1)
+    (c.in_ok-next-in-Binds.ensures seen (place_of k.spot) k.rest (going-here w id w.listing pending e k)
+    (subst (λ (x : Inclusion). IsBinds (place_of k.spot) x c.in-Binds.binder k.rest) (sym c.found.ensures) k.rest_is.1))
     (λ f q. follows seen f q)) c.lead-in-Binds.ensures
