@@ -1,14 +1,14 @@
 -- The items of a list, as the code finds them, and what they give one behind the other.
 use Rattle.std.proofs.Common.{◌≡◌, ℕ, zero, suc, ◌+◌, ◌<◌, ◌≤◌, false, true, List, [], ◌∷◌, ◌++◌, length, drop, get_or, Option, Some, None, IsSome, refl, sym, ap, subst, ◌∙◌, append_assoc, append-nil}
-use Rattle.std.specs.List.{slice_get, AllByRecursion}
+use Rattle.std.specs.List.{slice_get, slice_range, AllByRecursion}
 use Rattle.std.specs.Option.{IfSome, option_and_then}
 use Rattle.std.specs.Str.{IsUtf8}
 use Rattle.std.proofs.lemmas.List.{drop_all}
-use Rattle.std.proofs.lemmas.Option.{slice_get-get_or, slice_get_within}
+use Rattle.std.proofs.lemmas.Option.{slice_get-get_or}
 use Rattle.wk_text_rules.specs.Marked.{all_plain, all_sealed}
 use Rattle.wk_text_rules.specs.Titles.{PageTitle}
 use Rattle.wk_out.specs.Runs.{marked}
-use Rattle.wk_tree.specs.Parsed.{ParsedText, IsTextIn, list_with, node_with, nodes_of, source_of}
+use Rattle.wk_tree.specs.Parsed.{ParsedText, IsTextIn, list_with, nodes_of, source_of}
 use Rattle.wk_tree.specs.Shown.{ShowsItem, shows_plain, shows_sealed, shows_nothing, shows_node, ShowsItems, no_items, one_more}
 use Rattle.wk_tree.specs.declared.item.Item.{Item}
 use Rattle.wk_tree.specs.declared.item.Item.TheVariants.{Plain, Sealed, Nothing, Node}
@@ -22,11 +22,8 @@ use Rattle.wk_view_rules.specs.Frames.{Frame}
 use Rattle.wk_view_rules.specs.Plans.{Plan, gives, asks, and_then}
 use Rattle.wk_expand.specs.Items.{item_with, text_at, IsItem, IsTextAt}
 use Rattle.wk_expand.specs.Nodes.{charged_node, rest_list}
-use Rattle.wk_expand.specs.Running.{IsSame}
 use Rattle.wk_expand.specs.Work.{IsFilled}
-use Rattle.wk_expand.specs.State.{current}
-use Rattle.wk_expand.specs.declared.state.Expander.{Expander}
-use Rattle.wk_expand.proofs.PartLaws.{current-same, some_of, some_part, at_some}
+use Rattle.wk_expand.proofs.PartLaws.{some_of, some_part, at_some}
 use Rattle.wk_expand.proofs.NodeLaws.{some_within}
 use Rattle.wk_expand.proofs.WrittenLaws.{plans-regrouped, drop-some}
 
@@ -57,16 +54,6 @@ item-is parsed (shows_nothing start source) h = ap (nothing start) (sym h.place.
 item-is parsed (shows_node id kind start content is) h = (record { kind = kind; start = start; content = content }, is, refl)
 
 module _ (parsed : ParsedText) (at : ℕ) (cs : List Item) where
-  within-some : (o : Option (List TreeItem)) → IfSome o (ShowsItems (nodes_of parsed) cs) → IsSome (option_and_then (λ items. slice_get items at) o) → at < length cs
-  within-some None h there = absurd (let wrong : false ≡ true = there in cc)
-  within-some (Some items) h there =
-      let i = some_part (slice_get items at) there in
-      let within : at < length items = slice_get_within items at i.0 i.1 in
-      subst (λ n. at < n) (sym (shown-length h)) within
-
-  pub item-within : (list : ListId) → IfSome (list_with parsed list) (ShowsItems (nodes_of parsed) cs) → IsSome (item_with parsed list at) → at < length cs
-  item-within list h there = within-some (list_with parsed list) h there
-
   item-in : (c : Item) (items : List TreeItem) → ShowsItems (nodes_of parsed) cs items → AllByRecursion (IsTextIn (source_of parsed)) items → slice_get cs at ≡ Some c → (o : Option TreeItem) → slice_get items at ≡ o → IfSome o (IsItem parsed c)
   item-in c items h k e None f = tt
   item-in c items h k e (Some i) f = item-is parsed (shown-at at c i h e f) (all-at (IsTextIn (source_of parsed)) items at i k f)
@@ -85,19 +72,7 @@ count-some ns cs n (Some items) e h = e ∙ shown-length h
 pub count-shown : (parsed : ParsedText) (list : ListId) (cs : List Item) (n : ℕ) → n ≡ length cs → IfSome (list_with parsed list) (ShowsItems (nodes_of parsed) cs) → IfSome (list_with parsed list) (λ items. n ≡ length items)
 count-shown parsed list cs n e h = count-some (nodes_of parsed) cs n (list_with parsed list) e h
 
--- ---- an item of a list, while the list is expanded
-
-pub item-at : (s t : Expander) (list : ListId) (at count : ℕ) (items : List TreeItem) → IsSame s t → IfSome (list_with (current s) list) (λ found. count ≡ length found) → at < count → list_with (current s) list ≡ Some items → (i : TreeItem) × (slice_get items at ≡ Some i) × (item_with (current t) list at ≡ Some i)
-item-at s t list at count items same long within e =
-    let is : count ≡ length items = at_some (λ found. count ≡ length found) (list_with (current s) list) items e long in
-    let i = some_within items at (subst (λ n. at < n) is within) in
-    (i.0, i.1, ap (λ parsed. item_with parsed list at) (current-same s t same) ∙ ap (option_and_then (λ found. slice_get found at)) e ∙ i.1)
-
-pub item-there : (s t : Expander) (list : ListId) (at count : ℕ) → IsSame s t → IfSome (list_with (current s) list) (λ found. count ≡ length found) → at < count → IsSome (list_with (current s) list) → IsSome (item_with (current t) list at)
-item-there s t list at count same long within there =
-    let items = some_part (list_with (current s) list) there in
-    let i = item-at s t list at count items.0 same long within items.1 in
-    some_of (item_with (current t) list at) i.0 i.2
+-- ---- an item of a list
 
 -- the item that there is, where the code's item is known
 pub item-known : (parsed : ParsedText) (list : ListId) (at : ℕ) (c d : Item) (i : TreeItem) → IfSome (item_with parsed list at) (IsItem parsed c) → c ≡ d → item_with parsed list at ≡ Some i → IsItem parsed d i
@@ -110,11 +85,48 @@ module _ (parsed : ParsedText) (list : ListId) (at : ℕ) (c : Item) (h : IfSome
   pub sealed-there : (start len : ℕ) → c ≡ Sealed start len → IsTextAt parsed start len
   sealed-there start len is = let i = some_part (item_with parsed list at) there in (item-known parsed list at c (Sealed start len) i.0 h is i.1).1
 
-  pub node-known : (id : NodeId) → c ≡ Node id → IsSome (node_with parsed id)
-  node-known id is =
-      let i = some_part (item_with parsed list at) there in
-      let m = item-known parsed list at c (Node id) i.0 h is i.1 in
-      some_of (node_with parsed id) m.0 m.1
+-- the items of a list, as they are kept
+pub record AreItems (parsed : ParsedText) (list : ListId) (cs : List Item) : Type 0 where
+  pub shows : IfSome (list_with parsed list) (ShowsItems (nodes_of parsed) cs)
+  pub texts : IfSome (list_with parsed list) (AllByRecursion (IsTextIn (source_of parsed)))
+
+pub are-items : (parsed : ParsedText) (list : ListId) (cs found : List Item) → cs ≡ found → IfSome (list_with parsed list) (ShowsItems (nodes_of parsed) found) → IfSome (list_with parsed list) (AllByRecursion (IsTextIn (source_of parsed))) → AreItems parsed list cs
+are-items parsed list cs found is shows texts = record {
+  shows = subst (λ (x : List Item). IfSome (list_with parsed list) (ShowsItems (nodes_of parsed) x)) (sym is) shows;
+  texts = texts;
+}
+
+module _ (parsed : ParsedText) (list : ListId) (cs : List Item) (kept : AreItems parsed list cs) where
+  pub items-long : IfSome (list_with parsed list) (λ items. length cs ≡ length items)
+  items-long = count-shown parsed list cs (length cs) refl kept.shows
+
+  module _ (at : ℕ) (within : at < length cs) where
+    pub item-found-at : IfSome (item_with parsed list at) (IsItem parsed (get_or cs at (Plain 0 0)))
+    item-found-at = item-found parsed at cs list (Plain 0 0) kept.shows kept.texts within
+
+    pub item-there-at : IsSome (list_with parsed list) → IsSome (item_with parsed list at)
+    item-there-at there =
+        let items = some_part (list_with parsed list) there in
+        let is : length cs ≡ length items.0 = at_some (λ found. length cs ≡ length found) (list_with parsed list) items.0 items.1 items-long in
+        let i = some_within items.0 at (subst (λ n. at < n) is within) in
+        some_of (item_with parsed list at) i.0 (ap (option_and_then (λ found. slice_get found at)) items.1 ∙ i.1)
+
+    -- its text is there
+    pub plain-at : IsSome (list_with parsed list) → (start len : ℕ) → get_or cs at (Plain 0 0) ≡ Plain start len → IsTextAt parsed start len
+    plain-at there start len is = plain-there parsed list at (get_or cs at (Plain 0 0)) item-found-at (item-there-at there) start len is
+
+    pub sealed-at : IsSome (list_with parsed list) → (start len : ℕ) → get_or cs at (Plain 0 0) ≡ Sealed start len → IsTextAt parsed start len
+    sealed-at there start len is = sealed-there parsed list at (get_or cs at (Plain 0 0)) item-found-at (item-there-at there) start len is
+
+-- a text that is there, in the source
+pub text-within : (parsed : ParsedText) (source : List ℕ) (start len : ℕ) → source ≡ source_of parsed → IsTextAt parsed start len → start + len ≤ length source
+text-within parsed source start len is h = subst (λ (x : List ℕ). start + len ≤ length x) (sym is) h.within
+
+pub text-utf8 : (parsed : ParsedText) (source : List ℕ) (start len : ℕ) → source ≡ source_of parsed → IsTextAt parsed start len → IsUtf8 (slice_range source start (start + len))
+text-utf8 parsed source start len is h = subst (λ (x : List ℕ). IsUtf8 (slice_range x start (start + len))) (sym is) h.utf8
+
+pub text-same : (parsed : ParsedText) (source text : List ℕ) (start len : ℕ) → source ≡ source_of parsed → text ≡ slice_range source start (start + len) → text ≡ text_at parsed start len
+text-same parsed source text start len is h = h ∙ ap (λ (x : List ℕ). slice_range x start (start + len)) is
 
 -- ---- what the items give
 
@@ -181,12 +193,6 @@ module _ (parsed : ParsedText) (list : ListId) (start at count : ℕ) (out new :
       let is : count ≡ length items = at_some (λ found. count ≡ length found) (list_with parsed list) items e long in
       let i = some_within items at (subst (λ n. at < n) is within) in
       (i.0, i.1, ap (option_and_then (λ found. slice_get found at)) e ∙ i.1)
-
-  pub item-is-there : at < count → IsSome (list_with parsed list) → IsSome (item_with parsed list at)
-  item-is-there within there =
-      let items = some_part (list_with parsed list) there in
-      let i = item-next within items.0 items.1 in
-      some_of (item_with parsed list at) i.0 i.2
 
   step-at : (items : List TreeItem) (i : TreeItem) → list_with parsed list ≡ Some items → slice_get items at ≡ Some i → (left : ℕ) (viewed : PageTitle) (frame : Frame) → rest_list left viewed frame out (drop start items) ≡ (item_output (charged_node left viewed frame) i >>= behind_item left viewed frame new (drop (at + 1) items))
   step-at items i e is left viewed frame =

@@ -43,7 +43,7 @@ frame-left s viewed frame level v included root is = record {
 tree-left : (s : Expander) (level : Level) (v : LevelsShown) → s.levels.included ≡ level ∷ v.included → v.root ≡ s.levels.root → current (with_levels v s) ≡ caller_tree s
 tree-left s level v included root = ap₂ tree_in root (sym (ap (drop 1) included))
 
-caller-same : (s t : Expander) → IsSame s t → caller_tree t ≡ caller_tree s
+pub caller-same : (s t : Expander) → IsSame s t → caller_tree t ≡ caller_tree s
 caller-same s t same = ap (λ (v : LevelsShown). tree_in v.root (drop 1 v.included)) same.levels
 
 -- a list of the caller's text, where the page is left

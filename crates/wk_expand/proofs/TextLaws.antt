@@ -26,13 +26,6 @@ none-behind text e =
     in
     omega (arith, same, length-take (length text - suffix_len is_blank_byte text) text, suffix_len-le-length is_blank_byte text)
 
--- so it is the same text
-pub trimmed-whole : (text : List ℕ) → length (trimmed text) ≡ length text → trimmed text ≡ text
-trimmed-whole text e =
-    let whole : trimmed_start text ≡ text = ap (λ (n : ℕ). drop n text) (none-before text e) in
-    ap (λ s. take (length s - suffix_len is_blank_byte s) s) whole
-    ∙ take_all (length text - suffix_len is_blank_byte text) text (omega (arith, none-behind text e))
-
 -- what is plain and blank is blank
 one-more : (blank : Bool) (m n : ℕ) → m ≤ n → cond blank (1 + m) 0 ≤ cond blank (1 + n) 0
 one-more true m n h = omega (arith, h)

@@ -9,17 +9,18 @@ use Rattle.wk_tree.specs.declared.item.ListId.{ListId}
 use Rattle.wk_tree.specs.declared.item.NodeId.{NodeId}
 use Rattle.wk_tree_rules.specs.Tree.{title_part}
 use Rattle.wk_tree_rules.specs.Trees.{Item}
-use Rattle.wk_view_rules.specs.Expand.{expand, items_output, node_output}
+use Rattle.wk_view_rules.specs.Expand.{argument_value, expand, items_output, kind_output, node_output}
 use Rattle.wk_view_rules.specs.Expansions.{Expansion, Output, give, ◌>>=◌}
-use Rattle.wk_view_rules.specs.Frames.{Frame}
+use Rattle.wk_view_rules.specs.Frames.{Binding, Frame}
 use Rattle.wk_view_rules.specs.Worlds.{Seen}
 use Rattle.wk_expand.specs.Levels.{LevelsShown, tree_in}
 use Rattle.wk_expand.specs.Nodes.{charged_node, opened, rest_list}
 use Rattle.wk_expand.specs.Running.{ComesTo, Passes, StopsAt}
 use Rattle.wk_view_rules.specs.declared.Kind.{Kind}
-use Rattle.wk_expand.specs.Stack.{AreWithin, IsHere, IsNext, IsPlace, LeadsTo, Place, Waits}
-use Rattle.wk_expand.specs.State.{ShowsFrame, current}
+use Rattle.wk_expand.specs.Stack.{AreWithin, IsBoundTitle, IsHere, IsNext, IsPlace, IsValueNext, IsValued, LeadsTo, Place, Waits, parts_at}
+use Rattle.wk_expand.specs.State.{IsBinding, ShowsFrame, caller_tree, current}
 use Rattle.wk_expand.specs.Work.{Continues, IsAtNode, IsEnded, IsFilled, IsGoing, IsListBehind, IsListing, IsNow, IsOpened, IsPassed, IsTurn, HasOpened, Spot, place_of}
+use Rattle.wk_expand.specs.declared.levels.Bound.{Bound}
 use Rattle.wk_expand.specs.declared.stack.Listing.{Listing}
 use Rattle.wk_expand.specs.declared.stack.Next.{Next}
 use Rattle.wk_expand.specs.declared.stack.Next.TheVariants.{Gives, Expands, Goes}
@@ -34,10 +35,11 @@ use Rattle.wk_expand.specs.declared.stack.Waiting.TheVariants.{Title, Value, Nam
 use Rattle.wk_expand.specs.declared.state.Expander.{Expander}
 use Rattle.wk_expand.specs.declared.state.Stop.TheVariants.{Needs}
 use Rattle.wk_expand.specs.declared.work.Work.{Work}
+use Rattle.wk_expand.proofs.LeadLaws.{leads-comes, list-here}
 use Rattle.wk_expand.proofs.ListLaws.{expand-is, expand-plain}
 use Rattle.wk_expand.proofs.NodeLaws.{behind_title, node-is, opened-more}
 use Rattle.wk_expand.proofs.RunLaws.{passes-as, passes-in, passes-on, passes-out, passes-then, stops-as, stops-bind}
-use Rattle.wk_expand.proofs.WrittenLaws.{regrouped}
+use Rattle.wk_expand.proofs.WrittenLaws.{bind-same, regrouped}
 
 -- ---- turns
 
@@ -431,3 +433,81 @@ expands-end seen e w v t id waiting list before new at next turn filled leads fo
     in
     leads-turn seen e w.expander u v id w.listing next g.spot (x.step new) g.one g.list turn (g.is ∙ ap (λ (y : Expansion Output). y >>= g.one) same) g.is_place g.continues
     (leads (expands-waits w id waiting list before e g)) follows
+
+-- ---- the value of an argument
+
+-- a node whose title part is one plain part, to which a value is bound
+pub going-valued : (w : Work) (id : NodeId) (behind : Listing) (list : ListId) (v : Bound) (e : Expansion Output) → ((p : Place) → IsHere w.expander id p → IsBoundTitle p list (caller_tree w.expander) v) → IsGoing w id behind (λ p rest. IsNext p w.expander (Expands Title list []) rest) e → IsGoing w id behind (λ p rest. IsValueNext p w.expander v rest) e
+going-valued w id behind list v e bound g =
+    let p : Place = place_of g.spot in
+    let x = g.rest_is in
+    let here : IsHere w.expander id p = record { is = g.is_place; home = x.within } in
+    let k = bound p here in
+    let name : Output → Expansion Output = λ out. kind_output p.inner p.viewed p.frame p.node.kind out (parts_at p) in
+    record {
+      spot = g.spot;
+      rest = g.rest;
+      rest_is = record {
+        home = x.within;
+        binding = k.binding;
+        is_binding = k.is_binding;
+        is = x.is
+            ∙ bind-same (p.inner x.frame x.items) (λ later. x.step ([] ++ later)) name x.step_is
+            ∙ k.gives x.frame x.items (list-here w.expander id p here list x.items x.there);
+      };
+      is_place = g.is_place;
+      one = g.one;
+      list = g.list;
+      continues = g.continues;
+      is = g.is;
+    }
+
+module _ (w u : Work) (id : NodeId) (v : Bound) (levels : reverse u.opened.items ≡ reverse w.opened.items) where
+  -- what was found for the value, at its place
+  abbrev pub Finds : Seen → Option Next → Type 0
+  Finds seen next = (p : Place) (name : NodeId) (b : Binding) → IsHere w.expander name p → IsBinding (caller_tree w.expander) v b → IsValued seen p (argument_value p.inner p.viewed p.frame b) w.expander w.listing.out next u.expander u.listing.out
+
+  value-here : (e : Expansion Output) (g : IsGoing w id w.listing (λ p rest. IsValueNext p w.expander v rest) e) → IsHere w.expander id (place_of g.spot)
+  value-here e g = record { is = g.is_place; home = g.rest_is.home }
+
+  module _ (seen : Seen) (next : Next) (found : Finds seen (Some next)) (listed : u.listing ≡ record { list = w.listing.list; at = w.listing.at; out = u.listing.out }) where
+    value-leads : (e : Expansion Output) (g : IsGoing w id w.listing (λ p rest. IsValueNext p w.expander v rest) e) → LeadsTo seen (place_of g.spot) g.rest w.expander next u.expander
+    value-leads e g =
+        let p : Place = place_of g.spot in
+        let k = g.rest_is in
+        subst (λ (x : Expansion Output). LeadsTo seen p x w.expander next u.expander) (sym k.is) (found p id k.binding (value-here e g) k.is_binding).0
+
+    same-listing : (e : Expansion Output) (g : IsGoing w id w.listing (λ p rest. IsValueNext p w.expander v rest) e) → u.listing ≡ w.listing
+    same-listing e g =
+        let p : Place = place_of g.spot in
+        let k = g.rest_is in
+        listed ∙ ap (λ (o : Output). record { list = w.listing.list; at = w.listing.at; out = o }) (found p id k.binding (value-here e g) k.is_binding).1
+
+    pub value-going : (e : Expansion Output) → IsGoing w id w.listing (λ p rest. IsValueNext p w.expander v rest) e → (f : Expansion Output) × IsGoing u id u.listing (λ p rest. IsNext p u.expander next rest) f
+    value-going e g =
+        let k = value-leads e g in (
+          k.rest >>= g.one,
+          subst (λ (l : Listing). IsGoing u id l (λ p rest. IsNext p u.expander next rest) (k.rest >>= g.one)) (sym (same-listing e g))
+              (going-leads seen w u id w.listing next g.spot g.rest g.one g.list g.is_place g.continues levels k),
+        )
+
+    pub value-turn : (e : Expansion Output) (turn : Turn) (z : Work) → ((f : Expansion Output) → IsGoing u id u.listing (λ p rest. IsNext p u.expander next rest) f → IsTurn seen f u.expander turn z) → IsGoing w id w.listing (λ p rest. IsValueNext p w.expander v rest) e → IsTurn seen e w.expander turn z
+    value-turn e turn z follows g =
+        leads-turn seen e w.expander u z id w.listing next g.spot g.rest g.one g.list turn g.is g.is_place
+        (subst (λ (x : List Opened). Continues (suc g.spot.left) w.expander.page g.spot.home x g.list.after) (sym levels) g.continues)
+        (value-leads e g) (λ f q. follows f (subst (λ (l : Listing). IsGoing u id l (λ p rest. IsNext p u.expander next rest) f) (sym (same-listing e g)) q))
+
+  -- it stands behind the output of the list
+  pub value-pushed : (seen : Seen) (e : Expansion Output) → Finds seen None → u.opened.items ≡ w.opened.items → u.listing ≡ record { list = w.listing.list; at = w.listing.at; out = u.listing.out } → IsGoing w id w.listing (λ p rest. IsValueNext p w.expander v rest) e → IsTurn seen e w.expander (On ListNow) u
+  value-pushed seen e found nodes listed g =
+      let p : Place = place_of g.spot in
+      let k = g.rest_is in
+      let whole = argument_value p.inner p.viewed p.frame k.binding in
+      let here = value-here e g in
+      let pushed = found p id k.binding here k.is_binding in
+      let m : Work = record w { expander = u.expander } in
+      leads-turn seen e w.expander m u id w.listing (Gives pushed.one) g.spot whole g.one g.list (On ListNow)
+      (g.is ∙ ap (λ (x : Expansion Output). x >>= g.one) k.is) g.is_place g.continues
+      (leads-comes w.expander id p here seen whole pushed.one u.expander pushed.comes)
+      (λ f q. follow-gives seen f m u id pushed.one
+      (record { expander = refl; opened = nodes; listing = listed ∙ ap (λ (o : Output). record { list = w.listing.list; at = w.listing.at; out = o }) pushed.behind }) q)

@@ -28,6 +28,11 @@ pub record IsPlainList (parsed : ParsedText) (list : ListId) (text : List ℕ) :
   pub there : list_with parsed list ≡ Some (plain start text ∷ [])
   pub trimmed : trimmed text ≡ text
 
+-- a list is one plain part, this text
+pub record IsPlainText (parsed : ParsedText) (list : ListId) (text : List ℕ) : Type 0 where
+  pub start : ℕ
+  pub there : list_with parsed list ≡ Some (plain start text ∷ [])
+
 -- what an item stands for
 abbrev pub IsItem : ParsedText → Item → TreeItem → Type 0
 IsItem parsed (Plain start len) i = (i ≡ plain start (text_at parsed start len)) × IsTextAt parsed start len

@@ -8,7 +8,7 @@ use Rattle.wk_tree_rules.specs.Trees.{Item, plain}
 use Rattle.wk_tree_rules.specs.declared.Mode.TheVariants as mode
 use Rattle.wk_tree.specs.Parsed.{ParsedText, list_with, node_with}
 use Rattle.wk_tree.specs.declared.item.NodeId.{NodeId}
-use Rattle.wk_view_rules.specs.Expand.{kind_output, operand, redirected, switch_output, trimmed_items, whole_part, behind_bare_item, with_bindings, Search as Rule}
+use Rattle.wk_view_rules.specs.Expand.{argument_value, kind_output, operand, redirected, switch_output, trimmed_items, whole_part, behind_bare_item, with_bindings, Search as Rule}
 use Rattle.wk_view_rules.specs.Expansions.{Expansion, Output, give, ◌>>=◌, argument_within_limit, inclusion_within_limit}
 use Rattle.wk_view_rules.specs.Frames.{Frame, Binding}
 use Rattle.wk_view_rules.specs.Words.{named_item}
@@ -16,9 +16,9 @@ use Rattle.wk_view_rules.specs.Worlds.{Seen}
 use Rattle.wk_expand.specs.Levels.{HasLists, LevelsShown, tree_in}
 use Rattle.wk_expand.specs.Nodes.{rest_written}
 use Rattle.wk_expand.specs.Bindings.{named_binding}
-use Rattle.wk_expand.specs.Running.{Passes, StopsAt}
+use Rattle.wk_expand.specs.Running.{ComesTo, Passes, StopsAt}
 use Rattle.wk_expand.specs.Searches.{HasDefault, behind_turned, search_of}
-use Rattle.wk_expand.specs.State.{IsBinding, ShowsBindings, ShowsFrame, current}
+use Rattle.wk_expand.specs.State.{IsBinding, ShowsBindings, ShowsFrame, caller_tree, current}
 use Rattle.wk_expand.specs.declared.levels.Bound.{Bound}
 use Rattle.wk_expand.specs.declared.levels.Level.{Level}
 use Rattle.wk_expand.specs.declared.search.Search.{Search}
@@ -213,3 +213,30 @@ pub record Waits (s : Expander) (id : NodeId) (waiting : Waiting) : Type 0 where
   pub within : AreWithin waiting s.levels place.home
   pub step : Output → Expansion Output
   pub step_is : IsRest place waiting step
+
+-- ---- the value of an argument
+
+-- The list is the title part of an argument, to whose name this is bound.
+pub record IsBoundTitle (p : Place) (title : ListId) (caller : ParsedText) (v : Bound) : Type 0 where
+  pub binding : Binding
+  pub is_binding : IsBinding caller v binding
+  pub gives : (frame : Frame) (items : List Item) → list_with (text_at p) title ≡ Some items
+      → (p.inner frame items >>= (λ name. kind_output p.inner p.viewed p.frame p.node.kind name (parts_at p))) ≡ argument_value p.inner p.viewed p.frame binding
+
+-- A node does what an argument does to which this is bound.
+pub record IsValueNext (p : Place) (t : Expander) (v : Bound) (rest : Expansion Output) : Type 0 where
+  pub home : t.levels ≡ p.home
+  pub binding : Binding
+  pub is_binding : IsBinding (caller_tree t) v binding
+  pub is : rest ≡ argument_value p.inner p.viewed p.frame binding
+
+-- A call has come from s to t, where the output of a node stands behind another one.
+pub record IsPushed (seen : Seen) (e : Expansion Output) (s : Expander) (before : Output) (t : Expander) (after : Output) : Type 0 where
+  pub one : Output
+  pub comes : ComesTo seen e s (give one) t
+  pub behind : after ≡ before ++ one
+
+-- The same, or the output stays and this is what the node does next.
+abbrev pub IsValued : Seen → Place → Expansion Output → Expander → Output → Option Next → Expander → Output → Type 0
+IsValued seen p e s before None t after = IsPushed seen e s before t after
+IsValued seen p e s before (Some next) t after = LeadsTo seen p e s next t × (after ≡ before)

@@ -11,9 +11,13 @@ use Rattle.wk_view_rules.specs.Frames.{Frame, Binding, binding_length}
 use Rattle.wk_view_rules.specs.Worlds.{Seen}
 use Rattle.wk_expand.specs.Answers.{counters_of}
 use Rattle.wk_expand.specs.Levels.{tree_in}
+use Rattle.wk_expand.specs.declared.answer.Counts.{Counts}
 use Rattle.wk_expand.specs.declared.levels.Bound.{Bound}
 use Rattle.wk_expand.specs.declared.levels.Level.{Level}
 use Rattle.wk_expand.specs.declared.state.Expander.{Expander}
+
+abbrev pub progress_with : Counts → List PageTitle → Progress
+progress_with counts tested = record { counters = counters_of counts; tested = tested }
 
 abbrev pub progress_of : Expander → Progress
 progress_of s = record { counters = counters_of s.counts; tested = s.tested.items }

@@ -1,72 +1,100 @@
 //! The items of a list, as text.
-ghost use Rattle.std.specs.Prelude.{◌≡◌, ◌++◌, length, IfSome, IsSome, OnOk};
-ghost use Rattle.wk_out.specs.Runs.{marked};
+ghost use Rattle.std.specs.Prelude.{◌≡◌, ◌+◌, ◌≤◌, List, length, slice_range, IfOk, IfSome, IsSome, Some};
+ghost use Rattle.std.specs.Str.{IsUtf8};
 ghost use Rattle.wk_tree.specs.Parsed.{list_with};
-ghost use Rattle.wk_expand.specs.Items.{item_with, text_at, IsItem, IsPlainList, IsTextAt};
+ghost use Rattle.wk_tree_rules.specs.Trees.{Item as TreeItem};
+ghost use Rattle.wk_text_rules.specs.Blank.{trimmed};
+ghost use Rattle.wk_expand.specs.Items.{IsPlainList, IsPlainText};
 ghost use Rattle.wk_expand.specs.State.{current};
+ghost use Rattle.wk_expand.specs.Work.{IsFilled};
 
 use crate::state::Expander;
-use wk_bytes::trim;
+use wk_bytes::{trim, trim_end, trim_start};
 use wk_memory::Memory;
 use wk_out::Out;
-use wk_tree::{Item, ListId};
+use wk_tree::{Item, ListId, NodeId, Parsed};
+
+/// A part of a source, as text. Takes no memory.
+fn part_of(source: &[u8], start: u32, len: u32) -> &str
+    requires within { start + len ≤ length source.now }
+    requires utf8 { IsUtf8 (slice_range source.now start (start + len)) }
+    ensures { result.now ≡ slice_range source.now start (start + len) }
+{
+    let start = start as usize;
+    let part = &source[start..start + len as usize];
+    // SAFETY: the bytes are UTF-8 by the contract, so they aren't tested again.
+    unsafe { str::from_utf8_unchecked(part) }
+}
+
+/// Adds the items of a list from a place on to an output, up to the next node. The answer is the place behind the
+/// node, and the node, if there is one.
+pub fn fill(
+    tree: &Parsed,
+    list: ListId,
+    start: usize,
+    out: &mut Out,
+) -> Result<(usize, Option<NodeId>), Memory>
+    requires { IsSome (list_with tree.now list) }
+    ensures { IfOk result (λ found. (items : List TreeItem) → list_with tree.now list ≡ Some items
+        → IsFilled tree.now items start out.old found out.new) }
+{
+    let source = tree.source();
+    let items = tree.items(list).as_slice();
+    let count = items.len();
+    'walk: for at in start..count {
+        match items[at] {
+            Item::Plain { start, len } => out.push_plain(part_of(source, start, len))?,
+            Item::Sealed { start, len } => out.push_sealed(part_of(source, start, len))?,
+            Item::Nothing { .. } => {}
+            Item::Node(node) => return Ok((at + 1, Some(node))),
+        }
+    }
+    Ok((count, None))
+}
+
+/// The text that a list is, where it is one plain part. Takes no memory.
+pub fn plain_text(tree: &Parsed, list: ListId) -> Option<&str>
+    requires { IsSome (list_with tree.now list) }
+    ensures { IfSome result (λ text. IsPlainText tree.now list text.now) }
+{
+    let items = tree.items(list).as_slice();
+    if items.len() != 1 {
+        return None;
+    }
+    let Item::Plain { start, len } = items[0] else {
+        return None;
+    };
+    Some(part_of(tree.source(), start, len))
+}
+
+/// The same, where it has no blank byte at its ends. Takes no memory.
+pub fn plain_part(tree: &Parsed, list: ListId) -> Option<&str>
+    requires { IsSome (list_with tree.now list) }
+    ensures { IfSome result (λ text. IsPlainList tree.now list text.now) }
+{
+    let text = plain_text(tree, list)?;
+    if trim(text.as_bytes()).len() != text.len() {
+        return None;
+    }
+    Some(text)
+}
+
+/// The text without the blank bytes at both ends. Takes no memory.
+pub fn trimmed_text(text: &str) -> &str
+    ensures { result.now ≡ trimmed text.now }
+{
+    let rest = trim_start(text.as_bytes());
+    let text = &text[text.len() - rest.len()..];
+    let front = trim_end(text.as_bytes());
+    &text[..front.len()]
+}
 
 impl Expander {
-    /// How many items a list has.
-    pub fn item_count(&self, list: ListId) -> usize
-        requires { IsSome (list_with (current self.now) list) }
-        ensures { IfSome (list_with (current self.now) list) (λ items. result ≡ length items) }
-    {
-        self.tree().items(list).len()
-    }
-
-    /// An item of a list. The first is item 0.
-    pub fn item(&self, list: ListId, at: usize) -> Item
-        requires { IsSome (item_with (current self.now) list at) }
-        ensures { IfSome (item_with (current self.now) list at) (IsItem (current self.now) result) }
-    {
-        self.tree().items(list).as_slice()[at]
-    }
-
     /// The part of the text that a list is, where it is one plain part without a blank byte at its ends. Takes no memory.
     pub fn plain_part(&self, list: ListId) -> Option<&str>
         requires { IsSome (list_with (current self.now) list) }
         ensures { IfSome result (λ text. IsPlainList (current self.now) list text.now) }
     {
-        if self.item_count(list) != 1 {
-            return None;
-        }
-        let Item::Plain { start, len } = self.item(list, 0) else {
-            return None;
-        };
-        let start = start as usize;
-        let part = &self.tree().source()[start..start + len as usize];
-        if trim(part).len() != part.len() {
-            return None;
-        }
-        // SAFETY: the bytes are UTF-8 by the contract, so they aren't tested again.
-        Some(unsafe { str::from_utf8_unchecked(part) })
-    }
-
-    /// Adds a part of the text behind an output, as plain or as sealed bytes.
-    pub fn push_source(
-        &self,
-        out: &mut Out,
-        start: u32,
-        len: u32,
-        sealed: bool,
-    ) -> Result<(), Memory>
-        requires { IsTextAt (current self.now) start len }
-        ensures { OnOk result (out.new ≡ out.old ++ marked sealed (text_at (current self.now) start len)) }
-    {
-        let start = start as usize;
-        let part = &self.tree().source()[start..start + len as usize];
-        // SAFETY: the bytes are UTF-8 by the contract, so they aren't tested again.
-        let text = unsafe { str::from_utf8_unchecked(part) };
-        if sealed {
-            out.push_sealed(text)
-        } else {
-            out.push_plain(text)
-        }
+        plain_part(self.tree(), list)
     }
 }

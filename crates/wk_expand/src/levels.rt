@@ -1,5 +1,5 @@
 //! The texts that are expanded within each other.
-ghost use Rattle.std.specs.Prelude.{◌≡◌, ◌<◌, [], ◌∷◌, length, drop, IsSome, IfSome, OnOk};
+ghost use Rattle.std.specs.Prelude.{◌≡◌, ◌<◌, [], ◌∷◌, length, drop, reverse, IsSome, IfSome, OnOk};
 ghost use Rattle.std.specs.List.{list_any};
 ghost use Rattle.wk_text_rules.specs.Titles.{title_eq};
 ghost use Rattle.wk_tree.specs.Parsed.{list_with};
@@ -67,6 +67,16 @@ fn is_among(included: &[Level], title: &Title) -> bool
     included.iter().any(|level| level.title == *title)
 }
 
+/// The text of the last page, or the one at the root.
+fn last_text<'a>(root: &'a Tree, included: &'a [Level]) -> &'a Parsed
+    ensures { result.now ≡ tree_in root.now (reverse included.now) }
+{
+    match included.last() {
+        Some(level) => level.tree.parsed(),
+        None => root.parsed(),
+    }
+}
+
 impl Levels {
     /// A text alone, with no page included. Takes no memory.
     pub fn new(alloc: Global, root: Tree) -> Levels
@@ -82,10 +92,17 @@ impl Levels {
     pub fn tree(&self) -> &Parsed
         ensures { result.now ≡ tree_in self.now.root self.now.included }
     {
-        match self.included.last() {
-            Some(level) => level.tree.parsed(),
-            None => self.root.parsed(),
-        }
+        last_text(&self.root, &self.included)
+    }
+
+    /// The text behind the innermost page.
+    pub fn outer(&self) -> &Parsed
+        ensures { result.now ≡ tree_in self.now.root (drop 1 self.now.included) }
+    {
+        let Some((_, behind)) = self.included.as_slice().split_last() else {
+            return self.root.parsed();
+        };
+        last_text(&self.root, behind)
     }
 
     /// Whether the title's text is being expanded.

@@ -1,16 +1,18 @@
 //! The expansion of a text, one step after another.
-ghost use Rattle.std.specs.Prelude.{◌≡◌, List, IfOk, IsSome, OnOk, Some};
+ghost use Rattle.std.specs.Prelude.{◌≡◌, ◌<◌, List, [], length, IfOk, IsSome, OnOk, Some};
 ghost use Rattle.wk_tree_rules.specs.Trees.{Item as TreeItem};
 ghost use Rattle.wk_tree.specs.Parsed.{list_with, node_with};
 ghost use Rattle.wk_view_rules.specs.Expansions.{Expansion, Output};
 ghost use Rattle.wk_view_rules.specs.Worlds.{Seen as Answers};
-ghost use Rattle.wk_expand.specs.Stack.{IsNext};
-ghost use Rattle.wk_expand.specs.State.{current};
+ghost use Rattle.wk_expand.specs.Stack.{IsNext, IsValueNext};
+ghost use Rattle.wk_expand.specs.State.{caller_tree, current};
 ghost use Rattle.wk_expand.specs.Work.{IsAtNode, IsEnded, IsFilled, IsGoing, IsListing, IsNow, IsTurn, HasOpened, IsPassed};
 ghost use Rattle.wk_expand.specs.declared.stack.Next.TheVariants.{Expands as ExpandsNext, Goes as GoesNext};
 ghost use Rattle.wk_expand.specs.declared.stack.Pending.TheVariants.{Named as NamedPending};
 ghost use Rattle.wk_expand.specs.declared.stack.Waiting.TheVariants.{Title as TitleWaiting};
 
+use crate::items::fill;
+use crate::levels::Bound;
 use crate::seen::Seen;
 use crate::stack::{Listing, Next, Now, Opened, Pending, Turn, Waiting};
 use crate::state::{Expander, Stop};
@@ -19,7 +21,7 @@ use crate::trees::Trees;
 use std::mem;
 use wk_memory::Memory;
 use wk_out::Out;
-use wk_tree::{Item, ListId, NodeId};
+use wk_tree::{ListId, NodeId};
 
 /// How many nodes may be open within each other (own).
 const MOST_OPEN: usize = 200;
@@ -48,16 +50,7 @@ impl Expander {
         ensures { IfOk result (λ found. (items : List TreeItem) → list_with (current self.now) list ≡ Some items
             → IsFilled (current self.now) items start out.old found out.new) }
     {
-        let count = self.item_count(list);
-        'items: for at in start..count {
-            match self.item(list, at) {
-                Item::Plain { start, len } => self.push_source(out, start, len, false)?,
-                Item::Sealed { start, len } => self.push_source(out, start, len, true)?,
-                Item::Nothing { .. } => {}
-                Item::Node(node) => return Ok((at + 1, Some(node))),
-            }
-        }
-        Ok((count, None))
+        fill(self.tree(), list, start, out)
     }
 }
 
@@ -176,6 +169,22 @@ impl Work {
         }
     }
 
+    /// An argument goes on to which this is bound.
+    fn valued(&mut self, node: NodeId, bound: Bound) -> Result<Turn, Memory>
+        requires within { 0 < length self.old.expander.levels.included }
+        requires list { IsSome (list_with (caller_tree self.old.expander) bound.value) }
+        requires there { (e : Expansion Output) × IsGoing self.old node self.old.listing
+            (λ p rest. IsValueNext p self.old.expander bound rest) e }
+        ensures { IfOk result (λ turn. (seen : Answers) (e : Expansion Output)
+            → IsGoing self.old node self.old.listing (λ p rest. IsValueNext p self.old.expander bound rest) e
+            → IsTurn seen e self.old.expander turn self.new) }
+    {
+        match self.expander.push_value(bound, &mut self.listing.out)? {
+            Some(next) => self.lead(node, next),
+            None => Ok(Turn::On(Now::List)),
+        }
+    }
+
     /// The title part of a node is expanded, up to the next node in it, which is opened then; the node goes on at once
     /// where there is none.
     fn title_part(
@@ -184,16 +193,18 @@ impl Work {
         trees: &mut Trees,
         node: NodeId,
         list: ListId,
-        before: Out,
     ) -> Result<Turn, Memory>
         requires { (e : Expansion Output) × IsGoing self.old node self.old.listing
-            (λ p rest. IsNext p self.old.expander (ExpandsNext TitleWaiting list before) rest) e }
+            (λ p rest. IsNext p self.old.expander (ExpandsNext TitleWaiting list []) rest) e }
         ensures { IfOk result (λ turn. (e : Expansion Output)
             → IsGoing self.old node self.old.listing
-            (λ p rest. IsNext p self.old.expander (ExpandsNext TitleWaiting list before) rest) e
+            (λ p rest. IsNext p self.old.expander (ExpandsNext TitleWaiting list []) rest) e
             → IsTurn seen.now e self.old.expander turn self.new) }
     {
-        let mut out = before;
+        if let Some(bound) = self.expander.plain_bound(node, list) {
+            return self.valued(node, bound);
+        }
+        let mut out = Out::new(self.expander.alloc);
         let (at, inner) = self.expander.fill(list, 0, &mut out)?;
         match inner {
             Some(first) => {
@@ -223,8 +234,7 @@ impl Work {
             return Ok(Turn::On(Now::List));
         }
         let title = self.expander.tree().title(node);
-        let before = Out::new(alloc);
-        self.title_part(seen, trees, node, title, before)
+        self.title_part(seen, trees, node, title)
     }
 
     /// The list has ended: the innermost node that is open goes on, if there is one.

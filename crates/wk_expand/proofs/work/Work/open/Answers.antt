@@ -66,7 +66,7 @@ title_part-requires c =
     let come = c.if-not-charge.ensures.within [] (opened h.left page h.frame h.node.kind h.node.content) in
     let there = ap (λ parsed. node_with parsed c.args.node) (current-same w.expander u.expander come.same) ∙ h.node_is in
     let title = title-is c.tree.result.now (current u.expander) c.args.node c.title-title.result h.node c.tree.ensures c.title-title.ensures there in
-    let opens = node-opens [] w u c.args.node w.listing c.requires.0 h refl more come c.title-title.result c.new-before.result title c.new-before.ensures in
+    let opens = node-opens [] w u c.args.node w.listing c.requires.0 h refl more come c.title-title.result [] title refl in
     (opens.0, opens.1)
 
 pub returns : goal.returns
@@ -82,5 +82,5 @@ returns c =
     let come = c.if-not-charge.ensures.within seen rest in
     let there = ap (λ parsed. node_with parsed c.args.node) (current-same w.expander u.expander come.same) ∙ h.node_is in
     let title = title-is c.tree.result.now (current u.expander) c.args.node c.title-title.result h.node c.tree.ensures c.title-title.ensures there in
-    let opens = node-opens seen w u c.args.node w.listing e h refl more come c.title-title.result c.new-before.result title c.new-before.ensures in
+    let opens = node-opens seen w u c.args.node w.listing e h refl more come c.title-title.result [] title refl in
     turn-behind seen e opens.0 w.expander u.expander turn c.title_part.new.self opens.2 (k opens.0 opens.1)) c.title_part.ensures
