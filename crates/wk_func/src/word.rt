@@ -57,6 +57,9 @@ fn function_named(text: &[u8]) -> Option<(Func, usize)>
     ensures { result ≡ option_map (λ entry. (entry.1, length entry.0 + 1))
         (find (λ entry. starts_with eq_ignore_ascii_case text.now (entry.0 ++ codes ":")) functions) }
 {
+    if text.is_empty() || text[0] != b'#' {
+        return None;
+    }
     if begins_with(text, b"#if:") {
         Some((Func::If, 4))
     } else if begins_with(text, b"#ifeq:") {
