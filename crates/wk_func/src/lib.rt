@@ -11,4 +11,4 @@ mod word;
 pub use equality::equal;
 pub use switch::Switch;
 pub use wk_view_rules::{Func, Turned, Var, Word};
-pub use word::find;
+pub use word::{find, find_plain};

@@ -1,4 +1,4 @@
-use crate::{Func, Switch, Turned, Var, Word, equal, find};
+use crate::{Func, Switch, Turned, Var, Word, equal, find, find_plain};
 use std::alloc::Global;
 use std::test::Fail;
 use wk_memory::Memory;
@@ -59,6 +59,19 @@ fn finds_functions_in_any_case(rt: HostRuntime) -> Result<(), Fail> {
         let title = plain(alloc, title)?;
         assert_eq!(rt; find(&title, true), word);
         assert_eq!(rt; find(&title, false), word);
+    }
+    Ok(())
+}
+
+#[test]
+fn finds_the_words_of_plain_texts(rt: HostRuntime) -> Result<(), Fail> {
+    for (text, word) in [
+        ("!", Word::Variable(Var::Bar)),
+        ("#IfEq:", Word::Function(Func::IfEq, 6)),
+        ("if:a", Word::Page),
+        ("", Word::Page),
+    ] {
+        assert_eq!(rt; find_plain(text, true), word);
     }
     Ok(())
 }

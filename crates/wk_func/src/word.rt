@@ -2,6 +2,7 @@
 ghost use Rattle.std.specs.Prelude.{◌≡◌, ◌+◌, ◌++◌, length, find, bytes_eq, codes, option_map};
 ghost use Rattle.std.specs.Char.{eq_ignore_ascii_case};
 ghost use Rattle.std.specs.List.{starts_with};
+ghost use Rattle.wk_text_rules.specs.Marked.{all_plain};
 ghost use Rattle.wk_text_rules.specs.Titles.{same_but_case};
 ghost use Rattle.wk_view_rules.specs.Words.{functions, variable_called, function_called, variables, word};
 ghost use Rattle.wk_func.specs.PlainStart.{plain_start};
@@ -94,6 +95,35 @@ pub fn find(title: &Out, alone: bool) -> Word
         }
     }
     match function_called(title) {
+        Some((function, operand)) => Word::Function(function, operand),
+        None => Word::Page,
+    }
+}
+
+/// The variable that a plain text calls.
+fn plain_variable(text: &str) -> Option<Var>
+    ensures { result ≡ variable_called (all_plain text.now) }
+{
+    variable_named(text)
+}
+
+/// The function that a plain text calls.
+fn plain_function(text: &str) -> Option<(Func, usize)>
+    ensures { result ≡ function_called (all_plain text.now) }
+{
+    function_named(text.as_bytes())
+}
+
+/// The same for a title part whose bytes are all plain. Takes no memory.
+pub fn find_plain(title: &str, alone: bool) -> Word
+    ensures { result ≡ word (all_plain title.now) alone }
+{
+    if alone {
+        if let Some(variable) = plain_variable(title) {
+            return Word::Variable(variable);
+        }
+    }
+    match plain_function(title) {
         Some((function, operand)) => Word::Function(function, operand),
         None => Word::Page,
     }
