@@ -62,10 +62,10 @@ passes p (x ∷ xs) y e = elim (cases_Bool (p x)) [
 abbrev pub place_called : List MarkedByte → Option ℕ
 place_called out = option_map (λ (called : Func × ℕ). called.1) (function_called out)
 
-abbrev BehindByte : List ℕ → ℕ → Type 0
+abbrev pub BehindByte : List ℕ → ℕ → Type 0
 BehindByte text place = (n : ℕ) × (place ≡ n + 1) × (n < length text) × (get_or text n 0 < 128)
 
-place-in : (out : List MarkedByte) (place : ℕ) → place_called out ≡ Some place → BehindByte (plain_start out) place
+pub place-in : (out : List MarkedByte) (place : ℕ) → place_called out ≡ Some place → BehindByte (plain_start out) place
 place-in out place e =
     let called = mapped (λ (called : Func × ℕ). called.1) (function_called out) place e in
     let entry = mapped (λ (entry : List ℕ × Func). (entry.1, length entry.0 + 1)) (find (λ (entry : List ℕ × Func). starts_with eq_ignore_ascii_case (plain_start out) (entry.0 ++ codes ":")) functions) called.0 (function_called-start out ∙ called.1) in

@@ -1,6 +1,7 @@
 pub mod ArgumentLaws
 pub mod BindLaws
 pub mod BinderLaws
+pub mod BlankLaws
 pub mod DecideLaws
 pub mod DraftLaws
 pub mod ExistsLaws

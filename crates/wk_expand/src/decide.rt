@@ -1,5 +1,5 @@
 //! What a template calls.
-ghost use Rattle.std.specs.Prelude.{◌≡◌, List, IfOk, OnOk, length};
+ghost use Rattle.std.specs.Prelude.{◌≡◌, List, IfOk, OnOk, Some, drop, length, option_map};
 ghost use Rattle.wk_text_rules.specs.Marked.{trimmed_output};
 ghost use Rattle.wk_text_rules.specs.Titles.{PageTitle};
 ghost use Rattle.wk_tree_rules.specs.Tree.{Part};
@@ -7,6 +7,7 @@ ghost use Rattle.wk_tree_rules.specs.Trees.{Item};
 ghost use Rattle.wk_view_rules.specs.Expand.{function_output, page_output, template_output};
 ghost use Rattle.wk_view_rules.specs.Expansions.{Expansion, Output};
 ghost use Rattle.wk_view_rules.specs.Frames.{Frame};
+ghost use Rattle.wk_view_rules.specs.Words.{function_called};
 ghost use Rattle.wk_view_rules.specs.declared.Func.TheVariants.{IfError};
 ghost use Rattle.wk_expand.specs.Decisions.{decision_rest, Further};
 ghost use Rattle.wk_expand.specs.Running.{IsSame, Keeps, Leads};
@@ -17,7 +18,7 @@ use crate::seen::Seen;
 use crate::state::{Expander, Stop};
 use crate::texts::{made_or, trimmed_copy};
 use crate::trees::Trees;
-use crate::words::{called_title, first_operand, variable_text};
+use crate::words::{called_title, first_operand, is_blank_behind, variable_text};
 use wk_bytes::Text;
 use wk_func::{Func, Word, find};
 use wk_out::Out;
@@ -60,38 +61,52 @@ fn if_error(first: Out, count: usize) -> Decision
 }
 
 impl Expander {
-    /// What is to be done for a function with a first operand and so many further parts.
+    /// What is to be done for a function that a trimmed title part calls, with so many further parts. The first operand
+    /// stands behind the place.
     fn function(
         &mut self,
         seen: &Seen,
         func: Func,
-        first: Out,
+        title: &Out,
+        place: usize,
         count: usize,
     ) -> Result<Decision, Stop>
+        requires { option_map (λ called. called.1) (function_called title.now) ≡ Some place }
         ensures same { OnOk result (IsSame self.old self.new) }
         ensures keeps { Keeps result self.old self.new }
         ensures further { IfOk result Further }
         ensures leads { (inner : Frame → List Item → Expansion Output) (viewed : PageTitle) (frame : Frame)
             (name : Output) (parts : List Part) → length parts ≡ count
-            → Leads seen.now (function_output inner viewed frame func first parts) self.old
+            → Leads seen.now
+            (function_output inner viewed frame func (trimmed_output (drop place title.now)) parts) self.old
             (decision_rest inner viewed frame name parts) result self.new }
     {
         match func {
             Func::If => {
-                if first.is_blank() {
+                if is_blank_behind(title, place) {
                     return Ok(Decision::Operand(3));
                 }
                 Ok(Decision::Operand(2))
             }
-            Func::IfEq => Ok(Decision::Equality(first)),
+            Func::IfEq => {
+                let first = first_operand(self.alloc, title, place)?;
+                Ok(Decision::Equality(first))
+            }
             Func::IfExist => {
+                let first = first_operand(self.alloc, title, place)?;
                 if self.exists(seen, &first)? {
                     return Ok(Decision::Operand(2));
                 }
                 Ok(Decision::Operand(3))
             }
-            Func::IfError => Ok(if_error(first, count)),
-            Func::Switch => Ok(Decision::Switch(first)),
+            Func::IfError => {
+                let first = first_operand(self.alloc, title, place)?;
+                Ok(if_error(first, count))
+            }
+            Func::Switch => {
+                let first = first_operand(self.alloc, title, place)?;
+                Ok(Decision::Switch(first))
+            }
         }
     }
 
@@ -139,10 +154,7 @@ impl Expander {
                 let text = variable_text(self.alloc, &self.page, variable)?;
                 Ok(Decision::Gives(text))
             }
-            Word::Function(func, place) => {
-                let first = first_operand(self.alloc, title, place)?;
-                self.function(seen, func, first, count)
-            }
+            Word::Function(func, place) => self.function(seen, func, title, place, count),
             Word::Page => self.called(seen, trees, title),
         }
     }

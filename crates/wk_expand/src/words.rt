@@ -1,7 +1,7 @@
 //! What the title part of a template says.
 ghost use Rattle.std.specs.Prelude.{◌≡◌, ◌<◌, ◌≤◌, ◌-◌, ◌++◌, ◌==◌, get_or, length, if◌then◌else◌, IfOk, OnOk, Some, drop, option_and_then, option_map, pos, string_bytes, true};
 ghost use Rattle.wk_out.specs.Runs.{marked};
-ghost use Rattle.wk_text_rules.specs.Marked.{all_plain, plain_text_of, trimmed_output};
+ghost use Rattle.wk_text_rules.specs.Marked.{all_plain, is_blank_output, plain_text_of, trimmed_output};
 ghost use Rattle.wk_text_rules.specs.Titles.{is_namespace, normal, with_spaces};
 ghost use Rattle.wk_view_rules.specs.Expand.{tested_title};
 ghost use Rattle.wk_view_rules.specs.Texts.{variable_text};
@@ -10,6 +10,7 @@ ghost use Rattle.wk_view_rules.specs.Words.{function_called};
 use crate::texts::{plain, trimmed};
 use crate::trees::Trees;
 use std::alloc::Global;
+use wk_bytes::is_blank;
 use wk_memory::Memory;
 use wk_out::Out;
 use wk_title::{Title, TitleRefusal, namespace_name, normalize, shown};
@@ -86,6 +87,17 @@ fn behind_colon(alloc: Global, title: &Out, place: usize) -> Result<Out, Memory>
         push_run(&mut out, text, sealed)?;
     }
     Ok(out)
+}
+
+/// Whether the first operand of a function is blank: only plain blank bytes stand behind the colon, whose place this is.
+pub fn is_blank_behind(title: &Out, place: usize) -> bool
+    requires { option_map (λ called. called.1) (function_called title.now) ≡ Some place }
+    ensures { result ≡ is_blank_output (trimmed_output (drop place title.now)) }
+{
+    match title.plain_text() {
+        Some(text) => is_blank(&text.as_bytes()[place..]),
+        None => false,
+    }
 }
 
 /// The first operand of a function: what stands behind the colon, whose place this is, trimmed.

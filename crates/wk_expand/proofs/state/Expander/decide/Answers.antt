@@ -18,19 +18,18 @@ returns-in-Variable-clause-leads c =
     (template-by inner viewed frame c.args.name.now c.made_or-title.result.now parts c.args.count (Variable c.in-Variable.variable) (c.made_or-title.ensures ∙ c.in_ok-made.ensures) count (sym c.find.ensures ∙ c.in-Variable.is))
     (c.in_ok-text-in-Variable.ensures ∙ ap (λ (page : PageTitle). all_plain (variable_text page c.in-Variable.variable)) is.page)
 
-pub first_operand-requires : goal.first_operand-requires
-first_operand-requires c =
+pub function-requires : goal.function-requires
+function-requires c =
     word-place (if c.args.count == 0 then variable_called c.made_or-title.result.now else None) (function_called c.made_or-title.result.now) c.in-Function.func c.in-Function.place (sym c.find.ensures ∙ c.in-Function.is)
 
 pub returns-in-Function-clause-leads : goal.returns-in-Function-clause-leads
 returns-in-Function-clause-leads c =
     λ viewed frame is inner parts count.
-    let first : c.in_ok-first-in-Function.first ≡ trimmed_output (drop c.in-Function.place (trimmed_output c.args.name.now)) =
-    c.in_ok-first-in-Function.ensures ∙ ap (λ (title : Output). trimmed_output (drop c.in-Function.place title)) (c.made_or-title.ensures ∙ c.in_ok-made.ensures)
-    in
-    leads-as c.args.seen.now (template_output inner viewed frame c.args.name.now parts) (function_output inner viewed frame c.in-Function.func c.in_ok-first-in-Function.first parts) c.args.self.now (decision_rest inner viewed frame c.args.name.now parts) c.function.result c.function.new.self
-    (template-by inner viewed frame c.args.name.now c.made_or-title.result.now parts c.args.count (Function c.in-Function.func c.in-Function.place) (c.made_or-title.ensures ∙ c.in_ok-made.ensures) count (sym c.find.ensures ∙ c.in-Function.is)
-    ∙ ap (λ (out : Output). function_output inner viewed frame c.in-Function.func out parts) (sym first))
+    let title = c.made_or-title.result.now in
+    let trimmed : title ≡ trimmed_output c.args.name.now = c.made_or-title.ensures ∙ c.in_ok-made.ensures in
+    leads-as c.args.seen.now (template_output inner viewed frame c.args.name.now parts) (function_output inner viewed frame c.in-Function.func (trimmed_output (drop c.in-Function.place title)) parts) c.args.self.now (decision_rest inner viewed frame c.args.name.now parts) c.function.result c.function.new.self
+    (template-by inner viewed frame c.args.name.now title parts c.args.count (Function c.in-Function.func c.in-Function.place) trimmed count (sym c.find.ensures ∙ c.in-Function.is)
+    ∙ ap (λ (out : Output). function_output inner viewed frame c.in-Function.func (trimmed_output (drop c.in-Function.place out)) parts) (sym trimmed))
     (c.function.ensures.leads inner viewed frame c.args.name.now parts count)
 
 pub returns-clause-leads : goal.returns-clause-leads
