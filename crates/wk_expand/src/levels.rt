@@ -1,5 +1,6 @@
 //! The texts that are expanded within each other.
-ghost use Rattle.std.specs.Prelude.{◌≡◌, ◌<◌, [], ◌∷◌, length, drop, reverse, IsSome, IfSome, OnOk};
+ghost use Rattle.std.specs.Prelude.{◌≡◌, ◌<◌, [], ◌∷◌, bytes_eq, false, length, drop, reverse, IsSome, IfSome, OnOk};
+ghost use Rattle.std.specs.Bool.{OnFalse};
 ghost use Rattle.std.specs.List.{list_any};
 ghost use Rattle.wk_text_rules.specs.Titles.{title_eq};
 ghost use Rattle.wk_tree.specs.Parsed.{list_with};
@@ -60,11 +61,25 @@ impl Model for Levels {
     ghost invariant = { λ s. AreBound s.root (reverse s.included.items) };
 }
 
+/// Whether two texts have one length and one last byte. Texts that differ are told apart by these at most times.
+fn is_alike(a: &[u8], b: &[u8]) -> bool
+    ensures { OnFalse result (bytes_eq a.now b.now ≡ false) }
+{
+    a.len() == b.len() && (a.is_empty() || a[a.len() - 1] == b[b.len() - 1])
+}
+
+/// Whether a page is of this title.
+fn is_of(level: &Level, title: &Title) -> bool
+    ensures { result ≡ title_eq level.now.title title.now }
+{
+    is_alike(level.title.key().as_bytes(), title.key().as_bytes()) && level.title == *title
+}
+
 /// Whether one of the pages is of this title.
 fn is_among(included: &[Level], title: &Title) -> bool
     ensures { result ≡ list_any (λ (l : LevelValue). title_eq l.title title.now) included.now }
 {
-    included.iter().any(|level| level.title == *title)
+    included.iter().any(|level| is_of(level, title))
 }
 
 /// The text of the last page, or the one at the root.
