@@ -121,6 +121,6 @@ pub sealed-behind : (out : List MarkedByte) (place : ℕ) → None ≡ plain_tex
 sealed-behind out place e called =
     let some : list_all is_plain out ≡ false = none-test (list_all is_plain out) (text_of out) e in
     elim (cases_Bool (is_blank_output (drop place out))) [
-    | inl passes ↦ let all : list_all is_plain out ≡ true = plain-behind out place (within-start out place called) passes in cc
-    | inr fails ↦ sym (trimmed-blank (drop place out) ∙ fails)
+      | inl passes ↦ let all : list_all is_plain out ≡ true = plain-behind out place (within-start out place called) passes in cc
+      | inr fails ↦ sym (trimmed-blank (drop place out) ∙ fails)
     ]

@@ -10,6 +10,7 @@ pub mod InclusionLaws
 pub mod LeadLaws
 pub mod LevelLaws
 pub mod ListLaws
+pub mod NamedLaws
 pub mod NodeLaws
 pub mod PageLaws
 pub mod PartLaws

@@ -239,10 +239,10 @@ impl Work {
 
     /// The list has ended: the innermost node that is open goes on, if there is one.
     #[inline(always)]
-    fn ended(&mut self) -> Result<Turn, Memory>
+    fn ended(&mut self, seen: &Seen, trees: &mut Trees) -> Result<Turn, Memory>
         requires { (e : Expansion Output) × IsEnded self.old self.old.listing.out e }
-        ensures { IfOk result (λ turn. (seen : Answers) (e : Expansion Output)
-            → IsEnded self.old self.old.listing.out e → IsTurn seen e self.old.expander turn self.new) }
+        ensures { IfOk result (λ turn. (e : Expansion Output)
+            → IsEnded self.old self.old.listing.out e → IsTurn seen.now e self.old.expander turn self.new) }
     {
         let Some(top) = self.opened.pop() else {
             return Ok(Turn::Done);
@@ -253,8 +253,13 @@ impl Work {
             waiting,
         } = top;
         let listing = mem::replace(&mut self.listing, behind);
-        let next = self.expander.finished(node, waiting, listing.out)?;
-        self.lead(node, next)
+        match waiting {
+            Waiting::Title => self.named(seen, trees, node, listing.out),
+            waiting => {
+                let next = self.expander.finished(node, waiting, listing.out)?;
+                self.lead(node, next)
+            }
+        }
     }
 
     /// The list is expanded up to its next node, or to its end.
@@ -271,7 +276,7 @@ impl Work {
         self.listing.at = at;
         match node {
             Some(node) => self.open(seen, trees, node),
-            None => self.ended(),
+            None => self.ended(seen, trees),
         }
     }
 

@@ -42,4 +42,4 @@ returns-in-Some c =
 pub returns-in-None : goal.returns-in-None
 returns-in-None c =
     IfOk-weaker c.ended.result _ _ (λ turn k e h.
-    k c.args.seen.now e (at-end c.args.self.now c.fill.new.out c.in_ok-at.at c.in_ok-at.node e c.in-None.is c.in_ok-at.ensures h)) c.ended.ensures
+    k e (at-end c.args.self.now c.fill.new.out c.in_ok-at.at c.in_ok-at.node e c.in-None.is c.in_ok-at.ensures h)) c.ended.ensures

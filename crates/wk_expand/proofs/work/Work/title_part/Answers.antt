@@ -4,8 +4,7 @@ use Rattle.wk_tree.specs.Parsed.{list_with, node_with}
 use Rattle.wk_tree.specs.declared.item.NodeId.{NodeId}
 use Rattle.wk_tree_rules.specs.Trees.{Item}
 use Rattle.wk_view_rules.specs.Expansions.{Output, ◌>>=◌}
-use Rattle.wk_view_rules.specs.Worlds.{Seen}
-use Rattle.wk_expand.specs.Stack.{LeadsTo, Place, Waits}
+use Rattle.wk_expand.specs.Stack.{Place}
 use Rattle.wk_expand.specs.State.{current}
 use Rattle.wk_expand.specs.Work.{IsFilled, place_of}
 use Rattle.wk_expand.specs.declared.stack.Next.TheVariants.{Goes}
@@ -13,19 +12,10 @@ use Rattle.wk_expand.specs.declared.stack.Pending.TheVariants.{Named}
 use Rattle.wk_expand.specs.declared.stack.Waiting.TheVariants.{Title}
 use Rattle.wk_expand.specs.declared.state.Expander.{Expander}
 use Rattle.wk_expand.proofs.LeadLaws.{node-here}
+use Rattle.wk_expand.proofs.NamedLaws.{name-leads}
 use Rattle.wk_expand.proofs.PartLaws.{some_of}
-use Rattle.wk_expand.proofs.RunLaws.{passes-as}
 use Rattle.wk_expand.proofs.WorkLaws.{AreFilled, expands-end, expands-node, expands-waits, going-leads, going-valued}
 use Rattle.wk_expand.proofs.work.Work.title_part.Goals as goal
-
--- the output of the title part is the name by which the node goes on
-name-leads : (seen : Seen) (s : Expander) (id : NodeId) (out : Output) (k : Waits s id Title) → LeadsTo seen k.place (k.step out) s (Goes (Named out)) s
-name-leads seen s id out k = record {
-  page = refl;
-  rest = k.step out;
-  next_is = (k.within, k.step_is out);
-  passes = passes-as seen (k.step out) (k.step out) s refl;
-}
 
 filled-empty : (s : Expander) (items : List Item) (before : Output) (at : ℕ) (found : Option NodeId) (new : Output) → before ≡ [] → IsFilled (current s) items 0 before (at, found) new → IsFilled (current s) items 0 [] (at, found) new
 filled-empty s items before at found new none h = subst (λ (o : Output). IsFilled (current s) items 0 o (at, found) new) none h
@@ -73,7 +63,7 @@ named-requires c =
     let id = c.args.node in
     let new = c.fill.new.out in
     let g = c.requires.1 in
-    let h = name-leads seen w.expander id new (expands-waits w id Title c.args.list [] c.requires.0 g) in
+    let h = name-leads seen w.expander id Title new refl (expands-waits w id Title c.args.list [] c.requires.0 g) in
     (h.rest >>= g.one, going-leads seen w w id w.listing (Goes (Named new)) g.spot (g.rest_is.step new) g.one g.list g.is_place g.continues refl h)
 
 pub returns-in-None : goal.returns-in-None
@@ -88,4 +78,4 @@ returns-in-None c =
     in
     IfOk-weaker c.named.result _ _ (λ turn k e g.
     expands-end seen e w c.named.new.self w.expander id Title c.args.list [] new c.in_ok-at.at (Goes (Named new)) turn filled
-    (λ q. name-leads seen w.expander id new q) (λ f h. k f h) g) c.named.ensures
+    (λ q. name-leads seen w.expander id Title new refl q) (λ f h. k f h) g) c.named.ensures
