@@ -13,6 +13,7 @@ pub mod ListLaws
 pub mod NamedLaws
 pub mod NodeLaws
 pub mod PageLaws
+pub mod PagePartLaws
 pub mod PartLaws
 pub mod PlainLaws
 pub mod ReadLaws

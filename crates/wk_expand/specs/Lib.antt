@@ -10,6 +10,7 @@ pub mod Kept
 pub mod Levels
 pub mod Machines
 pub mod Nodes
+pub mod PageParts
 pub mod Resumed
 pub mod Rounds
 pub mod Running

@@ -1,13 +1,14 @@
 //! The expansion of templates (MediaWiki's Help:Templates).
 ghost use Rattle.std.specs.Prelude.{◌≡◌, ◌+◌, ◌<◌, ◌≤◌, List, [], drop, length, IfOk, IfSome, IsSome, OnOk};
 ghost use Rattle.std.specs.FinMap.{empty};
-ghost use Rattle.wk_view_rules.specs.Expand.{included, kind_output, redirected, template_output};
+ghost use Rattle.wk_view_rules.specs.Expand.{included, inclusion, kind_output, redirected, template_output};
 ghost use Rattle.wk_view_rules.specs.Expansions.{Expansion, Output};
 ghost use Rattle.wk_view_rules.specs.Frames.{Binding};
 ghost use Rattle.wk_view_rules.specs.Worlds.{Seen as Answers};
-ghost use Rattle.wk_tree.specs.Parsed.{node_with, part_with};
+ghost use Rattle.wk_tree.specs.Parsed.{list_with, node_with, part_with};
 ghost use Rattle.wk_tree.specs.declared.item.NodeId.{NodeId as NodeName};
 ghost use Rattle.wk_expand.specs.Levels.{HasLists};
+ghost use Rattle.wk_expand.specs.PageParts.{IsPagePart};
 ghost use Rattle.wk_expand.specs.Running.{Keeps};
 ghost use Rattle.wk_expand.specs.Stack.{IsBinds, IsBoundNext, IsHere, LeadsTo, LeadsOn, Place, included_with, parts_at, text_at};
 ghost use Rattle.wk_expand.specs.State.{ShowsBindings, current};
@@ -23,6 +24,7 @@ use crate::state::{Expander, Stop};
 use crate::texts::node_error;
 use crate::trees::Trees;
 use wk_args::Args;
+use wk_func::{Word, find_plain};
 use wk_memory::Memory;
 use wk_out::Out;
 use wk_title::Title;
@@ -76,6 +78,58 @@ impl Expander {
             Decision::Written => Ok(self.written(node, name)?),
             Decision::Redirects(title, target) => Ok(Next::Goes(Pending::Target(title, target))),
             Decision::Includes(title, source, text) => {
+                let page = Inclusion {
+                    title,
+                    source,
+                    text,
+                };
+                Ok(self.page_text(trees, node, page)?)
+            }
+        }
+    }
+
+    /// The page that a template calls whose title part is one plain part of the text; none where the title part is more
+    /// than that, or calls no page.
+    pub fn plain_page(
+        &self,
+        trees: &mut Trees,
+        node: NodeId,
+        title: ListId,
+    ) -> Result<Option<Title>, Memory>
+        requires node { IsSome (node_with (current self.now) node) }
+        requires title { IsSome (list_with (current self.now) title) }
+        ensures { IfOk result (λ found. IfSome found (λ page. (p : Place) → IsHere self.now node p → IsPagePart p title page)) }
+    {
+        if self.tree().argument(node) {
+            return Ok(None);
+        }
+        let Some(name) = self.plain_part(title) else {
+            return Ok(None);
+        };
+        let count = self.tree().parts(node);
+        match find_plain(name, count == 0) {
+            Word::Page => trees.called(self.alloc, name),
+            _ => Ok(None),
+        }
+    }
+
+    /// What a template does that calls a page.
+    pub fn page_called(
+        &mut self,
+        seen: &Seen,
+        trees: &mut Trees,
+        node: NodeId,
+        title: Title,
+    ) -> Result<Next, Stop>
+        requires { IsSome (node_with (current self.old) node) }
+        ensures keeps { Keeps result self.old self.new }
+        ensures leads { (p : Place) → IsHere self.old node p
+            → LeadsOn seen.now p (inclusion p.inner p.viewed p.frame title (parts_at p)) self.old result self.new }
+    {
+        match self.inclusion(seen, &title)? {
+            Found::Gives(out) => Ok(Next::Gives(out)),
+            Found::Redirects(target) => Ok(Next::Goes(Pending::Target(title, target))),
+            Found::Includes(source, text) => {
                 let page = Inclusion {
                     title,
                     source,

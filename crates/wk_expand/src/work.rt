@@ -4,7 +4,8 @@ ghost use Rattle.wk_tree_rules.specs.Trees.{Item as TreeItem};
 ghost use Rattle.wk_tree.specs.Parsed.{list_with, node_with};
 ghost use Rattle.wk_view_rules.specs.Expansions.{Expansion, Output};
 ghost use Rattle.wk_view_rules.specs.Worlds.{Seen as Answers};
-ghost use Rattle.wk_expand.specs.Stack.{IsNext, IsValueNext};
+ghost use Rattle.wk_expand.specs.Stack.{IsHere, IsNext, IsValueNext, Place};
+ghost use Rattle.wk_expand.specs.PageParts.{IsPagePart};
 ghost use Rattle.wk_expand.specs.State.{caller_tree, current};
 ghost use Rattle.wk_expand.specs.Work.{IsAtNode, IsEnded, IsFilled, IsGoing, IsListing, IsNow, IsTurn, HasOpened, IsPassed};
 ghost use Rattle.wk_expand.specs.declared.stack.Next.TheVariants.{Expands as ExpandsNext, Goes as GoesNext};
@@ -21,6 +22,7 @@ use crate::trees::Trees;
 use std::mem;
 use wk_memory::Memory;
 use wk_out::Out;
+use wk_title::Title;
 use wk_tree::{ListId, NodeId};
 
 /// How many nodes may be open within each other (own).
@@ -187,6 +189,58 @@ impl Work {
 
     /// The title part of a node is expanded, up to the next node in it, which is opened then; the node goes on at once
     /// where there is none.
+    fn name_part(
+        &mut self,
+        seen: &Seen,
+        trees: &mut Trees,
+        node: NodeId,
+        list: ListId,
+    ) -> Result<Turn, Memory>
+        requires { (e : Expansion Output) × IsGoing self.old node self.old.listing
+            (λ p rest. IsNext p self.old.expander (ExpandsNext TitleWaiting list []) rest) e }
+        ensures { IfOk result (λ turn. (e : Expansion Output)
+            → IsGoing self.old node self.old.listing
+            (λ p rest. IsNext p self.old.expander (ExpandsNext TitleWaiting list []) rest) e
+            → IsTurn seen.now e self.old.expander turn self.new) }
+    {
+        let mut out = Out::new(self.expander.alloc);
+        let (at, inner) = self.expander.fill(list, 0, &mut out)?;
+        match inner {
+            Some(first) => {
+                self.wait(node, Waiting::Title, Listing { list, at, out })?;
+                Ok(Turn::On(Now::Open(first)))
+            }
+            None => self.named(seen, trees, node, out),
+        }
+    }
+
+    /// A template goes on whose title part names a page. Where an answer is lacking, the title part is expanded to the
+    /// name by which the template goes on once there is one.
+    fn page_part(
+        &mut self,
+        seen: &Seen,
+        trees: &mut Trees,
+        node: NodeId,
+        list: ListId,
+        page: Title,
+    ) -> Result<Turn, Memory>
+        requires there { (e : Expansion Output) × IsGoing self.old node self.old.listing
+            (λ p rest. IsNext p self.old.expander (ExpandsNext TitleWaiting list []) rest) e }
+        requires page { (p : Place) → IsHere self.old.expander node p → IsPagePart p list page }
+        ensures { IfOk result (λ turn. (e : Expansion Output)
+            → IsGoing self.old node self.old.listing
+            (λ p rest. IsNext p self.old.expander (ExpandsNext TitleWaiting list []) rest) e
+            → IsTurn seen.now e self.old.expander turn self.new) }
+    {
+        match self.expander.page_called(seen, trees, node, page) {
+            Ok(next) => self.lead(node, next),
+            Err(Stop::Needs(_, _)) => self.name_part(seen, trees, node, list),
+            Err(Stop::Memory) => Err(Memory),
+        }
+    }
+
+    /// A node goes on by its title part: at once where that is one plain part and names a page, or an argument to which
+    /// a value is bound.
     fn title_part(
         &mut self,
         seen: &Seen,
@@ -204,14 +258,9 @@ impl Work {
         if let Some(bound) = self.expander.plain_bound(node, list) {
             return self.valued(node, bound);
         }
-        let mut out = Out::new(self.expander.alloc);
-        let (at, inner) = self.expander.fill(list, 0, &mut out)?;
-        match inner {
-            Some(first) => {
-                self.wait(node, Waiting::Title, Listing { list, at, out })?;
-                Ok(Turn::On(Now::Open(first)))
-            }
-            None => self.named(seen, trees, node, out),
+        match self.expander.plain_page(trees, node, list)? {
+            Some(page) => self.page_part(seen, trees, node, list, page),
+            None => self.name_part(seen, trees, node, list),
         }
     }
 
