@@ -1,3 +1,4 @@
+pub mod Ascii
 pub mod Colons
 pub mod Legal
 pub mod Names

@@ -4,7 +4,7 @@ ghost use Rattle.std.specs.List.{list_any, prefix_len, starts_with};
 ghost use Rattle.wk_text_rules.specs.Titles.{holds, is_forbidden, begins_with_tildes, begins_with_percent_code, is_reference_character, begins_with_character_reference, has_dot_part, is_legal_key};
 ghost use Rattle.wk_title.specs.Legal.{begins_with_forbidden_text, is_dot_part};
 
-const MOST_BYTES: usize = 255;
+pub const MOST_BYTES: usize = 255;
 
 /// `< > [ ] | { }`, a control character of ASCII, or U+FFFD.
 fn is_forbidden(c: char) -> bool

@@ -1,6 +1,7 @@
 //! Page titles: which title a text names, and how a title is shown.
 #![tactic(auto)]
 
+mod ascii;
 mod characters;
 mod legal;
 mod namespace;

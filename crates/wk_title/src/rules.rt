@@ -4,6 +4,7 @@ ghost use Rattle.wk_text_rules.specs.Titles.{is_namespace, normal, shown};
 ghost use Rattle.wk_title.specs.Placed.{placed_key};
 ghost use Rattle.wk_title.specs.Shown.{shown_namespace};
 
+use crate::ascii::ascii_title;
 use crate::characters::{capitalized, squeezed, to_nfc, without_fragment};
 use crate::legal::is_legal_key;
 use crate::namespace::namespace_name;
@@ -36,11 +37,8 @@ fn placed_key(alloc: Global, text: &str, default_ns: i8) -> Result<(i8, Vec<char
     Ok((ns, key))
 }
 
-/// The title that a text names, where `default_ns` is the number of the namespace that a text without one is in.
-/// The number is one of the table's, which `is_namespace` tells.
-///
-/// `Illegal` comes exactly where the rules give the text no title; `Memory` may come at any text.
-pub fn normalize(alloc: Global, text: &str, default_ns: i8) -> Result<Title, TitleRefusal>
+/// As `normalize`, of any text, by its characters.
+fn normalize_characters(alloc: Global, text: &str, default_ns: i8) -> Result<Title, TitleRefusal>
     requires { is_namespace default_ns ≡ true }
     ensures ok { IfOk result (λ title. normal text.now default_ns ≡ Some title) }
     ensures illegal { result ≡ Err TitleRefusal.Illegal → normal text.now default_ns ≡ None }
@@ -51,6 +49,21 @@ pub fn normalize(alloc: Global, text: &str, default_ns: i8) -> Result<Title, Tit
     }
     let key = key_text(alloc, &key)?;
     Ok(Title::new(ns, key))
+}
+
+/// The title that a text names, where `default_ns` is the number of the namespace that a text without one is in.
+/// The number is one of the table's, which `is_namespace` tells.
+///
+/// `Illegal` comes exactly where the rules give the text no title; `Memory` may come at any text.
+pub fn normalize(alloc: Global, text: &str, default_ns: i8) -> Result<Title, TitleRefusal>
+    requires { is_namespace default_ns ≡ true }
+    ensures ok { IfOk result (λ title. normal text.now default_ns ≡ Some title) }
+    ensures illegal { result ≡ Err TitleRefusal.Illegal → normal text.now default_ns ≡ None }
+{
+    match ascii_title(alloc, text, default_ns)? {
+        Some(title) => Ok(title),
+        None => normalize_characters(alloc, text, default_ns),
+    }
 }
 
 fn push_namespace(into: &mut String, ns: i8)

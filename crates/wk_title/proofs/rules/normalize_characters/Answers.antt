@@ -4,8 +4,8 @@ use mir.Val.{to_z, of_z}
 use Rattle.wk_text_rules.specs.Titles.{is_legal_key, normal}
 use Rattle.wk_title.specs.Placed.{placed_key}
 use Rattle.wk_title.proofs.NormalLemmas.{title_from, none_from, legal_length, name_from}
-use Rattle.wk_title.proofs.rules.normalize.Goals as goal
-use Rattle.wk_title.proofs.rules.normalize.Goals.{In_ok-ns, In_ok-key}
+use Rattle.wk_title.proofs.rules.normalize_characters.Goals as goal
+use Rattle.wk_title.proofs.rules.normalize_characters.Goals.{In_ok-ns, In_ok-key}
 
 placed : (c : In_ok-ns) → (c.in_ok-ns.ns, c.in_ok-ns.key.items) ≡ placed_key c.args.text.now c.args.default_ns
 placed c =
