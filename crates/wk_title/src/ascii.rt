@@ -27,7 +27,7 @@ struct Words {
 
 /// Where a key stands, with what is known of it.
 #[derive(Clone, Copy)]
-pub(crate) struct AsciiKey {
+struct AsciiKey {
     ns: i8,
     start: usize,
     end: usize,

@@ -7,7 +7,7 @@ use std::alloc::{AllocError, Global};
 use std::test::Fail;
 
 /// A text, its default namespace, and the namespace and the key that it names.
-const TITLES: [(&str, i8, i8, &str); 24] = [
+const TITLES: [(&str, i8, i8, &str); 30] = [
     (" talk : foo  bar#x", 0, 1, "Foo_bar"),
     (":Category:x", 0, 14, "X"),
     ("Image:a.png", 0, 6, "A.png"),
@@ -32,9 +32,15 @@ const TITLES: [(&str, i8, i8, &str); 24] = [
     ("a&#x41;b", 0, 0, "A&"),
     ("a~~b", 0, 0, "A~~b"),
     ("tal\u{212a}:a", 0, 1, "A"),
+    ("_:_a:_b", 10, 0, "A:_b"),
+    ("a b#\u{e9}", 0, 0, "A_b"),
+    ("Talk:_a_ .", 0, 1, "A_."),
+    ("talk:.a/..b", 0, 1, ".a/..b"),
+    ("a : b", 0, 0, "A_:_b"),
+    ("User talk:a/b c:d", 10, 3, "A/b_c:d"),
 ];
 
-const NO_TITLES: [&str; 17] = [
+const NO_TITLES: [&str; 22] = [
     "",
     " _ ",
     "#a",
@@ -52,7 +58,19 @@ const NO_TITLES: [&str; 17] = [
     "a\tb",
     "a\u{fffd}",
     "a|",
+    ":",
+    "Talk:./a",
+    "Talk:a%41",
+    "Talk: # a",
+    "_:_",
 ];
+
+/// Bytes of ASCII that a key holds as they are, and how each stands first.
+const KEPT: &str = "!\"$%&'()*+,-./0123456789;=?@ABCDEFGHIJKLMNOPQRSTUVWXYZ\\^`abcdefghijklmnopqrstuvwxyz~";
+const FIRST: &str = "!\"$%&'()*+,-./0123456789;=?@ABCDEFGHIJKLMNOPQRSTUVWXYZ\\^`ABCDEFGHIJKLMNOPQRSTUVWXYZ~";
+
+/// Bytes of ASCII that no key holds; the colon, `#`, the space and the underscore are the others.
+const FORBIDDEN: &str = "\0\u{1}\u{2}\u{3}\u{4}\u{5}\u{6}\u{7}\u{8}\t\n\u{b}\u{c}\r\u{e}\u{f}\u{10}\u{11}\u{12}\u{13}\u{14}\u{15}\u{16}\u{17}\u{18}\u{19}\u{1a}\u{1b}\u{1c}\u{1d}\u{1e}\u{1f}\u{7f}<>[]|{}";
 
 fn title_of(alloc: Global, text: &str, default_ns: i8) -> Result<Title, TitleRefusal> {
     if is_namespace(default_ns) {
@@ -80,6 +98,41 @@ fn refuses_texts(rt: HostRuntime) {
     }
 }
 
+fn key_of(alloc: Global, text: &str) -> Result<Option<String>, AllocError> {
+    match title_of(alloc, text, 0) {
+        Ok(title) => Ok(Some(String::from_str(alloc, title.key())?)),
+        Err(_) => Ok(None),
+    }
+}
+
+/// Whether the key of the text is this, also where text that isn't ASCII is behind it.
+fn is_key(alloc: Global, text: &str, key: &str) -> Result<bool, AllocError> {
+    let mut longer = String::from_str(alloc, text)?;
+    longer.push('\u{200e}')?;
+    let found = key_of(alloc, text)?;
+    let other = key_of(alloc, longer.as_str())?;
+    Ok(found.as_deref() == Some(key) && other.as_deref() == Some(key))
+}
+
+#[test]
+fn takes_each_byte_of_ascii(rt: HostRuntime) -> Result<(), Fail> {
+    let alloc = rt.alloc();
+    assert_eq!(rt; KEPT.len() + FORBIDDEN.len() + 4, 128);
+    for (byte, first) in KEPT.chars().zip(FIRST.chars()) {
+        let inside = format!(in alloc; "a{byte}b")?;
+        let inside_key = format!(in alloc; "A{byte}b")?;
+        assert!(rt; is_key(alloc, inside.as_str(), inside_key.as_str())?, "in {byte:?}");
+        let front = format!(in alloc; "{byte}b")?;
+        let front_key = format!(in alloc; "{first}b")?;
+        assert!(rt; is_key(alloc, front.as_str(), front_key.as_str())?, "at {byte:?}");
+    }
+    for byte in FORBIDDEN.chars() {
+        let inside = format!(in alloc; "a{byte}b")?;
+        assert!(rt; key_of(alloc, inside.as_str())?.is_none(), "in {byte:?}");
+    }
+    Ok(())
+}
+
 fn repeated(alloc: Global, text: &str, times: usize) -> Result<String, AllocError> {
     let mut all = String::new(alloc);
     for _ in 0..times {
@@ -101,6 +154,23 @@ fn takes_255_bytes(rt: HostRuntime) -> Result<(), Fail> {
         let all = repeated(rt.alloc(), text, times)?;
         let legal = title_of(rt.alloc(), all.as_str(), 0).is_ok();
         assert_eq!(rt; legal, is_legal, "{times} times {text:?}");
+    }
+    Ok(())
+}
+
+#[test]
+fn takes_texts_of_any_length(rt: HostRuntime) -> Result<(), Fail> {
+    for spaces in 280..300 {
+        let mut text = repeated(rt.alloc(), " ", spaces)?;
+        text.push_str("help:a")?;
+        let title = title_of(rt.alloc(), text.as_str(), 0)?;
+        assert_eq!(rt; title.ns(), 12, "{spaces} spaces");
+        assert_eq!(rt; title.key(), "A", "{spaces} spaces");
+    }
+    for (bytes, is_legal) in [(255, true), (256, false)] {
+        let mut text = String::from_str(rt.alloc(), "Category talk:")?;
+        text.push_str(repeated(rt.alloc(), "a", bytes)?.as_str())?;
+        assert_eq!(rt; title_of(rt.alloc(), text.as_str(), 0).is_ok(), is_legal, "{bytes} bytes");
     }
     Ok(())
 }
