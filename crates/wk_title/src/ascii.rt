@@ -1,5 +1,5 @@
 //! Titles of texts of ASCII, which most are: one pass over the bytes, and no memory but that of the key.
-ghost use Rattle.std.specs.Prelude.{◌≡◌, ◌==◌, ◌+◌, ◌-◌, ◌≤◌, ◌<◌, ◌||◌, ◌++◌, ◌∷◌, [], true, false, ◌&&◌, nat_lt, nat_le, length, take, drop, Some, None, IfSome, IfOk};
+ghost use Rattle.std.specs.Prelude.{◌≡◌, ◌==◌, ◌+◌, ◌-◌, ◌≤◌, ◌<◌, ◌||◌, ◌++◌, ◌∷◌, [], true, false, ◌&&◌, nat_lt, nat_le, length, take, drop, Some, None, IfOk};
 ghost use Rattle.std.specs.Char.{is_ascii};
 ghost use Rattle.std.specs.List.{list_all, list_any, starts_with};
 ghost use Rattle.wk_text_rules.specs.Titles.{is_colon, capitalized, after_leading_colon, after_namespace, is_legal_key, is_namespace, normal};
@@ -11,7 +11,7 @@ use crate::title::{Title, TitleRefusal};
 use std::alloc::Global;
 use wk_bytes::Text;
 
-/// Room for a key of 255 bytes behind the name of a namespace. Texts of more bytes go the other way.
+/// Room for a key of 255 bytes behind the name of a namespace. Texts of more bytes are normalized by their characters.
 const ROOM: usize = 288;
 
 /// The words of a text, squeezed.
@@ -220,24 +220,28 @@ fn is_legal(key: &[u8], is_dubious: bool) -> bool
     is_legal_sound(key)
 }
 
-/// The title that a text of ASCII names; none where the text holds other characters or is long, so that the other
-/// way has to be gone.
-pub fn ascii_title(alloc: Global, text: &str, default_ns: i8) -> Result<Option<Title>, TitleRefusal>
-    requires { is_namespace default_ns ≡ true }
-    ensures ok { IfOk result (λ found. IfSome found (λ title. normal text.now default_ns ≡ Some title)) }
+/// Whether the text is of ASCII and short, so that `ascii_title` takes it.
+pub fn is_short_ascii(text: &[u8]) -> bool
+    ensures { result ≡ (nat_le (length text.now) 288 && list_all is_ascii text.now) }
+{
+    text.len() <= ROOM && is_ascii(text)
+}
+
+/// The title that a short text of ASCII names.
+pub fn ascii_title(alloc: Global, text: &str, default_ns: i8) -> Result<Title, TitleRefusal>
+    requires namespace { is_namespace default_ns ≡ true }
+    requires short { length text.now ≤ 288 }
+    requires ascii { list_all is_ascii text.now ≡ true }
+    ensures ok { IfOk result (λ title. normal text.now default_ns ≡ Some title) }
     ensures illegal { result ≡ Err TitleRefusal.Illegal → normal text.now default_ns ≡ None }
 {
-    let bytes = text.as_bytes();
-    if ROOM < bytes.len() || !is_ascii(bytes) {
-        return Ok(None);
-    }
     let mut room = [0; ROOM];
-    let found = ascii_key(bytes, default_ns, &mut room);
+    let found = ascii_key(text.as_bytes(), default_ns, &mut room);
     let key = &room[found.start..found.end];
     if !is_legal(key, found.is_dubious) {
         return Err(TitleRefusal::Illegal);
     }
     // SAFETY: the bytes are ASCII.
     let key = Text::new(alloc, unsafe { str::from_utf8_unchecked(key) })?;
-    Ok(Some(Title::new(found.ns, key)))
+    Ok(Title::new(found.ns, key))
 }

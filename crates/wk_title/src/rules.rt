@@ -4,7 +4,7 @@ ghost use Rattle.wk_text_rules.specs.Titles.{is_namespace, normal, shown};
 ghost use Rattle.wk_title.specs.Placed.{placed_key};
 ghost use Rattle.wk_title.specs.Shown.{shown_namespace};
 
-use crate::ascii::ascii_title;
+use crate::ascii::{ascii_title, is_short_ascii};
 use crate::characters::{capitalized, squeezed, to_nfc, without_fragment};
 use crate::legal::is_legal_key;
 use crate::namespace::namespace_name;
@@ -60,10 +60,10 @@ pub fn normalize(alloc: Global, text: &str, default_ns: i8) -> Result<Title, Tit
     ensures ok { IfOk result (λ title. normal text.now default_ns ≡ Some title) }
     ensures illegal { result ≡ Err TitleRefusal.Illegal → normal text.now default_ns ≡ None }
 {
-    match ascii_title(alloc, text, default_ns)? {
-        Some(title) => Ok(title),
-        None => normalize_characters(alloc, text, default_ns),
+    if is_short_ascii(text.as_bytes()) {
+        return ascii_title(alloc, text, default_ns);
     }
+    normalize_characters(alloc, text, default_ns)
 }
 
 fn push_namespace(into: &mut String, ns: i8)

@@ -66,11 +66,15 @@ const NO_TITLES: [&str; 22] = [
 ];
 
 /// Bytes of ASCII that a key holds as they are, and how each stands first.
-const KEPT: &str = "!\"$%&'()*+,-./0123456789;=?@ABCDEFGHIJKLMNOPQRSTUVWXYZ\\^`abcdefghijklmnopqrstuvwxyz~";
-const FIRST: &str = "!\"$%&'()*+,-./0123456789;=?@ABCDEFGHIJKLMNOPQRSTUVWXYZ\\^`ABCDEFGHIJKLMNOPQRSTUVWXYZ~";
+const KEPT: &str =
+    "!\"$%&'()*+,-./0123456789;=?@ABCDEFGHIJKLMNOPQRSTUVWXYZ\\^`abcdefghijklmnopqrstuvwxyz~";
+
+const FIRST: &str =
+    "!\"$%&'()*+,-./0123456789;=?@ABCDEFGHIJKLMNOPQRSTUVWXYZ\\^`ABCDEFGHIJKLMNOPQRSTUVWXYZ~";
 
 /// Bytes of ASCII that no key holds; the colon, `#`, the space and the underscore are the others.
-const FORBIDDEN: &str = "\0\u{1}\u{2}\u{3}\u{4}\u{5}\u{6}\u{7}\u{8}\t\n\u{b}\u{c}\r\u{e}\u{f}\u{10}\u{11}\u{12}\u{13}\u{14}\u{15}\u{16}\u{17}\u{18}\u{19}\u{1a}\u{1b}\u{1c}\u{1d}\u{1e}\u{1f}\u{7f}<>[]|{}";
+const FORBIDDEN: &str =
+    "\0\u{1}\u{2}\u{3}\u{4}\u{5}\u{6}\u{7}\u{8}\t\n\u{b}\u{c}\r\u{e}\u{f}\u{10}\u{11}\u{12}\u{13}\u{14}\u{15}\u{16}\u{17}\u{18}\u{19}\u{1a}\u{1b}\u{1c}\u{1d}\u{1e}\u{1f}\u{7f}<>[]|{}";
 
 fn title_of(alloc: Global, text: &str, default_ns: i8) -> Result<Title, TitleRefusal> {
     if is_namespace(default_ns) {
@@ -121,10 +125,16 @@ fn takes_each_byte_of_ascii(rt: HostRuntime) -> Result<(), Fail> {
     for (byte, first) in KEPT.chars().zip(FIRST.chars()) {
         let inside = format!(in alloc; "a{byte}b")?;
         let inside_key = format!(in alloc; "A{byte}b")?;
-        assert!(rt; is_key(alloc, inside.as_str(), inside_key.as_str())?, "in {byte:?}");
+        assert!(rt;
+            is_key(alloc, inside.as_str(), inside_key.as_str())?,
+            "in {byte:?}"
+        );
         let front = format!(in alloc; "{byte}b")?;
         let front_key = format!(in alloc; "{first}b")?;
-        assert!(rt; is_key(alloc, front.as_str(), front_key.as_str())?, "at {byte:?}");
+        assert!(rt;
+            is_key(alloc, front.as_str(), front_key.as_str())?,
+            "at {byte:?}"
+        );
     }
     for byte in FORBIDDEN.chars() {
         let inside = format!(in alloc; "a{byte}b")?;
@@ -170,7 +180,11 @@ fn takes_texts_of_any_length(rt: HostRuntime) -> Result<(), Fail> {
     for (bytes, is_legal) in [(255, true), (256, false)] {
         let mut text = String::from_str(rt.alloc(), "Category talk:")?;
         text.push_str(repeated(rt.alloc(), "a", bytes)?.as_str())?;
-        assert_eq!(rt; title_of(rt.alloc(), text.as_str(), 0).is_ok(), is_legal, "{bytes} bytes");
+        assert_eq!(rt;
+            title_of(rt.alloc(), text.as_str(), 0).is_ok(),
+            is_legal,
+            "{bytes} bytes"
+        );
     }
     Ok(())
 }
