@@ -71,6 +71,7 @@ impl Text {
     }
 
     /// The same text for a further owner, of which std's shared pointer may refuse one.
+    #[inline(always)]
     pub fn share(&self) -> Result<Text, Memory>
         ensures { IfOk result (λ text. text ≡ self.now) }
     {

@@ -48,6 +48,7 @@ impl Out {
     }
 
     /// Appends runs, with their text and lengths as they are.
+    #[inline(always)]
     fn extend(&mut self, runs: &Runs<'_>) -> Result<(), Memory>
         ensures ok { OnOk result (self.new ≡ self.old ++ joined runs.now) }
         ensures err { OnErr result (self.new ≡ self.old) }
@@ -76,6 +77,7 @@ impl Out {
         Ok(())
     }
 
+    #[inline(always)]
     fn push(&mut self, text: &str, sealed: bool) -> Result<(), Memory>
         ensures ok { OnOk result (self.new ≡ self.old ++ marked sealed text.now) }
         ensures err { OnErr result (self.new ≡ self.old) }
