@@ -1,5 +1,5 @@
 //! What is bound for a part of a template (MediaWiki's Help:Templates).
-ghost use Rattle.std.specs.Prelude.{◌≡◌, OnOk, decimal};
+ghost use Rattle.std.specs.Prelude.{◌≡◌, IfSome, OnOk, decimal};
 ghost use Rattle.std.specs.FinMap as map;
 ghost use Rattle.wk_text_rules.specs.Marked.{plain_text_of, trimmed_output};
 ghost use Rattle.wk_expand.specs.Bindings.{named_in};
@@ -21,6 +21,24 @@ pub fn bind(args: &mut Args<Bound>, name: &str, value: Bound) -> Result<(), Memo
     }
 }
 
+/// A number from 1 to 9, as a decimal text.
+fn digit(number: u64) -> Option<&'static str>
+    ensures { IfSome result (λ text. text.now ≡ decimal number) }
+{
+    match number {
+        1 => Some("1"),
+        2 => Some("2"),
+        3 => Some("3"),
+        4 => Some("4"),
+        5 => Some("5"),
+        6 => Some("6"),
+        7 => Some("7"),
+        8 => Some("8"),
+        9 => Some("9"),
+        _ => None,
+    }
+}
+
 /// Binds a number, as a decimal text, to a value.
 pub fn bind_number(
     alloc: Global,
@@ -30,6 +48,9 @@ pub fn bind_number(
 ) -> Result<(), Memory>
     ensures { OnOk result (args.new ≡ map.insert args.old (decimal number) value) }
 {
+    if let Some(name) = digit(number) {
+        return bind(args, name, value);
+    }
     let name = number.to_string(alloc)?;
     bind(args, &name, value)
 }
