@@ -1,16 +1,16 @@
 -- What the tokens of a tree are laid out to.
-use Rattle.std.proofs.Common.{◌≡◌, ◌≢◌, ℕ, zero, suc, ◌+◌, ◌*◌, ◌==◌, Bool, true, false, if◌then◌else◌, List, [], ◌∷◌, ◌++◌, length, map, replicate, codes, Option, Some, None, refl, ap, sym, subst, ◌∙◌, arith, append_assoc, append-nil, length-append}
+use Rattle.std.proofs.Common.{◌≡◌, ◌≢◌, ℕ, zero, suc, ◌+◌, ◌-◌, ◌*◌, ◌<◌, ◌≤◌, ◌==◌, Bool, true, false, if◌then◌else◌, List, [], ◌∷◌, ◌++◌, length, map, replicate, codes, Option, Some, None, get_or, drop, drop-cons, refl, ap, sym, subst, ◌∙◌, arith, append_assoc, append-nil, length-append}
 use Rattle.std.proofs.lemmas.Bool.Decides.{nat_tests}
 use Rattle.std.proofs.lemmas.List.{map-append, length-replicate}
 use Rattle.std.proofs.lemmas.List.Concat.{flat_map-append}
-use Rattle.wk_tree.specs.Layout.{SectionShown, ValueShown, NodeShown, OpenNodeShown, LayoutShown, no_section, no_open_node, put, put_each, joined, with_item, with_equals, new_part, with_bar, braces_of, new_node, with_node, laid}
+use Rattle.wk_tree.specs.Layout.{SectionShown, ValueShown, NodeShown, OpenNodeShown, LayoutShown, no_section, no_open_node, put, put_each, joined, with_item, with_equals, new_part, with_bar, braces_of, new_node, with_node, with_token, laid}
 use Rattle.wk_tree.specs.Shown.{from_end, ShowsItem, shows_plain, shows_sealed, shows_nothing, shows_node, ShowsItems, no_items, one_more, no_name, a_name, ShowsPart, no_parts, part_more, ShowsNode, ShowsNodes, no_nodes, node_more, ShowsSection, ShowsSegment, no_equals, at_equals, ShowsOpenNode, ShowsOpenNodes, no_open_nodes, open_node_more, ShowsLayout}
 use Rattle.wk_tree.specs.Tokens.{opens, fills, text_tokens, is_argument, opening_tokens, item_tokens, content_tokens, items_tokens}
 use Rattle.wk_tree.specs.Tree.{IsLaidAs}
 use Rattle.wk_tree.specs.declared.item.Item.{Item}
 use Rattle.wk_tree.specs.declared.item.Item.TheVariants as code
 use Rattle.wk_tree.specs.declared.token.Token.{Token}
-use Rattle.wk_tree.specs.declared.token.Token.TheVariants.{Fill, NodeEnd}
+use Rattle.wk_tree.specs.declared.token.Token.TheVariants.{Plain, Fill, NodeEnd}
 use Rattle.wk_tree_laws.proofs.ListLemmas.{entries-text, plain_entries-source}
 use Rattle.wk_tree_laws.proofs.PieceLemmas.{entry_source, entries_source}
 use Rattle.wk_tree_laws.proofs.TreeLemmas.{merged-source}
@@ -296,3 +296,11 @@ is-laid items tokens l root found t e r f =
       root_shows = subst (λ x. ShowsItems ns x (merged items)) (sym (r ∙ ap (λ (m : LayoutShown). (joined m.open_node.section m.open_node.value).items) is)) first;
       nodes_show = subst (λ x. ShowsNodes ns x ns) (sym (f ∙ ap (λ (m : LayoutShown). m.nodes) is)) (subst (λ m. ShowsNodes ns (laid (items_tokens items)).nodes m) (sym same) k.nodes);
     }
+
+-- the last token before a place, with what stands from there on
+pub laid-more : (tokens : List Token) (at : ℕ) (x : Token) → 0 < at → at ≤ length tokens → get_or tokens (at - 1) (Plain 0 0) ≡ x → laid (drop (at - 1) tokens) ≡ with_token x (laid (drop at tokens))
+laid-more tokens at x some within is =
+    let next : suc (at - 1) ≡ at = omega (arith, some) in
+    ap laid (drop-cons tokens (at - 1) (Plain 0 0) (omega (arith, some, within)))
+    ∙ ap (λ y. with_token y (laid (drop (suc (at - 1)) tokens))) is
+    ∙ ap (λ n. with_token x (laid (drop n tokens))) next

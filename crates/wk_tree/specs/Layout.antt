@@ -9,7 +9,6 @@ use Rattle.wk_tree.specs.declared.layout.Layout.{Layout}
 use Rattle.wk_tree.specs.declared.layout.NodeLists.{NodeLists}
 use Rattle.wk_tree.specs.declared.layout.PartLists.{PartLists}
 use Rattle.wk_tree.specs.declared.layout.Section.{Section}
-use Rattle.wk_tree.specs.declared.layout.Value.{Value}
 use Rattle.wk_tree.specs.declared.token.Token.{Token}
 use Rattle.wk_tree.specs.declared.token.Token.TheVariants.{Plain, Sealed, Nothing, Bar, Equals, NodeStart, NodeEnd, Fill}
 
@@ -71,8 +70,9 @@ items_of section = items_by section.first section.others.items
 abbrev pub section_of : Section → SectionShown
 section_of section = record { items = items_of section; len = section.len }
 
-abbrev pub value_of : Value → ValueShown
-value_of value = record { equals = value.equals; section = section_of value.section }
+-- the place of an equals sign, and what stands behind it
+abbrev pub value_by : Section → ℕ → ValueShown
+value_by section at = record { equals = at; section = section_of section }
 
 abbrev pub part_of : PartLists → PartShown
 part_of part = record { name = option_map listed part.name; value = listed part.value; start = part.start; len = part.len }
@@ -83,7 +83,7 @@ node_of n = record { argument = n.argument; start = n.start; len = n.len; title 
 abbrev pub open_node_of : OpenNode → OpenNodeShown
 open_node_of open_node = record {
   section = section_of open_node.section;
-  value = option_map value_of open_node.value;
+  value = option_map (value_by open_node.value) open_node.equals;
   parts = map part_of (reverse open_node.parts.items);
   total = open_node.total;
 }

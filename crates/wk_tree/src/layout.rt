@@ -1,10 +1,10 @@
 //! The lists of a tree, laid out from the last token to the first.
-ghost use Rattle.std.specs.Prelude.{◌≡◌, ◌+◌, ◌<◌, ◌^◌, List, [], ◌∷◌, length, map, reverse, option_map, Some, OnOk, IfOk};
+ghost use Rattle.std.specs.Prelude.{◌≡◌, ◌+◌, ◌<◌, ◌≤◌, ◌^◌, List, [], ◌∷◌, drop, length, map, reverse, option_map, Some, OnOk, IfOk};
 ghost use Rattle.wk_tree.specs.Tokens.{items_tokens};
 ghost use Rattle.wk_tree.specs.Tree.{IsLaidAs};
 ghost use Rattle.wk_tree_rules.specs.Trees.{Item as TreeItem};
 ghost use Rattle.std.specs.Slice.Iter.{iter_rest};
-ghost use Rattle.wk_tree.specs.Layout.{listed, items_by, items_of, section_of, value_of, part_of, node_of, open_node_of, layout_of, no_section, no_open_node, put_each, joined, put, with_item, with_equals, new_part, with_bar, new_node, with_node, with_token, laid};
+ghost use Rattle.wk_tree.specs.Layout.{LayoutShown, listed, items_by, items_of, section_of, value_by, part_of, node_of, open_node_of, layout_of, no_section, no_open_node, put_each, joined, put, with_item, with_equals, new_part, with_bar, new_node, with_node, with_token, laid};
 
 use crate::item::{Item, NodeId};
 use crate::token::Token;
@@ -42,13 +42,6 @@ pub struct Section {
     pub len: u32,
 }
 
-/// An equals sign, and what stands behind it.
-#[derive(Debug, Drop)]
-pub struct Value {
-    pub equals: u32,
-    pub section: Section,
-}
-
 /// The lists of a part, and the span of its value.
 #[derive(Debug, Drop)]
 pub struct PartLists {
@@ -68,12 +61,13 @@ pub struct NodeLists {
     pub parts: Vec<PartLists>,
 }
 
-/// What was met of a node: the items up to the next equals sign or bar, the value behind them, the parts behind it
-/// from the last to the first, and how many bytes all stand for.
+/// What was met of a node: the items up to the next equals sign or bar, the place of the equals sign if it is one, the
+/// items behind it, the parts behind them from the last to the first, and how many bytes all stand for.
 #[derive(Debug, Drop)]
 pub struct OpenNode {
     pub section: Section,
-    pub value: Option<Value>,
+    pub equals: Option<u32>,
+    pub value: Section,
     pub parts: Vec<PartLists>,
     pub total: u32,
 }
@@ -102,7 +96,8 @@ fn no_open_node(alloc: Global) -> OpenNode
 {
     OpenNode {
         section: no_section(alloc),
-        value: None,
+        equals: None,
+        value: no_section(alloc),
         parts: Vec::new(alloc),
         total: 0,
     }
@@ -159,54 +154,81 @@ fn push_item(open_node: &mut OpenNode, item: Item, len: u32) -> Result<(), Memor
     Ok(())
 }
 
-/// Items before an equals sign that is plain text, and what stands behind it.
-fn join_value(section: Section, value: Value) -> Result<Section, Memory>
-    ensures { IfOk result (λ whole. section_of whole ≡ joined (section_of section) (Some (value_of value))) }
+/// No items are left.
+#[inline(always)]
+fn clear(section: &mut Section)
+    ensures { section_of section.new ≡ no_section }
 {
-    let start = value.equals;
-    let behind = value.section;
-    let len = sum(section.len, sum(1, behind.len)?)?;
-    let mut whole = behind;
-    put(&mut whole, Item::Plain { start, len: 1 })?;
+    section.first = None;
+    section.len = 0;
+}
+
+/// The items of a section become those of another.
+#[inline(always)]
+fn shift(section: &mut Section, value: &mut Section)
+    ensures value { section_of value.new ≡ section_of section.old }
+    ensures section { section_of section.new ≡ no_section }
+{
+    mem::swap(section, value);
+    clear(section);
+}
+
+/// Items before an equals sign that is plain text go before those behind it.
+fn join_value(section: &mut Section, equals: u32, value: &mut Section) -> Result<(), Memory>
+    ensures value { OnOk result (section_of value.new ≡ joined (section_of section.old) (Some (value_by value.old equals))) }
+    ensures section { OnOk result (section_of section.new ≡ no_section) }
+{
+    let len = sum(section.len, sum(1, value.len)?)?;
+    put(
+        value,
+        Item::Plain {
+            start: equals,
+            len: 1,
+        },
+    )?;
     if let Some(first) = section.first {
-        put_each(&mut whole, &section.others)?;
-        put(&mut whole, first)?;
+        put_each(value, &section.others)?;
+        put(value, first)?;
     }
-    whole.len = len;
-    Ok(whole)
+    value.len = len;
+    clear(section);
+    Ok(())
 }
 
-/// The same where there may be no equals sign.
+/// All items of a node's part or title go behind its first equals sign, of which the place may be known.
 #[inline(always)]
-fn join(section: Section, value: Option<Value>) -> Result<Section, Memory>
-    ensures { IfOk result (λ whole. section_of whole ≡ joined (section_of section) (option_map value_of value)) }
+fn join(section: &mut Section, equals: Option<u32>, value: &mut Section) -> Result<(), Memory>
+    ensures value { OnOk result (section_of value.new ≡ joined (section_of section.old) (option_map (value_by value.old) equals)) }
+    ensures section { OnOk result (section_of section.new ≡ no_section) }
 {
-    match value {
-        None => Ok(section),
-        Some(value) => join_value(section, value),
+    match equals {
+        None => {
+            shift(section, value);
+            Ok(())
+        }
+        Some(equals) => join_value(section, equals, value),
     }
 }
 
 #[inline(always)]
-fn push_equals(alloc: Global, open_node: &mut OpenNode, start: u32) -> Result<(), Memory>
+fn push_equals(open_node: &mut OpenNode, start: u32) -> Result<(), Memory>
     ensures { OnOk result (open_node_of open_node.new ≡ with_equals start (open_node_of open_node.old)) }
 {
-    let section = mem::replace(&mut open_node.section, no_section(alloc));
-    let value = mem::replace(&mut open_node.value, None);
-    let section = join(section, value)?;
-    open_node.value = Some(Value {
-        equals: start,
-        section,
-    });
+    join(
+        &mut open_node.section,
+        open_node.equals,
+        &mut open_node.value,
+    )?;
+    open_node.equals = Some(start);
     open_node.total = sum(1, open_node.total)?;
     Ok(())
 }
 
 /// The items in the order of the text, where there are more than one.
-fn many_in_order(first: Item, others: Vec<Item>) -> Result<Listed, Memory>
-    ensures { IfOk result (λ list. listed list ≡ items_by (Some first) others.items) }
+fn many_in_order(alloc: Global, first: Item, others: &mut Vec<Item>) -> Result<Listed, Memory>
+    ensures { IfOk result (λ list. listed list ≡ items_by (Some first) others.old.items) }
 {
-    let mut items = others;
+    let mut items = mem::replace(others, Vec::new(alloc));
     items.push(first)?;
     items.reverse();
     Ok(Listed::Many(items))
@@ -214,8 +236,8 @@ fn many_in_order(first: Item, others: Vec<Item>) -> Result<Listed, Memory>
 
 /// The items in the order of the text.
 #[inline(always)]
-fn in_order(section: Section) -> Result<Listed, Memory>
-    ensures { IfOk result (λ list. listed list ≡ items_of section) }
+fn in_order(alloc: Global, section: &mut Section) -> Result<Listed, Memory>
+    ensures { IfOk result (λ list. listed list ≡ items_of section.old) }
 {
     let Some(first) = section.first else {
         return Ok(Listed::Empty);
@@ -223,15 +245,23 @@ fn in_order(section: Section) -> Result<Listed, Memory>
     if section.others.is_empty() {
         return Ok(Listed::One(first));
     }
-    many_in_order(first, section.others)
+    many_in_order(alloc, first, &mut section.others)
 }
 
-fn new_part(start: u32, section: Section, value: Option<Value>) -> Result<PartLists, Memory>
-    ensures { IfOk result (λ part. part_of part ≡ new_part start (section_of section) (option_map value_of value)) }
+/// The part behind a bar.
+#[inline(always)]
+fn new_part(
+    alloc: Global,
+    start: u32,
+    section: &mut Section,
+    equals: Option<u32>,
+    value: &mut Section,
+) -> Result<PartLists, Memory>
+    ensures { IfOk result (λ part. part_of part ≡ new_part start (section_of section.old) (option_map (value_by value.old) equals)) }
 {
     let len = section.len;
-    let items = in_order(section)?;
-    match value {
+    let items = in_order(alloc, section)?;
+    match equals {
         None => {
             Ok(PartLists {
                 name: None,
@@ -240,13 +270,12 @@ fn new_part(start: u32, section: Section, value: Option<Value>) -> Result<PartLi
                 len,
             })
         }
-        Some(value) => {
-            let start = sum(value.equals, 1)?;
-            let behind = value.section;
-            let len = behind.len;
+        Some(equals) => {
+            let start = sum(equals, 1)?;
+            let len = value.len;
             Ok(PartLists {
                 name: Some(items),
-                value: in_order(behind)?,
+                value: in_order(alloc, value)?,
                 start,
                 len,
             })
@@ -258,22 +287,57 @@ fn new_part(start: u32, section: Section, value: Option<Value>) -> Result<PartLi
 fn push_bar(alloc: Global, open_node: &mut OpenNode, start: u32) -> Result<(), Memory>
     ensures { OnOk result (open_node_of open_node.new ≡ with_bar start (open_node_of open_node.old)) }
 {
-    let section = mem::replace(&mut open_node.section, no_section(alloc));
-    let value = mem::replace(&mut open_node.value, None);
-    let part = new_part(start, section, value)?;
+    let part = new_part(
+        alloc,
+        start,
+        &mut open_node.section,
+        open_node.equals,
+        &mut open_node.value,
+    )?;
     open_node.parts.push(part)?;
+    clear(&mut open_node.section);
+    open_node.equals = None;
     open_node.total = sum(1, open_node.total)?;
     Ok(())
 }
 
-fn new_node(argument: bool, start: u32, open_node: OpenNode) -> Result<NodeLists, Memory>
-    ensures { IfOk result (λ n. node_of n ≡ new_node argument start (open_node_of open_node)) }
+/// The items of a node's title.
+#[inline(always)]
+fn title(
+    alloc: Global,
+    section: &mut Section,
+    equals: Option<u32>,
+    value: &mut Section,
+) -> Result<Listed, Memory>
+    ensures { IfOk result (λ list. listed list ≡ (joined (section_of section.old) (option_map (value_by value.old) equals)).items) }
+{
+    match equals {
+        None => in_order(alloc, section),
+        Some(equals) => {
+            join_value(section, equals, value)?;
+            in_order(alloc, value)
+        }
+    }
+}
+
+#[inline(always)]
+fn new_node(
+    alloc: Global,
+    argument: bool,
+    start: u32,
+    open_node: &mut OpenNode,
+) -> Result<NodeLists, Memory>
+    ensures { IfOk result (λ n. node_of n ≡ new_node argument start (open_node_of open_node.old)) }
 {
     let braces = if argument { 6 } else { 4 };
     let len = sum(braces, open_node.total)?;
-    let whole = join(open_node.section, open_node.value)?;
-    let title = in_order(whole)?;
-    let mut parts = open_node.parts;
+    let title = title(
+        alloc,
+        &mut open_node.section,
+        open_node.equals,
+        &mut open_node.value,
+    )?;
+    let mut parts = mem::replace(&mut open_node.parts, Vec::new(alloc));
     parts.reverse();
     Ok(NodeLists {
         argument,
@@ -287,15 +351,14 @@ fn new_node(argument: bool, start: u32, open_node: OpenNode) -> Result<NodeLists
 fn push_node(alloc: Global, layout: &mut Layout, argument: bool, start: u32) -> Result<(), Memory>
     ensures { OnOk result (layout_of layout.new ≡ with_node argument start (layout_of layout.old)) }
 {
-    let outer = match layout.outer.pop() {
-        Some(open_node) => open_node,
-        None => no_open_node(alloc),
-    };
-    let open_node = mem::replace(&mut layout.open_node, outer);
-    let made = new_node(argument, start, open_node)?;
+    let made = new_node(alloc, argument, start, &mut layout.open_node)?;
     let len = made.len;
     let id = NodeId(layout.nodes.len());
     layout.nodes.push(made)?;
+    layout.open_node = match layout.outer.pop() {
+        Some(open_node) => open_node,
+        None => no_open_node(alloc),
+    };
     push_item(&mut layout.open_node, Item::Node(id), len)?;
     Ok(())
 }
@@ -309,16 +372,51 @@ fn end_node(alloc: Global, layout: &mut Layout) -> Result<(), Memory>
     Ok(())
 }
 
+/// Plain text of so many bytes before what was laid out.
+#[inline(always)]
+fn push_text(layout: &mut Layout, start: u32, len: u32) -> Result<(), Memory>
+    ensures { OnOk result (layout_of layout.new ≡ with_token (Token.Plain start len) (layout_of layout.old)) }
+{
+    push_item(&mut layout.open_node, Item::Plain { start, len }, len)
+}
+
+/// The place of the first of the tokens of plain text that stand before a place, the place of the first byte of their
+/// text, and how many bytes it has with the text behind the place.
+#[inline(always)]
+fn text_before(
+    tokens: &[Token],
+    end: usize,
+    start: u32,
+    len: u32,
+) -> Result<(usize, u32, u32), Memory>
+    requires { end ≤ length tokens.now }
+    ensures within { IfOk result (λ run. run.0 ≤ end) }
+    ensures laid { IfOk result (λ run. (behind : LayoutShown) → laid (drop end tokens.now) ≡ with_token (Token.Plain start len) behind → laid (drop run.0 tokens.now) ≡ with_token (Token.Plain run.1 run.2) behind) }
+{
+    let mut at = end;
+    let mut first = start;
+    let mut total = len;
+    while 0 < at {
+        match tokens[at - 1] {
+            Token::Plain { start, len } => {
+                first = start;
+                total = sum(len, total)?;
+            }
+            Token::Fill => {}
+            _ => return Ok((at, first, total)),
+        }
+        at -= 1;
+    }
+    Ok((at, first, total))
+}
+
+/// Another token than plain text before what was laid out.
 #[inline(always)]
 fn step(alloc: Global, layout: &mut Layout, token: Token) -> Result<(), Memory>
     ensures { OnOk result (layout_of layout.new ≡ with_token token (layout_of layout.old)) }
 {
     match token {
-        Token::Plain { start, len } => push_item(
-            &mut layout.open_node,
-            Item::Plain { start, len },
-            len,
-        ),
+        Token::Plain { start, len } => push_text(layout, start, len),
         Token::Sealed { start, len } => push_item(
             &mut layout.open_node,
             Item::Sealed { start, len },
@@ -330,10 +428,38 @@ fn step(alloc: Global, layout: &mut Layout, token: Token) -> Result<(), Memory>
             len,
         ),
         Token::Bar { start } => push_bar(alloc, &mut layout.open_node, start),
-        Token::Equals { start } => push_equals(alloc, &mut layout.open_node, start),
+        Token::Equals { start } => push_equals(&mut layout.open_node, start),
         Token::NodeStart { argument, start } => push_node(alloc, layout, argument, start),
         Token::NodeEnd => end_node(alloc, layout),
         Token::Fill => Ok(()),
+    }
+}
+
+/// The last token that wasn't laid out and, where it is plain text, all plain text that stands with it. The place of the
+/// first of them.
+#[inline(always)]
+fn step_before(
+    alloc: Global,
+    layout: &mut Layout,
+    tokens: &[Token],
+    at: usize,
+) -> Result<usize, Memory>
+    requires within { at ≤ length tokens.now }
+    requires some { 0 < at }
+    ensures within { IfOk result (λ first. first < at) }
+    ensures laid { IfOk result (λ first. layout_of layout.old ≡ laid (drop at tokens.now) → layout_of layout.new ≡ laid (drop first tokens.now)) }
+{
+    let last = at - 1;
+    match tokens[last] {
+        Token::Plain { start, len } => {
+            let (first, start, len) = text_before(tokens, last, start, len)?;
+            push_text(layout, start, len)?;
+            Ok(first)
+        }
+        token => {
+            step(alloc, layout, token)?;
+            Ok(last)
+        }
     }
 }
 
@@ -348,8 +474,7 @@ pub fn lay(alloc: Global, tokens: &[Token]) -> Result<Layout, Memory>
     };
     let mut at = tokens.len();
     while 0 < at {
-        at -= 1;
-        step(alloc, &mut layout, tokens[at])?;
+        at = step_before(alloc, &mut layout, tokens, at)?;
     }
     Ok(layout)
 }
@@ -358,9 +483,12 @@ pub fn lay(alloc: Global, tokens: &[Token]) -> Result<Layout, Memory>
 pub fn finish(alloc: Global, tokens: &[Token]) -> Result<(Listed, Vec<NodeLists>), Memory>
     ensures { IfOk result (λ found. (items : List TreeItem) → laid tokens.now ≡ laid (items_tokens items) → IsLaidAs items (listed found.0) (map node_of (reverse found.1.items))) }
 {
-    let layout = lay(alloc, tokens)?;
-    let open_node = layout.open_node;
-    let whole = join(open_node.section, open_node.value)?;
-    let root = in_order(whole)?;
+    let mut layout = lay(alloc, tokens)?;
+    let root = title(
+        alloc,
+        &mut layout.open_node.section,
+        layout.open_node.equals,
+        &mut layout.open_node.value,
+    )?;
     Ok((root, layout.nodes))
 }

@@ -1,9 +1,7 @@
-use Rattle.std.proofs.Common.{◌∙◌, ap, refl}
-use Rattle.wk_tree.specs.Layout.{layout_of, SectionShown}
+use Rattle.std.proofs.Common.{refl}
+use Rattle.wk_tree.specs.Layout.{layout_of}
 use Rattle.wk_tree.proofs.LayoutLemmas.{is-laid}
 use Rattle.wk_tree.proofs.layout.finish.Goals as goal
 
 pub returns : goal.returns
-returns c = λ items t.
-    is-laid items c.args.tokens.now (layout_of c.in_ok-layout.layout) _ _ t c.in_ok-layout.ensures
-    (c.in_ok-root.ensures ∙ ap (λ (s : SectionShown). s.items) c.in_ok-whole.ensures) refl
+returns c = λ items t. is-laid items c.args.tokens.now (layout_of c.in_ok-layout.layout) _ _ t c.in_ok-layout.ensures c.in_ok-root.ensures refl
