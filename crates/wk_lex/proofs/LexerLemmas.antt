@@ -9,12 +9,12 @@ use Rattle.wk_tree_laws.proofs.PieceLemmas.{all-back}
 use Rattle.wk_tree_rules.specs.Atoms.{after_newline, atom_shapes, atom_at, atoms}
 use Rattle.wk_tree_rules.specs.Tags.{line_of_comments}
 use Rattle.wk_tree_rules.specs.declared.AtomKind.{AtomKind}
-use Rattle.wk_tree_rules.specs.declared.AtomKind.TheVariants.{Byte}
+use Rattle.wk_tree_rules.specs.declared.AtomKind.TheVariants.{LineComment, Comment, Sealed, Ignored, Tag, Open, Close, Bar, Equals, Byte}
 use Rattle.wk_tree_rules.specs.declared.Mode.{Mode}
-use Rattle.wk_lex.specs.Ahead.{atoms_from, byte_atoms, AreSources, IsLongest, IsNextAt, AreBytes, behind_newline, before_mark}
-use Rattle.wk_lex.specs.FirstBytes.{GoesOn, within_a_line, no_first_of_a_line, behind_a_newline, before_a_mark}
+use Rattle.wk_lex.specs.Ahead.{atoms_from, byte_atoms, AreSources, IsLongest, IsNextAt, AreBytes, one_mark, behind_newline, before_mark}
+use Rattle.wk_lex.specs.FirstBytes.{IsNoLineAt, GoesOn, within_a_line, no_first_of_a_line, behind_a_newline, before_a_mark}
 use Rattle.wk_lex.specs.Places.{EndsAt, byte_before}
-use Rattle.wk_lex.specs.Spans.{source_in, span_of, IsAtomAt, IsPlain, IsRunByKind}
+use Rattle.wk_lex.specs.Spans.{source_in, span_of, is_mark, IsAtomAt, IsPlain, IsRunByKind}
 use Rattle.wk_lex.proofs.AtomSteps.{atom_from, run-by_kind}
 use Rattle.wk_lex.proofs.FirstLemmas.{no-line}
 use Rattle.wk_lex.proofs.PlainLemmas.{plain-seen}
@@ -177,3 +177,63 @@ module _ (mode : Mode) (text : List ℕ) where
       all-back (λ (s : Span AtomKind ℕ). IsSourceOf s.kind s.source) (byte_atoms at (take (end - at) (drop at text))) (atoms_from mode text end) (subst AreSources k.atoms all),
     );
   }
+
+  -- ---- a mark
+
+  byte-end : (at end : ℕ) → IsAtomAt mode text at (Byte, end) → end ≡ at + 1
+  byte-end at end here =
+      let one = byte-here at Byte end refl here in
+      let same : drop end text ≡ drop (at + 1) text = ap (λ (p : AtomKind × List ℕ). p.1) (sym here.fits ∙ one.fits) in
+      omega (arith, here.within.0, here.within.1, one.within.1, ap length same, length-drop end text, length-drop (at + 1) text)
+
+  -- an atom that begins with a mark, which is one byte alone where it is a byte
+  pub next-mark : (at : ℕ) (kind : AtomKind) (end : ℕ) → is_mark (get_or text at 0) ≡ true → IsAtomAt mode text at (kind, end) → IsNextAt mode text at (kind, end)
+  next-mark at LineComment end mark here = next-other at LineComment end (λ e. absurd (cc)) here
+  next-mark at Comment end mark here = next-other at Comment end (λ e. absurd (cc)) here
+  next-mark at Sealed end mark here = next-other at Sealed end (λ e. absurd (cc)) here
+  next-mark at Ignored end mark here = next-other at Ignored end (λ e. absurd (cc)) here
+  next-mark at Tag end mark here = next-other at Tag end (λ e. absurd (cc)) here
+  next-mark at Open end mark here = next-other at Open end (λ e. absurd (cc)) here
+  next-mark at Close end mark here = next-other at Close end (λ e. absurd (cc)) here
+  next-mark at Bar end mark here = next-other at Bar end (λ e. absurd (cc)) here
+  next-mark at Equals end mark here = next-other at Equals end (λ e. absurd (cc)) here
+  next-mark at Byte end mark here =
+      let one = byte-end at end here in
+      subst (λ n. IsNextAt mode text at (Byte, n)) (sym one) (next-bytes at Byte (at + 1) refl (bytes-one at (byte-here at Byte end refl here)) (one_mark mark refl))
+
+  -- the same of a mark with which no line of comments begins
+  pub mark-next : (b at : ℕ) (found : AtomKind × ℕ) → b ≢ 60 → b ≢ 32 → b ≢ 9 → is_mark b ≡ true → at < length text → get_or text at 0 ≡ b → (IsNoLineAt text at → IsAtomAt mode text at found) → IsNextAt mode text at found
+  mark-next b at found angle space tab mark within is f =
+      next-mark at found.0 found.1 (ap is_mark is ∙ mark) (f (no-line text at within (λ e. angle (sym is ∙ e)) (λ e. space (sym is ∙ e)) (λ e. tab (sym is ∙ e))))
+
+  -- a space or a tab that isn't the first byte of a line
+  pub blank-inside : (b at : ℕ) → IsPlain b → 0 < at → at < length text → get_or text (at - 1) 0 ≢ 10 → get_or text at 0 ≡ b → IsAtomAt mode text at (Byte, at + 1)
+  blank-inside b at plain some within ne is = byte-inside at some within ne (subst IsPlain (sym is) plain)
+
+plain-space : IsPlain 32
+plain-space = record {
+  angle = λ e. absurd (omega (arith, e));
+  open_brace = λ e. absurd (omega (arith, e));
+  open_bracket = λ e. absurd (omega (arith, e));
+  close_brace = λ e. absurd (omega (arith, e));
+  close_bracket = λ e. absurd (omega (arith, e));
+  bar = λ e. absurd (omega (arith, e));
+  equals = λ e. absurd (omega (arith, e));
+}
+
+plain-tab : IsPlain 9
+plain-tab = record {
+  angle = λ e. absurd (omega (arith, e));
+  open_brace = λ e. absurd (omega (arith, e));
+  open_bracket = λ e. absurd (omega (arith, e));
+  close_brace = λ e. absurd (omega (arith, e));
+  close_bracket = λ e. absurd (omega (arith, e));
+  bar = λ e. absurd (omega (arith, e));
+  equals = λ e. absurd (omega (arith, e));
+}
+
+pub space-inside : (mode : Mode) (text : List ℕ) (at : ℕ) → 0 < at → at < length text → get_or text (at - 1) 0 ≢ 10 → get_or text at 0 ≡ 32 → IsAtomAt mode text at (Byte, at + 1)
+space-inside mode text at some within ne is = blank-inside mode text 32 at plain-space some within ne is
+
+pub tab-inside : (mode : Mode) (text : List ℕ) (at : ℕ) → 0 < at → at < length text → get_or text (at - 1) 0 ≢ 10 → get_or text at 0 ≡ 9 → IsAtomAt mode text at (Byte, at + 1)
+tab-inside mode text at some within ne is = blank-inside mode text 9 at plain-tab some within ne is

@@ -96,7 +96,7 @@ fn angle_at(tags: &mut Tags, mode: Mode, at: usize) -> (AtomKind, usize)
 
 /// The same at an opening brace or bracket.
 #[inline(always)]
-fn opening_at(text: &[u8], at: usize) -> (AtomKind, usize)
+pub fn opening_at(text: &[u8], at: usize) -> (AtomKind, usize)
     requires within { at < length text.now }
     requires opening { IsOpening (slice_index text.now at) }
     ensures { (mode : ReadingMode) → IsNoLineAt text.now at → IsAtomAt mode text.now at result }
@@ -109,7 +109,7 @@ fn opening_at(text: &[u8], at: usize) -> (AtomKind, usize)
 
 /// The same at a closing brace or bracket.
 #[inline(always)]
-fn closing_at(text: &[u8], at: usize) -> (AtomKind, usize)
+pub fn closing_at(text: &[u8], at: usize) -> (AtomKind, usize)
     requires within { at < length text.now }
     requires closing { IsClosing (slice_index text.now at) }
     ensures { (mode : ReadingMode) → IsNoLineAt text.now at → IsAtomAt mode text.now at result }

@@ -1,14 +1,15 @@
 //! The atoms of a text one after another.
-ghost use Rattle.std.specs.Prelude.{◌≡◌, ◌+◌, ◌<◌, ◌≤◌, ◌^◌, [], length, MatchOption};
+ghost use Rattle.std.specs.Prelude.{◌≡◌, ◌+◌, ◌<◌, ◌≤◌, ◌^◌, [], length, slice_index, MatchOption};
+ghost use Rattle.std.specs.Bool.{OnTrue};
 ghost use Rattle.wk_lex.specs.Ahead.{AreBytes, IsLongest, IsNextAt, IsNextAtom};
 ghost use Rattle.wk_lex.specs.FirstBytes.{GoesOn};
-ghost use Rattle.wk_lex.specs.Spans.{IsAtomAt};
+ghost use Rattle.wk_lex.specs.Spans.{IsAtomAt, IsPlain};
 ghost use Rattle.wk_tree_rules.specs.Atoms.{atoms};
 ghost use Rattle.wk_tree_rules.specs.declared.AtomKind.TheVariants.{Byte};
 ghost use Rattle.wk_tree_rules.specs.declared.Mode.{Mode as ReadingMode};
 
 use crate::Atom;
-use crate::atoms::{is_plain, is_text, marked_at};
+use crate::atoms::{closing_at, is_plain, is_text, marked_at, opening_at};
 use crate::tags::Tags;
 use std::marker::Model;
 use wk_tree_rules::{AtomKind, Mode};
@@ -26,7 +27,8 @@ fn goes_on(text: &[u8], at: usize) -> bool
     if is_text(byte) {
         return true;
     }
-    if !is_plain(byte) {
+    // Most others are spaces.
+    if byte != b' ' && !is_plain(byte) {
         return false;
     }
     if text[at - 1] == b'\n' {
@@ -35,16 +37,16 @@ fn goes_on(text: &[u8], at: usize) -> bool
     true
 }
 
-/// The place behind the byte at the place and the plain bytes that follow it, up to a line that may be one of comments.
-fn behind_bytes(text: &[u8], at: usize) -> usize
-    requires { at < length text.now }
+/// The place behind the plain byte at the place and the plain bytes that follow it, up to a line that may be one of
+/// comments.
+#[inline(always)]
+fn behind_text(text: &[u8], at: usize) -> usize
+    requires within { at < length text.now }
+    requires plain { IsPlain (slice_index text.now at) }
     ensures bytes { (mode : ReadingMode) → IsAtomAt mode text.now at (Byte, at + 1) → AreBytes mode text.now at result }
     ensures longest { IsLongest text.now at result }
 {
     let mut end = at + 1;
-    if !is_plain(text[at]) {
-        return end;
-    }
     while end < text.len() {
         if !goes_on(text, end) {
             return end;
@@ -54,8 +56,43 @@ fn behind_bytes(text: &[u8], at: usize) -> usize
     end
 }
 
-/// The kind of the atom that begins at a place where no text stands, and the place behind it. A call of its own, so that
-/// the way over text stays short.
+/// The same of any byte.
+fn behind_bytes(text: &[u8], at: usize) -> usize
+    requires { at < length text.now }
+    ensures bytes { (mode : ReadingMode) → IsAtomAt mode text.now at (Byte, at + 1) → AreBytes mode text.now at result }
+    ensures longest { IsLongest text.now at result }
+{
+    if !is_plain(text[at]) {
+        return at + 1;
+    }
+    behind_text(text, at)
+}
+
+/// Whether a space or a tab stands at the place, and not the first of a line.
+#[inline(always)]
+fn is_inner_blank(text: &[u8], at: usize) -> bool
+    requires { at < length text.now }
+    ensures plain { OnTrue result (IsPlain (slice_index text.now at)) }
+    ensures byte { OnTrue result ((mode : ReadingMode) → IsAtomAt mode text.now at (Byte, at + 1)) }
+{
+    if at == 0 {
+        return false;
+    }
+    let before = text[at - 1];
+    if before == b'\n' {
+        return false;
+    }
+    if text[at] == b' ' {
+        return true;
+    }
+    if text[at] == b'\t' {
+        return true;
+    }
+    false
+}
+
+/// The kind of the atom that begins at a place, and the place behind it. A call of its own, so that the way over text and
+/// marks stays short.
 #[inline(never)]
 fn mark_at(tags: &mut Tags, mode: Mode, at: usize) -> (AtomKind, usize)
     requires { at < length tags.old }
@@ -65,7 +102,27 @@ fn mark_at(tags: &mut Tags, mode: Mode, at: usize) -> (AtomKind, usize)
     marked_at(tags, mode, at)
 }
 
-/// The kind of the atom that begins at the place, or of bytes as one, and the place behind it.
+/// The same of the kind of the atom that begins at the place, or of bytes as one, where mostly a `<` or a blank stands.
+#[inline(always)]
+fn other_at(tags: &mut Tags, mode: Mode, at: usize) -> (AtomKind, usize)
+    requires { at < length tags.old }
+    ensures next { IsNextAt mode tags.old at result }
+    ensures text { tags.new ≡ tags.old }
+{
+    let text = tags.text;
+    if is_inner_blank(text, at) {
+        return (AtomKind::Byte, behind_text(text, at));
+    }
+    let (kind, end) = mark_at(tags, mode, at);
+    match kind {
+        AtomKind::Byte => (kind, behind_bytes(text, at)),
+        _ => (kind, end),
+    }
+}
+
+/// The kind of the atom that begins at the place, or of bytes as one, and the place behind it. A mark but `<` is the
+/// first of no line of comments.
+#[inline(always)]
 fn next_at(tags: &mut Tags, mode: Mode, at: usize) -> (AtomKind, usize)
     requires { at < length tags.old }
     ensures next { IsNextAt mode tags.old at result }
@@ -73,12 +130,16 @@ fn next_at(tags: &mut Tags, mode: Mode, at: usize) -> (AtomKind, usize)
 {
     let text = tags.text;
     if is_text(text[at]) {
-        return (AtomKind::Byte, behind_bytes(text, at));
+        return (AtomKind::Byte, behind_text(text, at));
     }
-    let (kind, end) = mark_at(tags, mode, at);
-    match kind {
-        AtomKind::Byte => (kind, behind_bytes(text, at)),
-        _ => (kind, end),
+    match text[at] {
+        b'{' => opening_at(text, at),
+        b'[' => opening_at(text, at),
+        b'}' => closing_at(text, at),
+        b']' => closing_at(text, at),
+        b'|' => (AtomKind::Bar, at + 1),
+        b'=' => (AtomKind::Equals, at + 1),
+        _ => other_at(tags, mode, at),
     }
 }
 

@@ -3,7 +3,7 @@ use Rattle.wk_lex.specs.Ahead.{AreBytes}
 use Rattle.wk_lex.specs.Spans.{IsAtomAt}
 use Rattle.wk_tree_rules.specs.declared.AtomKind.TheVariants.{Byte}
 use Rattle.wk_tree_rules.specs.declared.Mode.{Mode}
-use Rattle.wk_lex.proofs.lexer.behind_bytes.Given as goal
+use Rattle.wk_lex.proofs.lexer.behind_text.Given as goal
 
 abbrev pub invariant-loop-end : goal.invariant-loop-end
 invariant-loop-end l = record {
