@@ -1,7 +1,7 @@
 -- A closing run that meets what was seen.
-use Rattle.std.proofs.Common.{◌≡◌, ◌≢◌, ℕ, zero, suc, ◌+◌, ◌-◌, ◌<◌, ◌≤◌, ◌==◌, max, ◌⊎◌, inl, inr, Bool, true, false, if◌then◌else◌, List, [], ◌∷◌, ◌++◌, length, map, replicate, take, drop, refl, ap, ap₂, sym, subst, ◌∙◌, arith, append_assoc, append-nil, length-append}
+use Rattle.std.proofs.Common.{◌≡◌, ◌≢◌, ℕ, zero, suc, ◌+◌, ◌-◌, ◌<◌, ◌≤◌, ◌==◌, max, Bool, true, false, if◌then◌else◌, List, [], ◌∷◌, ◌++◌, length, map, replicate, take, drop, refl, ap, ap₂, sym, subst, ◌∙◌, arith, append_assoc, append-nil, length-append}
 use Rattle.std.proofs.lemmas.List.{length-replicate, drop_at, take_at, same_from_push, length_push}
-use Rattle.std.proofs.lemmas.Bool.{eqb-false, cases_lt}
+use Rattle.std.proofs.lemmas.Bool.{eqb-false}
 use Rattle.std.proofs.lemmas.List.Concat.{flat_map-append}
 use Rattle.std.specs.List.{AllByRecursion}
 use Rattle.std.specs.Prelude.{slice_set}
@@ -309,11 +309,6 @@ resumed-long zero m again h = absurd (omega arith)
 resumed-long (suc zero) m again h = absurd (omega arith)
 resumed-long (suc (suc n)) m again h = refl
 
-resumed-short : (n : ℕ) (m : Met) (again other : PassState) → n < 2 → resumed n m again ≡ resumed n m other
-resumed-short zero m again other h = refl
-resumed-short (suc zero) m again other h = refl
-resumed-short (suc (suc n)) m again other h = absurd (omega arith)
-
 closed-more : (n k : ℕ) (closer : Run) (seen : PassState) → n ≡ suc k → closed n closer seen ≡ resumed (met closer seen).rest.count (met closer seen) (closed k (met closer seen).rest (met closer seen).seen)
 unfolding closed
 closed-more zero k closer seen e = absurd (omega arith)
@@ -351,15 +346,6 @@ closing-more left next m m' n k end e long c meets =
           ∙ sym (closed-more n k (as_run left) c.seen e) ∙ was;
     }
 
--- it is done before
-pub closing-rests : (left : OpenRun) (m : Matching) (n k : ℕ) (end : PassState) → left.count < 2 → IsClosing left m n end → IsClosing left m k end
-closing-rests left m n k end few c = record {
-  seen = c.seen;
-  keeps = c.keeps;
-  fits = c.fits;
-  same = resumed-short left.count (record { seen = c.seen; rest = as_run left }) (closed k (as_run left) c.seen) (closed n (as_run left) c.seen) few ∙ c.same;
-}
-
 -- it ends with one delimiter
 pub closing-one : (left : OpenRun) (m : Matching) (n start : ℕ) (end : PassState) {tokens : List Token} → left.count ≡ 1 → start ≡ left.end - 1 → tokens ≡ m.tokens.items ++ Plain start 1 ∷ [] → IsClosing left m n end → Keeps end tokens m.bars.items m.openers.items
 closing-one left m n start end {tokens = tokens} one at t c =
@@ -369,13 +355,13 @@ closing-one left m n start end {tokens = tokens} one at t c =
     subst (λ x. Keeps x tokens m.bars.items m.openers.items) e (closing-kept (as_run left) c.seen start 1 s (sym one) t c.keeps)
 
 -- it ends with none
-pub closing-none : (left : OpenRun) (m : Matching) (n : ℕ) (end : PassState) → left.count ≢ 1 → n ≡ 0 → IsClosing left m n end → IsKept end m
+pub closing-none : (left : OpenRun) (m : Matching) (n : ℕ) (end : PassState) → left.count ≢ 1 → (2 ≤ left.count → n ≡ 0) → IsClosing left m n end → IsKept end m
 closing-none left m n end more e c = subst (λ x. IsKept x m) (sym (by_count left.count refl) ∙ c.same) c.keeps
   where
     by_count : (j : ℕ) → left.count ≡ j → resumed j (record { seen = c.seen; rest = as_run left }) (closed n (as_run left) c.seen) ≡ c.seen
     by_count zero f = refl
     by_count (suc zero) f = absurd (more f)
-    by_count (suc (suc j)) f = closed-none n (as_run left) c.seen e
+    by_count (suc (suc j)) f = closed-none n (as_run left) c.seen (e (omega (arith, f)))
 
 -- ---- a closing run and the last opener, which is taken
 
@@ -414,14 +400,3 @@ kept-none seen m m' k none t b l =
 pub meets-none : (run : OpenRun) (seen : PassState) (m m' : Matching) (left : OpenRun) → IsKept seen m → m.openers.items ≡ [] → MeetsAs (met_as_plain (as_run run) (outer seen.first [])) m' left → MeetsAs (met (as_run run) seen) m' left
 meets-none run seen m m' left k none h =
     subst (λ l. MeetsAs (met (as_run run) (outer seen.first l)) m' left) (sym (no-openers seen.first seen.openers (sym k.openers_are ∙ none))) h
-
--- one more time
-pub closing-step : (left next : OpenRun) (m m' : Matching) (n k : ℕ) (end : PassState) → n ≡ suc k → IsClosing left m n end → (left.count < 2 → (m' ≡ m) × (next ≡ left))
-    → (2 ≤ left.count → (seen : PassState) → IsKept seen m → left.count ≤ left.end → MeetsAs (met (as_run left) seen) m' next) → IsClosing next m' k end
-closing-step left next m m' n k end e c few many = either (cases_lt left.count 2)
-  where
-    either : (left.count < 2) ⊎ (2 ≤ left.count) → IsClosing next m' k end
-    either (inl short) =
-        let same = few short in
-        subst (λ l. IsClosing l m' k end) (sym same.1) (subst (λ x. IsClosing left x k end) (sym same.0) (closing-rests left m n k end short c))
-    either (inr long) = closing-more left next m m' n k end e long c (many long)

@@ -3,7 +3,7 @@ ghost use Rattle.std.specs.Prelude.{◌≡◌, ℕ, ◌+◌, ◌-◌, ◌<◌, �
 ghost use Rattle.wk_lex.specs.Ahead.{IsOneText};
 ghost use Rattle.wk_lex.specs.Spans.{source_in, span_of, IsWithin, IsRunWhereMarks};
 ghost use Rattle.wk_tree.specs.Layout.{laid};
-ghost use Rattle.wk_tree.specs.Matching.{as_run, brackets_at, plain_token, plained, raised, still_open, way_of, IsBarOf, IsKept, IsPopped, MeetsAs};
+ghost use Rattle.wk_tree.specs.Matching.{as_run, brackets_at, plain_token, plained, raised, still_open, way_of, IsBarOf, IsClosing, IsKept, IsPopped, MeetsAs};
 ghost use Rattle.wk_tree.specs.Tokens.{plain_tokens, items_tokens};
 ghost use Rattle.wk_tree_laws.specs.OnePass as pass;
 ghost use Rattle.wk_tree_laws.specs.OnePass.{PassState, added, closed, met, met_as_brackets, met_as_node, met_as_plain, nothing_seen, opened, passed, pieces_seen};
@@ -287,16 +287,17 @@ fn meet(matching: &mut Matching, run: Run) -> Result<Run, Memory>
     }
 }
 
-/// A closing run meets what was seen where it has two delimiters or more.
-fn meet_again(matching: &mut Matching, run: Run) -> Result<Run, Memory>
-    ensures few { IfOk result (λ left. run.count < 2 → (matching.new ≡ matching.old) × (left ≡ run)) }
-    ensures many { IfOk result (λ left. 2 ≤ run.count → (seen : PassState) → IsKept seen matching.old → run.count ≤ run.end → MeetsAs (met (as_run run) seen) matching.new left) }
+/// The delimiter that is left of a closing run, if one is.
+fn push_rest(matching: &mut Matching, left: Run) -> Result<(), Memory>
+    ensures { OnOk result ((n : ℕ) (end : PassState) → (2 ≤ left.count → n ≡ 0) → IsClosing left matching.old n end → IsKept end matching.new) }
 {
-    if run.count < 2 {
-        return Ok(run);
+    if left.count == 1 {
+        matching.tokens.push(Token::Plain {
+            start: left.end.saturating_sub(1),
+            len: 1,
+        })?;
     }
-    let left = meet(matching, run)?;
-    Ok(left)
+    Ok(())
 }
 
 /// A closing run behind all that was seen. It meets what was seen until at most one delimiter of it is left.
@@ -306,15 +307,12 @@ fn close(matching: &mut Matching, run: Run) -> Result<(), Memory>
     let mut left = run;
     // Each time that it meets something a delimiter or more of it is taken.
     for _time in 0..run.count {
-        left = meet_again(matching, left)?;
+        if left.count < 2 {
+            return push_rest(matching, left);
+        }
+        left = meet(matching, left)?;
     }
-    if left.count == 1 {
-        matching.tokens.push(Token::Plain {
-            start: left.end.saturating_sub(1),
-            len: 1,
-        })?;
-    }
-    Ok(())
+    push_rest(matching, left)
 }
 
 /// A bar or an equals sign behind all that was seen.
