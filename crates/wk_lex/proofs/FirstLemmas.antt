@@ -28,7 +28,7 @@ other-than lead b c is ne e = ne (sym is ∙ e)
 
 -- ---- a byte with which no line of comments begins
 
-not-behind : (before : Option ℕ) (shape : Shape ℕ) (text : List ℕ) → shape text ≡ None → after_newline before shape text ≡ None
+pub not-behind : (before : Option ℕ) (shape : Shape ℕ) (text : List ℕ) → shape text ≡ None → after_newline before shape text ≡ None
 not-behind None shape text e = refl
 not-behind (Some b) shape text e = by_test (b == 10)
   where

@@ -9,3 +9,4 @@ pub mod PlaceLemmas
 pub mod PlainLemmas
 pub mod SpanSteps
 pub mod TaglessLemmas
+mod UnmarkedLemmas

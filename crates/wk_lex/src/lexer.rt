@@ -143,6 +143,21 @@ fn next_at(tags: &mut Tags, mode: Mode, at: usize) -> (AtomKind, usize)
     }
 }
 
+/// Whether no mark stands in the text: neither a `<`, a brace or a bracket nor a bar or an equals sign. All of it comes
+/// as one then. Takes no memory.
+pub fn has_no_mark(text: &[u8]) -> bool
+    ensures { OnTrue result ((mode : ReadingMode) → 0 < length text.now → IsNextAtom text.now (atoms mode text.now) [] (record { kind = Byte; start = 0; len = length text.now })) }
+{
+    let mut at = 0;
+    while at < text.len() {
+        if !is_plain(text[at]) {
+            return false;
+        }
+        at += 1;
+    }
+    true
+}
+
 /// The atoms of a text that was selected, one after another from its start to its end. Bytes that stand together come
 /// as one atom. Contracts see the text, and the atoms of it that are still to come.
 #[derive(Drop)]

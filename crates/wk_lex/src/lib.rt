@@ -14,7 +14,7 @@ mod tags;
 
 pub use atom::Atom;
 pub use atoms::lex;
-pub use lexer::Lexer;
+pub use lexer::{Lexer, has_no_mark};
 pub use selection::select;
 pub use wk_tree_rules::{AtomKind, Mode};
 

@@ -8,6 +8,7 @@ use Rattle.wk_tree.specs.Layout.{laid}
 use Rattle.wk_tree.proofs.AlikeLemmas.{SeenAlike, nothing-alike, passed-alike, passed-all, bytes-alike, seen-laid}
 use Rattle.wk_lex.specs.Spans.{source_in, span_of, IsWithin, IsRunWhereMarks, IsRunOfEither}
 use Rattle.wk_lex.specs.declared.atom.Atom.{Atom}
+use Rattle.wk_tree.proofs.LayoutLemmas.{plain-laid}
 use Rattle.wk_tree.proofs.MatchingLemmas.{plained-all}
 use Rattle.wk_tree.proofs.MeetingLemmas.{item-kept}
 use Rattle.wk_tree.specs.Matching.{delimiters_by, as_run, is_bracket, brackets_at, plained, tokens_by, IsKept, Keeps}
@@ -234,6 +235,19 @@ matched-begins all m t b l = record {
   alike = nothing-alike nothing_seen refl;
   goes_on = refl;
 }
+
+-- text that comes as one is one token
+pub one-laid : (text : List ℕ) (all : List Atom_at) → IsNextAtom text all [] (record { kind = Byte; start = 0; len = length text })
+    → laid (token.Plain 0 (length text) ∷ []) ≡ laid (items_tokens (map item_of (pieces_seen (passed nothing_seen (map piece_of all)))))
+unfolding passed item_tokens
+one-laid text all next =
+    let atom : Atom = record { kind = Byte; start = 0; len = length text } in
+    let p = atom-passed text all [] atom nothing_seen nothing_seen next (nothing-alike nothing_seen refl) in
+    let made : laid (items_tokens (map item_of (pieces_seen (passed nothing_seen (piece_of (span_of text atom) ∷ []))))) ≡ laid (token.Plain 0 (length (source_in text atom)) ∷ []) = plain-laid 0 (source_in text atom) [] in
+    ap (λ n. laid (token.Plain 0 n ∷ [])) (sym (source-length text atom next.within))
+    ∙ sym made
+    ∙ sym (seen-laid p.alike)
+    ∙ ap (λ s. laid (items_tokens (map item_of (pieces_seen s)))) (sym p.same)
 
 -- fewer atoms are ahead
 pub fewer-ahead : (text : List ℕ) (before after : List Atom_at) (atom : Atom) → IsNextAtom text before after atom → length after < length before

@@ -5,7 +5,7 @@ use Rattle.std.proofs.lemmas.List.{get_or-reverse, length-map, length-reverse}
 use Rattle.std.specs.List.{slice_get, flat_map, AllByRecursion}
 use Rattle.std.specs.Option.{IfSome, IsSome, option_and_then, option_to_list, unwrap_or}
 use Rattle.wk_tree.proofs.LayoutLemmas.{nodes-long}
-use Rattle.wk_tree.specs.Layout.{NodeShown, PartShown, laid, listed, node_of, part_of}
+use Rattle.wk_tree.specs.Layout.{NodeShown, PartShown, listed, node_of, part_of}
 use Rattle.wk_tree.specs.Parsed.{ParsedText, IsParsed, IsTextIn, part_at, node_with, part_with, list_with, nodes_of, tree_of}
 use Rattle.wk_tree.specs.declared.item.ListId.{ListId}
 use Rattle.wk_tree.specs.declared.item.ListId.TheVariants.{Root, Title, Name, Value}
@@ -14,12 +14,10 @@ use Rattle.wk_tree_laws.specs.Places.{IsItemIn}
 use Rattle.std.specs.Str.{IsUtf8}
 use Rattle.wk_tree_rules.specs.Trees.{source_of as item_source}
 use Rattle.wk_tree.specs.Shown.{from_end, ShowsItems, ShowsName, no_name, a_name, ShowsPart, ShowsParts, no_parts, part_more, ShowsNode, ShowsNodes, no_nodes, node_more}
-use Rattle.wk_tree.specs.Tokens.{items_tokens}
 use Rattle.wk_tree.specs.Tree.{IsLaidAs}
 use Rattle.wk_tree.specs.declared.item.Item.{Item}
 use Rattle.wk_tree.specs.declared.layout.NodeLists.{NodeLists}
 use Rattle.wk_tree.specs.declared.layout.PartLists.{PartLists}
-use Rattle.wk_tree.specs.declared.token.Token.{Token}
 use Rattle.wk_tree_rules.specs.Reduction.{pieces_of, reduced}
 use Rattle.wk_tree_rules.specs.Selection.{selection, selected}
 use Rattle.wk_tree_rules.specs.Tree.{Node, Part, item_of, tree, lists, node_lists, part_lists, title_part, further_parts}
@@ -28,12 +26,12 @@ use Rattle.wk_tree_rules.specs.declared.Mode.{Mode}
 
 -- ---- a text that is parsed
 
-pub parsed-is : (mode : Mode) (text whole source : List ℕ) (part : Option (List ℕ)) (tokens : List Token) (root : List Item) (found : List NodeShown) → whole ≡ text → part ≡ selection mode whole → source ≡ unwrap_or part whole
-    → laid tokens ≡ laid (items_tokens (map item_of (reduced (pieces_of mode source)))) → ((items : List TreeItem) → laid tokens ≡ laid (items_tokens items) → IsLaidAs items root found) → IsParsed mode text part root found
+pub parsed-is : (mode : Mode) (text whole source : List ℕ) (part : Option (List ℕ)) (root : List Item) (found : List NodeShown) → whole ≡ text → part ≡ selection mode whole → source ≡ unwrap_or part whole
+    → IsLaidAs (map item_of (reduced (pieces_of mode source))) root found → IsParsed mode text part root found
 unfolding tree
-parsed-is mode text whole source part tokens root found w p s t h =
+parsed-is mode text whole source part root found w p s h =
     let is : source ≡ selected mode text = s ∙ ap₂ (λ x y. unwrap_or x y) (p ∙ ap (selection mode) w) w in
-    let shown = h (map item_of (reduced (pieces_of mode (selected mode text)))) (t ∙ ap (λ x. laid (items_tokens (map item_of (reduced (pieces_of mode x))))) is) in
+    let shown = subst (λ x. IsLaidAs (map item_of (reduced (pieces_of mode x))) root found) is h in
     record { source_is = p ∙ ap (selection mode) w; root_shows = shown.root_shows; nodes_show = shown.nodes_show }
 
 -- ---- options

@@ -1,10 +1,11 @@
 //! A text that is parsed.
 ghost use Rattle.std.specs.Prelude.{◌≡◌, ◌+◌, ◌<◌, ◌^◌, length, map, reverse, option_map, unwrap_or, Some, IfOk, IfSome, IsSome};
-ghost use Rattle.wk_tree.specs.Layout.{laid, node_of, part_of};
+ghost use Rattle.wk_tree.specs.Layout.{laid, listed, node_of, part_of};
 ghost use Rattle.wk_tree.specs.Parsed.{ParsedText, tree_of, nodes_of, source_of, node_with, part_with, list_with, IsPart, IsTextIn};
 ghost use Rattle.std.specs.List.{AllByRecursion};
 ghost use Rattle.wk_tree.specs.Shown.{ShowsItems, ShowsNode, ShowsPart};
 ghost use Rattle.wk_tree.specs.Tokens.{is_argument, items_tokens};
+ghost use Rattle.wk_tree.specs.Tree.{IsLaidAs};
 ghost use Rattle.wk_tree_rules.specs.Reduction.{pieces_of, reduced};
 ghost use Rattle.wk_tree_rules.specs.Tree.{item_of, node_length, title_part, further_parts};
 ghost use Rattle.std.specs.Slice.Iter.{iter_rest};
@@ -17,7 +18,7 @@ use std::alloc::Global;
 use std::marker::Model;
 use std::slice;
 use wk_bytes::Text;
-use wk_lex::{Lexer, Mode, select};
+use wk_lex::{Lexer, Mode, has_no_mark, select};
 use wk_memory::Memory;
 use wk_tree_laws::trees::{every_item_of_utf8_is_utf8, every_item_stands_where_it_says};
 
@@ -28,6 +29,25 @@ fn tokens_of(alloc: Global, mode: Mode, source: &[u8]) -> Result<Vec<Token>, Mem
 {
     let tokens = matched(alloc, source, Lexer::new(mode, source))?;
     Ok(tokens)
+}
+
+/// The root's list of the text that is read and its nodes, from the last. Text without any mark is one item, and no list
+/// of tokens is made of it.
+fn lists_of(alloc: Global, mode: Mode, source: &[u8]) -> Result<(Listed, Vec<NodeLists>), Memory>
+    requires { length source.now < 2 ^ 32 }
+    ensures { IfOk result (λ found. IsLaidAs (map item_of (reduced (pieces_of mode source.now))) (listed found.0) (map node_of (reverse found.1.items))) }
+{
+    let size = source.len();
+    if 0 < size && has_no_mark(source) {
+        let item = Item::Plain {
+            start: 0,
+            len: size as u32,
+        };
+        return Ok((Listed::One(item), Vec::new(alloc)));
+    }
+    let tokens = tokens_of(alloc, mode, source)?;
+    let found = finish(alloc, &tokens)?;
+    Ok(found)
 }
 
 /// A text, and how it is read: its tree is that of the definition. Contracts see the text's bytes and the mode.
@@ -77,8 +97,7 @@ pub fn parse(alloc: Global, text: &Text, mode: Mode) -> Result<Parsed, Memory>
     if MAX_SOURCE <= source.len() {
         return Err(Memory);
     }
-    let tokens = tokens_of(alloc, mode, source)?;
-    let (root, nodes) = finish(alloc, &tokens)?;
+    let (root, nodes) = lists_of(alloc, mode, source)?;
     let text = text.share()?;
     Ok(Parsed {
         mode,
@@ -238,8 +257,10 @@ mod tests {
     /// A mode, a text, and its lists: plain text in quotes, sealed text in angle brackets, what gives nothing in round
     /// ones, and nodes by their numbers; then the nodes, each with its span, its title part, and its parts with the
     /// spans of their values. The values follow from the rules by hand.
-    const TREES: [(Mode, &str, &str); 16] = [
+    const TREES: [(Mode, &str, &str); 18] = [
         (Mode::View, "", ""),
+        (Mode::View, "a\n b>é", "'a\n b>é'"),
+        (Mode::Include, " \t\n", "' \t\n'"),
         (Mode::View, "{{{{x}}}}", "'{'#0'}' #0{{{1+7:'x'"),
         (
             Mode::View,
@@ -375,6 +396,24 @@ mod tests {
             assert_eq!(rt; found.as_bytes(), lists.as_bytes(), "in {text:?}");
             assert_eq!(rt; parsed.mode(), mode);
             assert_eq!(rt; parsed.text().as_str().as_bytes(), text.as_bytes());
+        }
+        Ok(())
+    }
+
+    #[test]
+    fn text_without_marks_is_laid_as_its_tokens(rt: HostRuntime) -> Result<(), Fail> {
+        let alloc = rt.alloc();
+        for text in ["a", " ", "\n", "a\n \tb\n\n c", "é\n\n", "-- > & /"] {
+            for mode in [Mode::View, Mode::Include] {
+                let parsed = parse_str(alloc, mode, text)?;
+                let tokens = tokens_of(alloc, mode, text.as_bytes())?;
+                let (root, nodes) = finish(alloc, &tokens)?;
+                let mut laid = String::new(alloc);
+                show_items(&mut laid, text, root.iter().as_slice())?;
+                let found = show(alloc, &parsed)?;
+                assert_eq!(rt; found.as_bytes(), laid.as_bytes(), "in {text:?}");
+                assert_eq!(rt; nodes.len(), 0);
+            }
         }
         Ok(())
     }
