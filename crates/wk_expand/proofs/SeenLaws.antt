@@ -11,9 +11,12 @@ use Rattle.std.proofs.lemmas.List.Elements.{All-cons, All-push, All-head, All-ta
 use Rattle.wk_view_rules.specs.Worlds.{Answer as RuleAnswer, Read, Seen, IsSeen, ask, of_seen, fits_kind, is_read_of, kind_eq}
 use Rattle.wk_view_rules.specs.declared.Kind.{Kind}
 use Rattle.wk_text_rules.specs.Titles.{PageTitle, title_eq}
+use Rattle.wk_view_rules.specs.Plans.{noted}
 use Rattle.wk_view_laws.proofs.PlanLemmas.{both_parts, kind_eq-true, kind_eq-same}
 use Rattle.wk_view_laws.proofs.RowLemmas.{title_eq_comm}
-use Rattle.wk_expand.specs.Answers.{answer_of}
+use Rattle.std.specs.Prelude.{Result, Ok, Err, OnOk, OnErr, IsSome}
+use Rattle.wk_expand.proofs.ReadLaws.{noted-there, noted-absent}
+use Rattle.wk_expand.specs.Answers.{answer_of, read_with}
 use Rattle.wk_expand.specs.Entries.{entry_read, entry_reads}
 use Rattle.wk_expand.specs.declared.answer.Answer.{Answer}
 use Rattle.wk_expand.specs.declared.seen.Asked.{Asked}
@@ -24,7 +27,7 @@ use denote.Enum.Bare.{sameb}
 use Rattle.wk_view_rules.specs.contracts.Kind.{the_type}
 use Rattle.wk_view_rules.specs.declared.Kind.TheVariants.{View, Include, Exists}
 use Rattle.std.proofs.lemmas.List.{map-append}
-use Rattle.indexmap.specs.IndexMap.{IndexMap, insert_entry}
+use Rattle.indexmap.specs.IndexMap.{IndexMap, get, insert_entry}
 use Rattle.indexmap.proofs.CallerLemmas.{insert_entry-new}
 use borrow.Author.Tests.{ltb-true, ltb-false}
 
@@ -53,6 +56,10 @@ kind_eq-sameb Include Exists = refl
 kind_eq-sameb Exists View = refl
 kind_eq-sameb Exists Include = refl
 kind_eq-sameb Exists Exists = refl
+
+-- the derived test
+abbrev pub asked_eq : Asked → Asked → Bool
+asked_eq a b = (int_eq a.title.ns b.title.ns && pointwise eqb a.title.key b.title.key) && sameb the_type a.kind b.kind
 
 -- a read is of the pair that an entry is of, by the derived test
 pub asked-same : (title : PageTitle) (kind : Kind) (e : Asked × Answer) → is_read_of title kind (entry_read e) ≡ ((int_eq title.ns e.0.title.ns && pointwise eqb title.key e.0.title.key) && sameb the_type kind e.0.kind)
@@ -125,3 +132,34 @@ fits-found (r ∷ reads) title kind answer all e = elim (cases_Bool (is_read_of 
 pub fits-entry : (reads : Seen) (title : PageTitle) (kind : Kind) (o : Option Answer) → All HasForm reads → option_map answer_of o ≡ ask (of_seen reads) title kind → IfSome o (λ a. IsTrue (fits_kind kind (answer_of a)))
 fits-entry reads title kind None all e = tt
 fits-entry reads title kind (Some a) all e = fits-found reads title kind (answer_of a) all (sym e)
+
+-- ---- an answer is noted
+
+pub IsSeen-noted : (reads : Seen) (title : PageTitle) (kind : Kind) (answer : RuleAnswer) → IsSeen reads → IsTrue (fits_kind kind answer) → IsSeen (noted reads (read_with title kind answer))
+IsSeen-noted reads title kind answer is_seen form = by (ask (of_seen reads) title kind) refl
+  where
+    by : (o : Option RuleAnswer) → ask (of_seen reads) title kind ≡ o → IsSeen (noted reads (read_with title kind answer))
+    by None e = subst (λ rs. IsSeen rs) (noted-absent reads title kind answer e) (IsSeen-push reads (read_with title kind answer) is_seen e form)
+    by (Some other) e = subst (λ rs. IsSeen rs) (noted-there reads title kind answer other e) is_seen
+
+-- what is kept is seen, or nothing is
+pub IsSeen-kept : {A E : Type 0} (r : Result A E) (before after : List (Asked × Answer)) (e : Asked × Answer) → OnOk r (entry_reads after ≡ noted (entry_reads before) (entry_read e)) → OnErr r (after ≡ before) → IsSeen (entry_reads before) → IsTrue (fits_kind e.0.kind (answer_of e.1)) → IsSeen (entry_reads after)
+IsSeen-kept (Ok u) before after e ok err is_seen form = subst (λ rs. IsSeen rs) (sym ok) (IsSeen-noted (entry_reads before) e.0.title e.0.kind (answer_of e.1) is_seen form)
+IsSeen-kept (Err x) before after e ok err is_seen form = subst (λ es. IsSeen (entry_reads es)) (sym err) is_seen
+
+-- a key that is there
+pub reads-there : {S R : Type 0} (eq : Asked → Asked → Bool) (m : IndexMap Asked Answer S) (k : Asked) (v : Answer) (es : List (Asked × Answer)) → ((e : Asked × Answer) → is_read_of k.title k.kind (entry_read e) ≡ eq k e.0) → IsSome (get eq m k) × R → es ≡ m.entries → entry_reads es ≡ noted (entry_reads m.entries) (entry_read (k, v))
+reads-there {S} {R} eq m k v es same there stays = ap entry_reads stays ∙ by (get eq m k) refl there.0
+  where
+    by : (o : Option Answer) → get eq m k ≡ o → IsSome o → entry_reads m.entries ≡ noted (entry_reads m.entries) (entry_read (k, v))
+    by None e some = absurd (cc)
+    by (Some a) e some = noted-there (entry_reads m.entries) k.title k.kind (answer_of v) (answer_of a) (find-entries m.entries (eq k) k.title k.kind same ∙ ap (option_map answer_of) e)
+
+-- and one that isn't, whose entry goes last
+pub reads-new : {S : Type 0} (eq : Asked → Asked → Bool) (m : IndexMap Asked Answer S) (k : Asked) (v w : Answer) (es inserted : List (Asked × Answer)) → ((e : Asked × Answer) → is_read_of k.title k.kind (entry_read e) ≡ eq k e.0) → get eq m k ≡ None → answer_of w ≡ answer_of v → inserted ≡ insert_entry eq m.entries k w → es ≡ inserted → entry_reads es ≡ noted (entry_reads m.entries) (entry_read (k, v))
+reads-new eq m k v w es inserted same none shared goes_in is =
+    let unasked : ask (of_seen (entry_reads m.entries)) k.title k.kind ≡ None = find-entries m.entries (eq k) k.title k.kind same ∙ ap (option_map answer_of) none in
+    ap entry_reads (is ∙ goes_in)
+    ∙ reads-insert eq m k w same unasked
+    ∙ ap (λ a. entry_reads m.entries ++ read_with k.title k.kind a ∷ []) shared
+    ∙ noted-absent (entry_reads m.entries) k.title k.kind (answer_of v) unasked

@@ -5,10 +5,11 @@ ghost use Rattle.wk_view_rules.specs.Plans.{noted};
 ghost use Rattle.wk_view_rules.specs.Worlds.{IsSeen, ask, fits_kind, of_seen};
 ghost use Rattle.wk_expand.specs.Answers.{answer_of, read_with};
 ghost use Rattle.wk_expand.specs.Drafts.{with_mark};
-ghost use Rattle.wk_expand.specs.Entries.{entry_reads};
+ghost use Rattle.wk_expand.specs.Entries.{entry_read, entry_reads};
 
 use crate::answer::{Answer, Read, mark};
 use indexmap::IndexMap;
+use indexmap::map::Entry;
 use std::alloc::Global;
 use std::marker::Model;
 use wk_memory::Memory;
@@ -82,13 +83,11 @@ impl Seen {
         requires { IsTrue (fits_kind kind (answer_of answer.now)) }
         ensures { OnOk result (self.new ≡ noted self.old (read_with title.now kind (answer_of answer.now))) }
     {
-        match self.get(title, kind)? {
-            Some(_) => return Ok(()),
-            None => {}
-        }
-        let title = title.share()?;
-        let answer = answer.share()?;
-        self.add(title, kind, answer)
+        let asked = Asked {
+            title: title.share()?,
+            kind,
+        };
+        keep(&mut self.answers, asked, answer)
     }
 
     /// The reads with their marks, in order.
@@ -98,6 +97,27 @@ impl Seen {
         ensures seen { IsSeen self.now }
     {
         marks(alloc, &self.answers)
+    }
+}
+
+/// Keeps an answer behind those that there are, where none is kept under this key yet. After an `Err` nothing is kept.
+fn keep(answers: &mut IndexMap<Asked, Answer>, asked: Asked, answer: &Answer) -> Result<(), Memory>
+    ensures ok { OnOk result
+        (entry_reads answers.new.entries ≡ noted (entry_reads answers.old.entries) (entry_read (asked, answer.now))) }
+    ensures err { OnErr result (answers.new.entries ≡ answers.old.entries) }
+{
+    match answers.entry(asked)? {
+        Entry::Occupied(_) => Ok(()),
+        Entry::Vacant(place) => match answer.share() {
+            Ok(answer) => {
+                place.insert(answer);
+                Ok(())
+            }
+            Err(e) => {
+                let _asked = place.into_key();
+                Err(e)
+            }
+        },
     }
 }
 
