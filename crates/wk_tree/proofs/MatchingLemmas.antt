@@ -1,6 +1,6 @@
 -- What the matching keeps, one operation after another.
 use Rattle.std.proofs.Common.{◌≡◌, ℕ, zero, suc, ◌+◌, ◌-◌, ◌<◌, ◌≤◌, max, List, [], ◌∷◌, ◌++◌, length, map, replicate, refl, ap, ap₂, sym, ◌∙◌, arith, take, drop, append_assoc, append-nil, length-append}
-use Rattle.std.proofs.lemmas.List.{length-replicate, replicate_more, get_or_read, map-append, set_past, take-append-le, drop-append-le, set_at, get_or_at, length_push}
+use Rattle.std.proofs.lemmas.List.{length-replicate, get_or_read, map-append, set_past, take-append-le, drop-append-le, set_at, get_or_at, length_push}
 use Rattle.std.proofs.lemmas.List.Concat.{flat_map-append}
 use Rattle.std.specs.List.{AllByRecursion}
 use Rattle.std.specs.Prelude.{slice_set, slice_index_or}
@@ -283,20 +283,6 @@ raised-set h (opener ∷ []) d zero e = refl
 raised-set h (opener ∷ []) d (suc n) e = absurd (omega arith)
 raised-set h (a ∷ b ∷ openers) d zero e = absurd (omega arith)
 raised-set h (a ∷ b ∷ openers) d (suc n) e = ap (λ t. a ∷ t) (raised-set h (b ∷ openers) d n (omega arith))
-
-pub fills-more : (base old new : List Token) (n : ℕ) → 1 ≤ n → old ≡ base ++ replicate (n - 1) Fill → new ≡ old ++ Fill ∷ [] → new ≡ base ++ replicate (n + 1 - 1) Fill
-fills-more base old new n h e f =
-    let k : (n - 1) + 1 ≡ n + 1 - 1 = omega arith in
-    f ∙ ap (λ t. t ++ Fill ∷ []) e ∙ append_assoc base (replicate (n - 1) Fill) (Fill ∷ [])
-    ∙ ap (λ t. base ++ t) (replicate_more (n - 1) Fill ∙ ap (λ m. replicate m Fill) k)
-
-pub fills-all : (old base now : List Token) (start len n : ℕ) → base ≡ old ++ Plain start len ∷ [] → now ≡ base ++ replicate (n - 1) Fill → len ≤ n → 1 ≤ n → n ≤ max 1 len → now ≡ old ++ plain_tokens start len
-fills-all old base now start zero n e f low some high =
-    let one : n - 1 ≡ 0 = omega arith in
-    f ∙ ap₂ (λ b m. b ++ replicate m Fill) e one ∙ append-nil (old ++ Plain start 0 ∷ [])
-fills-all old base now start (suc k) n e f low some high =
-    let one : n - 1 ≡ k = omega arith in
-    f ∙ ap₂ (λ b m. b ++ replicate m Fill) e one ∙ append_assoc old (Plain start (suc k) ∷ []) (replicate k Fill)
 
 pub plained-past : (kept : ℕ) (old new : List ℕ) (at : ℕ) (tokens : List Token) → old ≡ new ++ at ∷ [] → kept < length old → length tokens ≤ at → plained (drop kept old) tokens ≡ plained (drop kept new) tokens
 plained-past kept old new at tokens e h past =

@@ -61,9 +61,11 @@ fn push_plain(tokens: &mut Vec<Token>, start: u32, len: u32) -> Result<(), Memor
     ensures { OnOk result (tokens.new.items ≡ tokens.old.items ++ plain_tokens start len) }
 {
     tokens.push(Token::Plain { start, len })?;
-    for _at in 1..len {
-        tokens.push(Token::Fill)?;
-    }
+    let more = len.saturating_sub(1) as usize;
+    let Some(all) = tokens.len().checked_add(more) else {
+        return Err(Memory);
+    };
+    tokens.resize(all, Token::Fill)?;
     Ok(())
 }
 
