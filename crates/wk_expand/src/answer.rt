@@ -42,6 +42,7 @@ impl Answer {
     }
 
     /// The same answer for a further owner, which std's shared pointers may refuse.
+    #[inline(always)]
     pub fn share(&self) -> Result<Answer, Memory>
         ensures { IfOk result (λ answer. answer_of answer ≡ answer_of self.now) }
     {

@@ -71,6 +71,7 @@ impl Expander {
 
     /// The value of an argument is added to an output where it is one plain part of the caller's text, and expanded in
     /// the frame of the caller otherwise.
+    #[inline(always)]
     pub fn push_value(&mut self, bound: Bound, out: &mut Out) -> Result<Option<Next>, Memory>
         requires within { 0 < length self.old.levels.included }
         requires list { IsSome (list_with (caller_tree self.old) bound.value) }

@@ -12,6 +12,7 @@ use wk_memory::Memory;
 use wk_out::Out;
 
 /// Binds a text to a value.
+#[inline(always)]
 pub fn bind(args: &mut Args<Bound>, name: &str, value: Bound) -> Result<(), Memory>
     ensures { OnOk result (args.new ≡ map.insert args.old name.now value) }
 {
@@ -40,6 +41,7 @@ fn digit(number: u64) -> Option<&'static str>
 }
 
 /// Binds a number, as a decimal text, to a value.
+#[inline(always)]
 pub fn bind_number(
     alloc: Global,
     args: &mut Args<Bound>,

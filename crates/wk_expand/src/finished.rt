@@ -13,6 +13,7 @@ use wk_tree::NodeId;
 
 impl Expander {
     /// What a node does with the output that it waited for.
+    #[inline(always)]
     pub fn finished(&mut self, node: NodeId, waiting: Waiting, out: Out) -> Result<Next, Memory>
         requires { Waits self.old node waiting }
         ensures { IfOk result (λ next. (seen : Answers) (w : Waits self.old node waiting)

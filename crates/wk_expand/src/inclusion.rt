@@ -29,6 +29,7 @@ pub enum Found {
 
 impl Expander {
     /// What is included for a title (MediaWiki's Help:Templates and Help:Redirects).
+    #[inline(always)]
     pub fn inclusion(&mut self, seen: &Seen, title: &Title) -> Result<Found, Stop>
         ensures same { OnOk result (IsSame self.old self.new) }
         ensures keeps { Keeps result self.old self.new }
@@ -52,6 +53,7 @@ impl Expander {
     }
 
     /// What is included for a title with this text: the text, or where it redirects to.
+    #[inline(always)]
     fn included_text(&mut self, title: &Title, text: Text) -> Result<Found, Memory>
         ensures same { IfOk result (λ found. IsSame self.old self.new) }
         ensures finds { IfOk result (λ found. FindsIn (λ inner viewed frame parts.

@@ -15,6 +15,7 @@ use wk_out::Out;
 use wk_tree::{Item, ListId, NodeId, Parsed};
 
 /// A part of a source, as text. Takes no memory.
+#[inline(always)]
 fn part_of(source: &[u8], start: u32, len: u32) -> &str
     requires within { start + len ≤ length source.now }
     requires utf8 { IsUtf8 (slice_range source.now start (start + len)) }
@@ -28,6 +29,7 @@ fn part_of(source: &[u8], start: u32, len: u32) -> &str
 
 /// Adds the items of a list from a place on to an output, up to the next node. The answer is the place behind the
 /// node, and the node, if there is one.
+#[inline(always)]
 pub fn fill(
     tree: &Parsed,
     list: ListId,
@@ -53,6 +55,7 @@ pub fn fill(
 }
 
 /// The text that a list is, where it is one plain part. Takes no memory.
+#[inline(always)]
 pub fn plain_text(tree: &Parsed, list: ListId) -> Option<&str>
     requires { IsSome (list_with tree.now list) }
     ensures { IfSome result (λ text. IsPlainText tree.now list text.now) }
@@ -68,6 +71,7 @@ pub fn plain_text(tree: &Parsed, list: ListId) -> Option<&str>
 }
 
 /// The same, where it has no blank byte at its ends. Takes no memory.
+#[inline(always)]
 pub fn plain_part(tree: &Parsed, list: ListId) -> Option<&str>
     requires { IsSome (list_with tree.now list) }
     ensures { IfSome result (λ text. IsPlainList tree.now list text.now) }
@@ -91,6 +95,7 @@ pub fn trimmed_text(text: &str) -> &str
 
 impl Expander {
     /// The part of the text that a list is, where it is one plain part without a blank byte at its ends. Takes no memory.
+    #[inline(always)]
     pub fn plain_part(&self, list: ListId) -> Option<&str>
         requires { IsSome (list_with (current self.now) list) }
         ensures { IfSome result (λ text. IsPlainList (current self.now) list text.now) }

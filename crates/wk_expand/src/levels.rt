@@ -62,6 +62,7 @@ impl Model for Levels {
 }
 
 /// Whether two texts have one length and one last byte. Texts that differ are told apart by these at most times.
+#[inline(always)]
 fn is_alike(a: &[u8], b: &[u8]) -> bool
     ensures { OnFalse result (bytes_eq a.now b.now ≡ false) }
 {
@@ -69,6 +70,7 @@ fn is_alike(a: &[u8], b: &[u8]) -> bool
 }
 
 /// Whether a page is of this title.
+#[inline(always)]
 fn is_of(level: &Level, title: &Title) -> bool
     ensures { result ≡ title_eq level.now.title title.now }
 {
@@ -76,6 +78,7 @@ fn is_of(level: &Level, title: &Title) -> bool
 }
 
 /// Whether one of the pages is of this title.
+#[inline(always)]
 fn is_among(included: &[Level], title: &Title) -> bool
     ensures { result ≡ list_any (λ (l : LevelValue). title_eq l.title title.now) included.now }
 {
@@ -147,6 +150,7 @@ impl Levels {
     }
 
     /// A page is included in the innermost text, in which the values of its arguments stand.
+    #[inline(always)]
     pub fn enter(&mut self, level: Level) -> Result<(), Memory>
         requires { HasLists (tree_in self.old.root self.old.included) level.args }
         ensures { OnOk result (self.new ≡ record self.old { included = level ∷ self.old.included }) }

@@ -50,6 +50,7 @@ impl Expander {
     }
 
     /// The text of an inclusion, or a link to the page where inclusions would have too many bytes in all.
+    #[inline(always)]
     pub fn within_inclusion_limit(&mut self, title: &Title, out: Out) -> Result<Out, Memory>
         ensures { IfOk result (λ given. (seen : Seen) → ComesTo seen (inclusion_within_limit title.now out) self.old (give given) self.new) }
     {

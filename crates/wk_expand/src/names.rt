@@ -44,6 +44,7 @@ impl Called {
     }
 
     /// The title, where the name is this one.
+    #[inline(always)]
     fn by(&self, name: &str) -> Result<Option<Title>, Memory>
         ensures { IfOk result (λ found. IfSome found (λ title. normal name.now (pos 10) ≡ Some title)) }
     {
@@ -81,6 +82,7 @@ impl Names {
     }
 
     /// The title in the place, where that is the name's.
+    #[inline(always)]
     fn kept(&self, name: &str, place: usize) -> Result<Option<Title>, Memory>
         ensures { IfOk result (λ found. IfSome found (λ title. normal name.now (pos 10) ≡ Some title)) }
     {
@@ -101,6 +103,7 @@ impl Names {
     }
 
     /// The title that a name calls, in the namespace Template where it names none.
+    #[inline(always)]
     pub fn called(&mut self, alloc: Global, name: &str) -> Result<Option<Title>, Memory>
         ensures { IfOk result (λ found. found ≡ normal name.now (pos 10)) }
     {

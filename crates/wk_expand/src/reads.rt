@@ -12,6 +12,7 @@ use wk_title::Title;
 use wk_view_rules::Kind;
 
 /// The answer to a title and a kind, shared; it is needed exactly where none was seen.
+#[inline(always)]
 pub fn asked(seen: &Seen, title: &Title, kind: Kind) -> Result<Answer, Stop>
     ensures answer { IfOk result (λ answer. ask (of_seen seen.now) title.now kind ≡ Some (answer_of answer)) }
     ensures formed { IfOk result (λ answer. IsTrue (fits_kind kind (answer_of answer))) }
@@ -25,6 +26,7 @@ pub fn asked(seen: &Seen, title: &Title, kind: Kind) -> Result<Answer, Stop>
 
 impl Expander {
     /// Reads a title with a kind.
+    #[inline(always)]
     pub fn answer(&mut self, seen: &Seen, title: &Title, kind: Kind) -> Result<Answer, Stop>
         ensures keeps { Keeps result self.old self.new }
         ensures leads { Leads seen.now (answer_to title.now kind) self.old

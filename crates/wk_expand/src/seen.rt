@@ -65,6 +65,7 @@ impl Seen {
     }
 
     /// The answer to a title and a kind, or `None` exactly where none was seen.
+    #[inline(always)]
     pub fn get(&self, title: &Title, kind: Kind) -> Result<Option<&Answer>, Memory>
         ensures answer { IfOk result
             (λ found. option_map answer_of (option_copied found) ≡ ask (of_seen self.now) title.now kind) }
@@ -79,6 +80,7 @@ impl Seen {
     }
 
     /// Keeps an answer behind those that there are, where none is kept for its title and kind yet.
+    #[inline(always)]
     pub(crate) fn note(&mut self, title: &Title, kind: Kind, answer: &Answer) -> Result<(), Memory>
         requires { IsTrue (fits_kind kind (answer_of answer.now)) }
         ensures { OnOk result (self.new ≡ noted self.old (read_with title.now kind (answer_of answer.now))) }
@@ -101,6 +103,7 @@ impl Seen {
 }
 
 /// Keeps an answer behind those that there are, where none is kept under this key yet. After an `Err` nothing is kept.
+#[inline(always)]
 fn keep(answers: &mut IndexMap<Asked, Answer>, asked: Asked, answer: &Answer) -> Result<(), Memory>
     ensures ok { OnOk result
         (entry_reads answers.new.entries ≡ noted (entry_reads answers.old.entries) (entry_read (asked, answer.now))) }

@@ -90,6 +90,7 @@ impl Expander {
 
     /// The page that a template calls whose title part is one plain part of the text; none where the title part is more
     /// than that, or calls no page.
+    #[inline(always)]
     pub fn plain_page(
         &self,
         trees: &mut Trees,
@@ -114,6 +115,7 @@ impl Expander {
     }
 
     /// What a template does that calls a page.
+    #[inline(always)]
     pub fn page_called(
         &mut self,
         seen: &Seen,
@@ -170,6 +172,7 @@ impl Expander {
     }
 
     /// A page's text is included.
+    #[inline(always)]
     fn page_text(
         &mut self,
         trees: &mut Trees,
@@ -194,6 +197,7 @@ impl Expander {
 
     /// Binds a node's further parts from one on, up to the first whose name is to be expanded, which it begins to do;
     /// behind the last the page is included.
+    #[inline(always)]
     pub fn bind(
         &mut self,
         trees: &mut Trees,
@@ -222,6 +226,7 @@ impl Expander {
 
     /// Binds the next of a node's further parts, or gives its name and what is to be bound to it, where the name is more
     /// than a part of the text.
+    #[inline(always)]
     fn bind_part(
         &self,
         node: NodeId,
@@ -259,6 +264,7 @@ impl Expander {
     }
 
     /// Includes a page, in which this is bound.
+    #[inline(always)]
     fn enter_page(
         &mut self,
         trees: &mut Trees,

@@ -47,6 +47,7 @@ impl Tree {
     }
 
     /// The same for a further owner, of which std's shared pointer may refuse one.
+    #[inline(always)]
     pub fn share(&self) -> Result<Tree, Memory>
         ensures { IfOk result (λ tree. tree ≡ self.now) }
     {

@@ -73,6 +73,7 @@ fn made(alloc: Global, text: &Text, mode: Mode) -> Result<Tree, Memory>
 }
 
 /// The tree that is kept for a key, if one is. It is the last one that was used then.
+#[inline(always)]
 fn found(kept: &mut LruCache<Reading, Tree>, key: &Reading) -> Result<Option<Tree>, Memory>
     requires { AreKept kept.old.entries }
     ensures tree { IfOk result (λ found. IfSome found (λ tree. tree ≡ parsed_text key.now)) }
@@ -89,6 +90,7 @@ fn found(kept: &mut LruCache<Reading, Tree>, key: &Reading) -> Result<Option<Tre
 }
 
 /// Keeps the tree of a key.
+#[inline(always)]
 fn keep(kept: &mut LruCache<Reading, Tree>, key: Reading, tree: &Tree) -> Result<(), Memory>
     requires kept { AreKept kept.old.entries }
     requires is { tree.now ≡ parsed_text key }
@@ -102,6 +104,7 @@ fn keep(kept: &mut LruCache<Reading, Tree>, key: Reading, tree: &Tree) -> Result
 }
 
 /// The tree of a short text: the kept one, or a new one, which is kept then.
+#[inline(always)]
 fn kept_tree(
     alloc: Global,
     kept: &mut LruCache<Reading, Tree>,
@@ -162,6 +165,7 @@ impl Trees {
     }
 
     /// The tree of a text that is read in a mode: the kept one, or a new one, which is kept where the text isn't long.
+    #[inline(always)]
     pub(crate) fn tree(&mut self, alloc: Global, text: &Text, mode: Mode) -> Result<Tree, Memory>
         ensures tree { IfOk result (λ tree. tree ≡ record { mode = mode; text = text.now }) }
         ensures same { self.new ≡ self.old }
@@ -173,6 +177,7 @@ impl Trees {
     }
 
     /// The title that a name calls, in the namespace Template where it names none. Names that were called are kept.
+    #[inline(always)]
     pub(crate) fn called(&mut self, alloc: Global, name: &str) -> Result<Option<Title>, Memory>
         ensures title { IfOk result (λ found. found ≡ normal name.now (pos 10)) }
         ensures same { self.new ≡ self.old }

@@ -42,6 +42,7 @@ pub struct Work {
 impl Expander {
     /// Adds the items of a list from a place on to an output, up to the next node. The answer is the place behind the
     /// node, and the node, if there is one.
+    #[inline(always)]
     fn fill(
         &self,
         list: ListId,
@@ -103,6 +104,7 @@ impl Work {
 
     /// A list is expanded for a node, up to the next node in it, which is opened then; a list with none is done with at
     /// once.
+    #[inline(always)]
     fn expand_for(
         &mut self,
         node: NodeId,
@@ -172,6 +174,7 @@ impl Work {
     }
 
     /// An argument goes on to which this is bound.
+    #[inline(always)]
     fn valued(&mut self, node: NodeId, bound: Bound) -> Result<Turn, Memory>
         requires within { 0 < length self.old.expander.levels.included }
         requires list { IsSome (list_with (caller_tree self.old.expander) bound.value) }
@@ -216,6 +219,7 @@ impl Work {
 
     /// A template goes on whose title part names a page. Where an answer is lacking, the title part is expanded to the
     /// name by which the template goes on once there is one.
+    #[inline(always)]
     fn page_part(
         &mut self,
         seen: &Seen,
