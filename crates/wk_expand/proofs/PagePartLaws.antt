@@ -1,7 +1,7 @@
 -- A template whose title part names a page, in one plain part of the text.
-use Rattle.std.proofs.Common.{◌≡◌, ℕ, ◌==◌, List, [], ◌++◌, length, Option, Some, false, refl, sym, ap, ◌∙◌, pos}
+use Rattle.std.proofs.Common.{◌≡◌, ℕ, ◌==◌, List, [], ◌++◌, length, Some, false, sym, ap, ◌∙◌, pos}
 use Rattle.std.specs.Option.{option_and_then}
-use Rattle.wk_text_rules.specs.Marked.{all_plain, plain_text_of, trimmed_output}
+use Rattle.wk_text_rules.specs.Marked.{all_plain, trimmed_output}
 use Rattle.wk_text_rules.specs.Titles.{PageTitle, normal}
 use Rattle.wk_tree.specs.Parsed.{ParsedText, list_with}
 use Rattle.wk_tree.specs.Tokens.{is_argument}

@@ -1,7 +1,7 @@
 use Rattle.std.proofs.Common.{drop, ap, ◌∙◌}
 use Rattle.std.proofs.lemmas.List.{take_rest}
 use Rattle.wk_text_rules.specs.Blank.{is_blank}
-use Rattle.wk_expand.proofs.BlankLaws.{blank-behind, place-within, sealed-behind}
+use Rattle.wk_expand.proofs.BlankLaws.{blank-behind, sealed-behind}
 use Rattle.wk_expand.proofs.words.is_blank_behind.Goals as goal
 
 pub returns-in-Some : goal.returns-in-Some

@@ -1,4 +1,4 @@
-use Rattle.std.proofs.Common.{refl, sym, ap, subst}
+use Rattle.std.proofs.Common.{refl, subst}
 use Rattle.std.proofs.lemmas.Result.{err_from_is_err_and}
 use Rattle.wk_view_rules.specs.Expand.{included, inclusion, redirected}
 use Rattle.wk_expand.specs.Inclusions.{found_rest}

@@ -1,6 +1,6 @@
-use Rattle.std.proofs.Common.{◌≡◌, Option, Some, length, sym, subst, ◌∙◌, pos}
+use Rattle.std.proofs.Common.{◌≡◌, length, sym, subst, ◌∙◌}
 use Rattle.std.proofs.lemmas.Result.{IfOk-weaker}
-use Rattle.wk_text_rules.specs.Titles.{PageTitle, normal}
+use Rattle.wk_text_rules.specs.Titles.{PageTitle}
 use Rattle.wk_tree.specs.Parsed.{ParsedText}
 use Rattle.wk_tree.specs.Tokens.{is_argument}
 use Rattle.wk_expand.specs.Items.{IsPlainList}

@@ -1,20 +1,11 @@
-use Rattle.std.proofs.Common.{◌≡◌, ℕ, List, [], Option, Some, None, subst, refl}
 use Rattle.std.proofs.lemmas.Result.{IfOk-weaker}
 use Rattle.wk_tree.specs.Parsed.{list_with, node_with}
-use Rattle.wk_tree.specs.declared.item.NodeId.{NodeId}
-use Rattle.wk_tree_rules.specs.Trees.{Item}
-use Rattle.wk_view_rules.specs.Expansions.{Output, ◌>>=◌}
 use Rattle.wk_expand.specs.Stack.{Place}
 use Rattle.wk_expand.specs.State.{current}
-use Rattle.wk_expand.specs.Work.{IsFilled, place_of}
-use Rattle.wk_expand.specs.declared.stack.Next.TheVariants.{Goes}
-use Rattle.wk_expand.specs.declared.stack.Pending.TheVariants.{Named}
-use Rattle.wk_expand.specs.declared.stack.Waiting.TheVariants.{Title}
-use Rattle.wk_expand.specs.declared.state.Expander.{Expander}
+use Rattle.wk_expand.specs.Work.{place_of}
 use Rattle.wk_expand.proofs.LeadLaws.{node-here}
-use Rattle.wk_expand.proofs.NamedLaws.{name-leads}
 use Rattle.wk_expand.proofs.PartLaws.{some_of}
-use Rattle.wk_expand.proofs.WorkLaws.{AreFilled, expands-end, expands-node, expands-waits, going-leads, going-valued}
+use Rattle.wk_expand.proofs.WorkLaws.{going-valued}
 use Rattle.wk_expand.proofs.work.Work.title_part.Goals as goal
 
 pub plain_bound-requires-clause-node : goal.plain_bound-requires-clause-node
