@@ -1,5 +1,6 @@
 -- Atoms that are read one after another.
-use Rattle.std.proofs.Common.{◌≡◌, ◌≢◌, ℕ, zero, suc, ◌+◌, ◌-◌, ◌<◌, ◌≤◌, ◌==◌, inl, inr, Bool, true, false, not, if◌then◌else◌, List, [], ◌∷◌, ◌++◌, length, get_or, take, drop, Option, None, refl, ap, ap₂, sym, subst, ◌∙◌, arith, append_assoc, length-drop, length-take}
+use Rattle.std.proofs.Common.{◌≡◌, ◌≢◌, ℕ, zero, suc, ◌+◌, ◌-◌, ◌<◌, ◌≤◌, ◌==◌, ◌⊎◌, inl, inr, Bool, true, false, not, if◌then◌else◌, List, [], ◌∷◌, ◌++◌, length, get_or, take, drop, Option, None, refl, ap, ap₂, sym, subst, ◌∙◌, arith, append_assoc, length-drop, length-take}
+use Rattle.std.proofs.lemmas.Bool.{cases_lt}
 use Rattle.std.proofs.lemmas.Bool.Decides.{nat_tests}
 use Rattle.std.proofs.lemmas.List.{drop-drop, drop_more, take_more, get_or-drop}
 use Rattle.std.specs.Prelude.{slice_index_or}
@@ -11,8 +12,8 @@ use Rattle.wk_tree_rules.specs.Tags.{line_of_comments}
 use Rattle.wk_tree_rules.specs.declared.AtomKind.{AtomKind}
 use Rattle.wk_tree_rules.specs.declared.AtomKind.TheVariants.{LineComment, Comment, Sealed, Ignored, Tag, Open, Close, Bar, Equals, Byte}
 use Rattle.wk_tree_rules.specs.declared.Mode.{Mode}
-use Rattle.wk_lex.specs.Ahead.{atoms_from, byte_atoms, AreSources, IsLongest, IsNextAt, AreBytes, one_mark, behind_newline, before_mark}
-use Rattle.wk_lex.specs.FirstBytes.{IsNoLineAt, GoesOn, within_a_line, no_first_of_a_line, behind_a_newline, before_a_mark}
+use Rattle.wk_lex.specs.Ahead.{atoms_from, byte_atoms, AreSources, IsLongest, IsNextAt, AreBytes, one_mark}
+use Rattle.wk_lex.specs.FirstBytes.{ends_line, AreInLine, IsBehindLine, IsInLine, IsNoLineAt}
 use Rattle.wk_lex.specs.Places.{EndsAt, byte_before}
 use Rattle.wk_lex.specs.Spans.{source_in, span_of, is_mark, IsAtomAt, IsPlain, IsRunByKind}
 use Rattle.wk_lex.proofs.AtomSteps.{atom_from, run-by_kind}
@@ -32,12 +33,49 @@ pub marked_byte : (mark : Bool) → false ≡ not mark → mark ≡ true
 marked_byte true e = refl
 marked_byte false e = absurd (cc)
 
--- bytes that don't go on are as many as can be
-pub longest-there : (text : List ℕ) (at end : ℕ) (goes : Bool) → goes ≡ false → GoesOn text end goes → IsLongest text at end
-longest-there text at end goes is (within_a_line on plain ne) = absurd (cc)
-longest-there text at end goes is (no_first_of_a_line on plain space tab) = absurd (cc)
-longest-there text at end goes is (behind_a_newline off line) = behind_newline line
-longest-there text at end goes is (before_a_mark off mark) = before_mark mark
+-- one more byte is text within a line
+line-more : (text : List ℕ) (from end : ℕ) → AreInLine text from end → IsInLine (get_or text end 0) → AreInLine text from (end + 1)
+line-more text from end before here = λ i more less. either i more less (cases_lt i end)
+  where
+    either : (i : ℕ) → from ≤ i → i < end + 1 → (i < end) ⊎ (end ≤ i) → IsInLine (get_or text i 0)
+    either i more less (inl earlier) = before i more earlier
+    either i more less (inr last) = subst (λ n. IsInLine (get_or text n 0)) (let same : end ≡ i = omega (arith, less, last) in same) here
+
+-- four more bytes are
+pub line-four : (text : List ℕ) (from end : ℕ) → AreInLine text from end → IsInLine (get_or text end 0) → IsInLine (get_or text (end + 1) 0) → IsInLine (get_or text (end + 2) 0) → IsInLine (get_or text (end + 3) 0) → AreInLine text from (end + 4)
+line-four text from end before first second third fourth =
+    let two = subst (AreInLine text from) (let same : end + 1 + 1 ≡ end + 2 = omega arith in same) (line-more text from (end + 1) (line-more text from end before first) second) in
+    let three = subst (AreInLine text from) (let same : end + 2 + 1 ≡ end + 3 = omega arith in same) (line-more text from (end + 2) two third) in
+    subst (AreInLine text from) (let same : end + 3 + 1 ≡ end + 4 = omega arith in same) (line-more text from (end + 3) three fourth)
+
+plain-newline : IsPlain 10
+plain-newline = record {
+  angle = λ e. absurd (omega (arith, e));
+  open_brace = λ e. absurd (omega (arith, e));
+  open_bracket = λ e. absurd (omega (arith, e));
+  close_brace = λ e. absurd (omega (arith, e));
+  close_bracket = λ e. absurd (omega (arith, e));
+  bar = λ e. absurd (omega (arith, e));
+  equals = λ e. absurd (omega (arith, e));
+}
+
+-- a byte that a test tells from another
+pub other-byte : (value : Bool) (byte other : ℕ) → value ≡ (byte == other) → value ≡ false → byte ≢ other
+other-byte value byte other is fails = grind (arith, nat_tests)
+
+-- a plain byte at which a line ends is a newline
+newline-there : (byte : ℕ) → IsPlain byte → ends_line byte ≡ true → byte ≡ 10
+newline-there byte plain ends = grind (arith, nat_tests, plain.angle, plain.open_brace, plain.open_bracket, plain.close_brace, plain.close_bracket, plain.bar, plain.equals)
+
+-- a line that ends at no newline doesn't end at a plain byte
+pub some-before : (text : List ℕ) (at end : ℕ) → IsPlain (get_or text at 0) → at ≤ end → ends_line (get_or text end 0) ≡ true → get_or text end 0 ≢ 10 → at < end
+some-before text at end plain place ends ne = either (cases_lt at end)
+  where
+    either : (at < end) ⊎ (end ≤ at) → at < end
+    either (inl some) = some
+    either (inr none) =
+        let same : at ≡ end = omega (arith, place, none) in
+        absurd (ne (newline-there (get_or text end 0) (subst (λ n. IsPlain (get_or text n 0)) same plain) ends))
 
 module _ (mode : Mode) (text : List ℕ) where
   pub atom-first : (at : ℕ) (next : AtomKind × ℕ) → IsAtomAt mode text at next → atoms_from mode text at ≡ span_of text (atom_from next.0 at next.1) ∷ atoms_from mode text next.1
@@ -120,12 +158,52 @@ module _ (mode : Mode) (text : List ℕ) where
   pub byte-anywhere : (at : ℕ) → at < length text → IsPlain (get_or text at 0) → get_or text at 0 ≢ 32 → get_or text at 0 ≢ 9 → IsAtomAt mode text at (Byte, at + 1)
   byte-anywhere at within plain space tab = plain-seen mode text text at refl within (no-line text at within plain.angle space tab) plain
 
-  -- bytes go on over one more
-  pub bytes-on : (at end : ℕ) (goes : Bool) → goes ≡ true → GoesOn text end goes → 0 < end → end < length text → IsPlain (get_or text at 0) → AreBytes mode text at end → AreBytes mode text at (end + 1)
-  bytes-on at end goes is (within_a_line on plain ne) some within first k = bytes-more at end first k (byte-inside end some within ne plain)
-  bytes-on at end goes is (no_first_of_a_line on plain space tab) some within first k = bytes-more at end first k (byte-anywhere end within plain space tab)
-  bytes-on at end goes is (behind_a_newline off line) some within first k = absurd (cc)
-  bytes-on at end goes is (before_a_mark off mark) some within first k = absurd (cc)
+  -- bytes go on over those that are text within a line, where the first of them is an atom
+  bytes-by : (at from : ℕ) → IsPlain (get_or text at 0) → AreBytes mode text at from → (n : ℕ) → (0 < n → IsAtomAt mode text from (Byte, from + 1)) → AreInLine text from (from + n) → from + n ≤ length text → AreBytes mode text at (from + n)
+  bytes-by at from plain k zero first line within = subst (AreBytes mode text at) (let same : from ≡ from + 0 = omega arith in same) k
+  bytes-by at from plain k (suc zero) first line within =
+      subst (AreBytes mode text at) (let same : from + 1 ≡ from + suc zero = omega arith in same) (bytes-more at from plain k (first (omega arith)))
+  bytes-by at from plain k (suc (suc n)) first line within =
+      let before = bytes-by at from plain k (suc n) (λ _. first (omega arith)) (λ i more less. line i more (omega (arith, less))) (omega (arith, within)) in
+      let last : (from + suc n) - 1 ≡ from + n = omega arith in
+      let inside = subst (λ i. get_or text i 0 ≢ 10) (sym last) (line (from + n) (omega arith) (omega arith)).inside in
+      subst (AreBytes mode text at) (let same : from + suc n + 1 ≡ from + suc (suc n) = omega arith in same)
+      (bytes-more at (from + suc n) plain before (byte-inside (from + suc n) (omega arith) (omega (arith, within)) inside (line (from + suc n) (omega arith) (omega arith)).plain))
+
+  -- the same up to the place behind them
+  bytes-line : (at from end : ℕ) → IsPlain (get_or text at 0) → AreBytes mode text at from → (from < end → IsAtomAt mode text from (Byte, from + 1)) → IsBehindLine text from end → AreBytes mode text at end
+  bytes-line at from end plain k first behind =
+      let place : from + (end - from) ≡ end = omega (arith, behind.within.0) in
+      subst (AreBytes mode text at) place
+      (bytes-by at from plain k (end - from) (λ some. first (omega (arith, some))) (λ i more less. behind.line i more (omega (arith, less, behind.within.0))) (omega (arith, behind.within.0, behind.within.1)))
+
+  -- the bytes from a plain one on up to the end of the line, where it doesn't end the line itself
+  pub line-first : (at end : ℕ) → IsPlain (get_or text at 0) → IsBehindLine text at end → IsAtomAt mode text at (Byte, at + 1) → at < end → AreBytes mode text at end
+  line-first at end plain behind here some =
+      bytes-line at (at + 1) end plain (bytes-one at here)
+      (λ more. byte-inside (at + 1) (omega arith) (omega (arith, more, behind.within.1)) (subst (λ i. get_or text i 0 ≢ 10) (let same : at ≡ at + 1 - 1 = omega arith in same) (behind.line at (omega arith) some).inside) (behind.line (at + 1) (omega arith) more).plain)
+      (record {
+        within = (omega (arith, some), behind.within.1);
+        line = λ i more less. behind.line i (omega (arith, more)) less;
+        longest = behind.longest;
+      })
+
+  -- bytes go on over a newline, which may be the first of them
+  pub bytes-newline : (at end : ℕ) → IsPlain (get_or text at 0) → IsAtomAt mode text at (Byte, at + 1) → at ≤ end → end < length text → get_or text end 0 ≡ 10 → (at < end → AreBytes mode text at end) → AreBytes mode text at (end + 1)
+  bytes-newline at end plain here from within is k = either (cases_lt at end)
+    where
+      either : (at < end) ⊎ (end ≤ at) → AreBytes mode text at (end + 1)
+      either (inl some) =
+          bytes-more at end plain (k some)
+          (byte-anywhere end within (subst IsPlain (sym is) plain-newline) (λ e. absurd (omega (arith, is, e))) (λ e. absurd (omega (arith, is, e))))
+      either (inr none) = subst (λ n. AreBytes mode text at (n + 1)) (let same : at ≡ end = omega (arith, from, none) in same) (bytes-one at here)
+
+  -- bytes go on over a line that begins with neither a space nor a tab
+  pub bytes-next_line : (at from end : ℕ) → IsPlain (get_or text at 0) → AreBytes mode text at from → (from < length text → (get_or text from 0 ≢ 32) × (get_or text from 0 ≢ 9)) → IsBehindLine text from end → AreBytes mode text at end
+  bytes-next_line at from end plain k blank behind =
+      bytes-line at from end plain k
+      (λ some. let within : from < length text = omega (arith, some, behind.within.1) in byte-anywhere from within (behind.line from (omega arith) some).plain (blank within).0 (blank within).1)
+      behind
 
   -- ---- the next atom
 

@@ -1,5 +1,5 @@
 -- What the first byte of an atom tells.
-use Rattle.std.specs.Prelude.{◌≡◌, ◌≢◌, ℕ, ◌-◌, ◌⊎◌, Bool, true, false, List, slice_index, None}
+use Rattle.std.specs.Prelude.{◌≡◌, ◌≢◌, ℕ, ◌<◌, ◌≤◌, ◌⊎◌, ◌==◌, ◌||◌, Bool, true, false, List, length, slice_index, None}
 use Rattle.std.specs.Char.{eq_ignore_ascii_case}
 use Rattle.wk_tree_rules.specs.Atoms.{after_newline}
 use Rattle.wk_tree_rules.specs.Tags.{line_of_comments}
@@ -27,10 +27,22 @@ pub record IsNoTagByte (byte : ℕ) : Type 0 where
   pub i : eq_ignore_ascii_case 105 byte ≡ false
   pub o : eq_ignore_ascii_case 111 byte ≡ false
 
--- Whether bytes that come as one go on over the byte at a place. Over no mark, and over a space or tab only within a line,
--- since a line of comments may begin with it.
-pub data GoesOn (text : List ℕ) (at : ℕ) (goes : Bool) : Type 0 where
-  within_a_line : goes ≡ true → IsPlain (slice_index text at) → slice_index text (at - 1) ≢ 10 → GoesOn text at goes
-  no_first_of_a_line : goes ≡ true → IsPlain (slice_index text at) → slice_index text at ≢ 32 → slice_index text at ≢ 9 → GoesOn text at goes
-  behind_a_newline : goes ≡ false → slice_index text (at - 1) ≡ 10 → GoesOn text at goes
-  before_a_mark : goes ≡ false → is_mark (slice_index text at) ≡ true → GoesOn text at goes
+-- a byte that is text within a line
+pub record IsInLine (byte : ℕ) : Type 0 where
+  pub plain : IsPlain byte
+  pub inside : byte ≢ 10
+
+-- whether a byte is no text within a line: a newline or a mark
+abbrev pub ends_line : ℕ → Bool
+ends_line byte = (byte == 10) || is_mark byte
+
+-- all bytes from a place on up to another are text within a line
+abbrev pub AreInLine : List ℕ → ℕ → ℕ → Type 0
+AreInLine text from end = (i : ℕ) → from ≤ i → i < end → IsInLine (slice_index text i)
+
+-- The place behind the bytes from another on that are text within a line: all up to it are, and it is the end of the text
+-- or a newline or a mark stands there.
+pub record IsBehindLine (text : List ℕ) (from end : ℕ) : Type 0 where
+  pub within : (from ≤ end) × (end ≤ length text)
+  pub line : AreInLine text from end
+  pub longest : end < length text → ends_line (slice_index text end) ≡ true

@@ -4,7 +4,7 @@ ghost use Rattle.std.specs.Bool.{OnFalse, OnTrue};
 ghost use Rattle.std.specs.List.{All};
 ghost use Rattle.wk_tree_rules.specs.Atoms.{atoms};
 ghost use Rattle.wk_lex.specs.Spans.{span_of, is_mark, IsAtomAt, IsPlain, IsRow, IsWithin, IsRunWhereMarks};
-ghost use Rattle.wk_lex.specs.FirstBytes.{IsClosing, IsNoLineAt, IsNoTagByte, IsOpening};
+ghost use Rattle.wk_lex.specs.FirstBytes.{ends_line, IsClosing, IsInLine, IsNoLineAt, IsNoTagByte, IsOpening};
 ghost use Rattle.wk_tree_rules.specs.declared.Mode.{Mode as ReadingMode};
 
 use crate::Atom;
@@ -15,18 +15,28 @@ use std::alloc::Global;
 use wk_memory::Memory;
 use wk_tree_rules::{AtomKind, Mode};
 
-/// A dot for each byte that is text wherever it stands: no atom begins with it but the byte alone. Another mark for those
-/// with which an atom may begin, and for a space and a tab, with which a line of comments may.
+/// The class of each byte. 0 is text wherever it stands: no atom begins with it but the byte alone. So is 2, a newline,
+/// which ends a line. 1 is a space or a tab: no atom but a line of comments begins with it, so that it is text within a
+/// line. 3 is a mark, with which another atom may begin.
 static FIRST_BYTES: [u8; 256] = *b"\
-    .........-......................\
-    -...........................--..\
-    ...........................-.-..\
-    ...........................---..\
-    ................................\
-    ................................\
-    ................................\
-    ................................\
+    00000000012000000000000000000000\
+    10000000000000000000000000003300\
+    00000000000000000000000000030300\
+    00000000000000000000000000033300\
+    00000000000000000000000000000000\
+    00000000000000000000000000000000\
+    00000000000000000000000000000000\
+    00000000000000000000000000000000\
 ";
+
+/// Whether the byte is text within a line: neither a mark nor a newline.
+#[inline(always)]
+pub fn is_in_line(byte: u8) -> bool
+    ensures value { result ≡ not (ends_line byte) }
+    ensures text { OnTrue result (IsInLine byte) }
+{
+    FIRST_BYTES[byte as usize] < b'2'
+}
 
 /// Whether the byte is text wherever it stands.
 #[inline(always)]
@@ -35,7 +45,7 @@ pub fn is_text(byte: u8) -> bool
     ensures space { OnTrue result (byte ≢ 32) }
     ensures tab { OnTrue result (byte ≢ 9) }
 {
-    FIRST_BYTES[byte as usize] == b'.'
+    FIRST_BYTES[byte as usize] & 1 == 0
 }
 
 /// Whether no atom but a line of comments or a single byte begins with the byte.

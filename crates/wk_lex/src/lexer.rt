@@ -2,39 +2,48 @@
 ghost use Rattle.std.specs.Prelude.{◌≡◌, ◌+◌, ◌<◌, ◌≤◌, ◌^◌, [], length, slice_index, MatchOption};
 ghost use Rattle.std.specs.Bool.{OnTrue};
 ghost use Rattle.wk_lex.specs.Ahead.{AreBytes, IsLongest, IsNextAt, IsNextAtom};
-ghost use Rattle.wk_lex.specs.FirstBytes.{GoesOn};
+ghost use Rattle.wk_lex.specs.FirstBytes.{IsBehindLine};
 ghost use Rattle.wk_lex.specs.Spans.{IsAtomAt, IsPlain};
 ghost use Rattle.wk_tree_rules.specs.Atoms.{atoms};
 ghost use Rattle.wk_tree_rules.specs.declared.AtomKind.TheVariants.{Byte};
 ghost use Rattle.wk_tree_rules.specs.declared.Mode.{Mode as ReadingMode};
 
 use crate::Atom;
-use crate::atoms::{closing_at, is_plain, is_text, marked_at, opening_at};
+use crate::atoms::{closing_at, is_in_line, is_plain, is_text, marked_at, opening_at};
 use crate::tags::Tags;
 use std::marker::Model;
 use wk_tree_rules::{AtomKind, Mode};
 
-/// Whether bytes that come as one go on over the byte at the place. Over no mark, and over a space or a tab only within
-/// a line, since a line of comments may begin with it.
+/// The first place from a place on at which a mark or a newline stands, or the end of the text. Four bytes are looked at
+/// in each turn.
 #[inline(always)]
-fn goes_on(text: &[u8], at: usize) -> bool
-    requires some { 0 < at }
-    requires within { at < length text.now }
-    ensures { GoesOn text.now at result }
+fn behind_line(text: &[u8], from: usize) -> usize
+    requires { from ≤ length text.now }
+    ensures { IsBehindLine text.now from result }
 {
-    let byte = text[at];
-    // One look tells for most bytes.
-    if is_text(byte) {
-        return true;
+    let mut end = from;
+    while text.len() - end >= 4 {
+        if !is_in_line(text[end]) {
+            return end;
+        }
+        if !is_in_line(text[end + 1]) {
+            return end + 1;
+        }
+        if !is_in_line(text[end + 2]) {
+            return end + 2;
+        }
+        if !is_in_line(text[end + 3]) {
+            return end + 3;
+        }
+        end += 4;
     }
-    // Most others are spaces.
-    if byte != b' ' && !is_plain(byte) {
-        return false;
+    while end < text.len() {
+        if !is_in_line(text[end]) {
+            return end;
+        }
+        end += 1;
     }
-    if text[at - 1] == b'\n' {
-        return false;
-    }
-    true
+    end
 }
 
 /// The place behind the plain byte at the place and the plain bytes that follow it, up to a line that may be one of
@@ -46,12 +55,13 @@ fn behind_text(text: &[u8], at: usize) -> usize
     ensures bytes { (mode : ReadingMode) → IsAtomAt mode text.now at (Byte, at + 1) → AreBytes mode text.now at result }
     ensures longest { IsLongest text.now at result }
 {
-    let mut end = at + 1;
-    while end < text.len() {
-        if !goes_on(text, end) {
+    let mut end = behind_line(text, at);
+    while end < text.len() && text[end] == b'\n' {
+        end += 1;
+        if end < text.len() && (text[end] == b' ' || text[end] == b'\t') {
             return end;
         }
-        end += 1;
+        end = behind_line(text, end);
     }
     end
 }
