@@ -1,10 +1,10 @@
 -- A text without any mark.
-use Rattle.std.proofs.Common.{◌≡◌, ℕ, zero, suc, ◌+◌, ◌-◌, ◌<◌, ◌≤◌, ◌⊎◌, inl, inr, List, [], length, get_or, drop, codes, None, option_and_then, ap, refl, sym, subst, arith, length-drop}
+use Rattle.std.proofs.Common.{◌≡◌, ℕ, zero, suc, ◌+◌, ◌-◌, ◌<◌, ◌≤◌, ◌⊎◌, ◌||◌, inl, inr, Bool, true, false, not, List, [], length, get_or, drop, drop-cons, codes, None, option_and_then, ap, refl, sym, subst, ◌∙◌, arith, length-drop}
 use Rattle.std.proofs.Math.ListN.{drop_of_length-le}
 use Rattle.std.proofs.lemmas.Bool.{cases_lt}
 use Rattle.std.proofs.lemmas.List.{drop-drop}
 use Rattle.std.proofs.lemmas.List.Sums.{prefix_len-le-length}
-use Rattle.std.specs.List.{prefix_len}
+use Rattle.std.specs.List.{list_any, prefix_len}
 use Rattle.wk_text_rules.specs.Shapes.{exactly, run_of, ◌and_then◌, up_to, repeated, one_or_more}
 use Rattle.wk_tree_laws.proofs.AtomLemmas.{atoms-sources}
 use Rattle.wk_tree_rules.specs.Atoms.{atom_at, atoms}
@@ -15,9 +15,9 @@ use Rattle.wk_lex.specs.Ahead.{atoms_from, AreBytes, AreSources, IsNextAtom, at_
 use Rattle.wk_lex.specs.FirstBytes.{IsNoLineAt}
 use Rattle.wk_lex.specs.Parts.{spaced_comment}
 use Rattle.wk_lex.specs.Places.{EndsAt, byte_before}
-use Rattle.wk_lex.specs.Spans.{IsAtomAt, IsPlain}
+use Rattle.wk_lex.specs.Spans.{is_mark, IsAtomAt, IsPlain}
 use Rattle.wk_lex.proofs.FirstLemmas.{not-behind}
-use Rattle.wk_lex.proofs.LexerLemmas.{atoms-all, bytes-more, bytes-one, next-bytes}
+use Rattle.wk_lex.proofs.LexerLemmas.{atoms-all, bytes-more, bytes-one, marked_byte, next-bytes}
 use Rattle.wk_lex.proofs.PlaceLemmas.{and_then-none, run_then-ends}
 use Rattle.wk_lex.proofs.PlainLemmas.{not-word, plain-seen}
 use Rattle.wk_lex.proofs.SpanSteps.{spans_at-end}
@@ -29,6 +29,29 @@ plain-more text at before here i within = either (cases_lt i at)
     either : (i < at) ⊎ (at ≤ i) → IsPlain (get_or text i 0)
     either (inl less) = before i less
     either (inr more) = subst (λ n. IsPlain (get_or text n 0)) (let e : at ≡ i = omega (arith, within, more) in e) here
+
+-- ---- whether a mark stands behind a place
+
+marks-from : (text : List ℕ) (at : ℕ) → at < length text → list_any is_mark (drop at text) ≡ (is_mark (get_or text at 0) || list_any is_mark (drop (at + 1) text))
+marks-from text at within =
+    let next : suc at ≡ at + 1 = omega arith in
+    ap (list_any is_mark) (drop-cons text at 0 within) ∙ ap (λ n. is_mark (get_or text at 0) || list_any is_mark (drop n text)) next
+
+-- none stands at the place
+pub marks-passed : (text : List ℕ) (at : ℕ) → at < length text → true ≡ not (is_mark (get_or text at 0)) → list_any is_mark (drop at text) ≡ list_any is_mark (drop (at + 1) text)
+marks-passed text at within other = marks-from text at within ∙ ap (λ t. t || list_any is_mark (drop (at + 1) text)) (no-mark (is_mark (get_or text at 0)) other)
+  where
+    no-mark : (mark : Bool) → true ≡ not mark → mark ≡ false
+    no-mark true e = absurd (cc)
+    no-mark false e = refl
+
+-- one stands at the place
+pub marks-found : (text : List ℕ) (at : ℕ) → at < length text → false ≡ not (is_mark (get_or text at 0)) → list_any is_mark (drop at text) ≡ true
+marks-found text at within other = marks-from text at within ∙ ap (λ t. t || list_any is_mark (drop (at + 1) text)) (marked_byte (is_mark (get_or text at 0)) other)
+
+-- none stands behind the end
+pub marks-none : (text : List ℕ) (at : ℕ) → length text ≤ at → list_any is_mark (drop at text) ≡ false
+marks-none text at behind = ap (list_any is_mark) (drop_of_length-le text behind)
 
 module _ (text : List ℕ) (plain : (i : ℕ) → i < length text → IsPlain (get_or text i 0)) where
   no-comment-start : (at : ℕ) → EndsAt (exactly (codes "<!--")) text at None

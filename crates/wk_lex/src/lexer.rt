@@ -1,9 +1,10 @@
 //! The atoms of a text one after another.
-ghost use Rattle.std.specs.Prelude.{◌≡◌, ◌+◌, ◌<◌, ◌≤◌, ◌^◌, [], length, slice_index, MatchOption};
+ghost use Rattle.std.specs.Prelude.{◌≡◌, ◌+◌, ◌<◌, ◌≤◌, ◌^◌, [], length, not, slice_index, MatchOption};
 ghost use Rattle.std.specs.Bool.{OnTrue};
+ghost use Rattle.std.specs.List.{list_any};
 ghost use Rattle.wk_lex.specs.Ahead.{AreBytes, IsLongest, IsNextAt, IsNextAtom};
 ghost use Rattle.wk_lex.specs.FirstBytes.{IsBehindLine};
-ghost use Rattle.wk_lex.specs.Spans.{IsAtomAt, IsPlain};
+ghost use Rattle.wk_lex.specs.Spans.{is_mark, IsAtomAt, IsPlain};
 ghost use Rattle.wk_tree_rules.specs.Atoms.{atoms};
 ghost use Rattle.wk_tree_rules.specs.declared.AtomKind.TheVariants.{Byte};
 ghost use Rattle.wk_tree_rules.specs.declared.Mode.{Mode as ReadingMode};
@@ -156,7 +157,8 @@ fn next_at(tags: &mut Tags, mode: Mode, at: usize) -> (AtomKind, usize)
 /// Whether no mark stands in the text: neither a `<`, a brace or a bracket nor a bar or an equals sign. All of it comes
 /// as one then. Takes no memory.
 pub fn has_no_mark(text: &[u8]) -> bool
-    ensures { OnTrue result ((mode : ReadingMode) → 0 < length text.now → IsNextAtom text.now (atoms mode text.now) [] (record { kind = Byte; start = 0; len = length text.now })) }
+    ensures marks { result ≡ not (list_any is_mark text.now) }
+    ensures whole { OnTrue result ((mode : ReadingMode) → 0 < length text.now → IsNextAtom text.now (atoms mode text.now) [] (record { kind = Byte; start = 0; len = length text.now })) }
 {
     let mut at = 0;
     while at < text.len() {
