@@ -3,7 +3,8 @@ use Rattle.std.proofs.Common.{◌≡◌, ◌≢◌, ℕ, zero, suc, ◌+◌, ◌
 use Rattle.std.proofs.lemmas.Bool.Decides.{nat_tests}
 use Rattle.std.proofs.lemmas.List.{map-append, length-replicate}
 use Rattle.std.proofs.lemmas.List.Concat.{flat_map-append}
-use Rattle.wk_tree.specs.Layout.{SectionShown, ValueShown, NodeShown, OpenNodeShown, LayoutShown, no_section, no_open_node, put, put_each, joined, with_item, with_equals, new_part, with_bar, braces_of, new_node, with_node, with_token, laid}
+use Rattle.wk_tree.specs.Laid.{NodeShown}
+use Rattle.wk_tree.specs.Layout.{SectionShown, ValueShown, OpenNodeShown, LayoutShown, no_section, no_open_node, put, put_each, joined, with_item, with_equals, new_part, with_bar, braces_of, new_node, first_open_node, other_open_nodes, with_node, with_token, laid}
 use Rattle.wk_tree.specs.Shown.{from_end, ShowsItem, shows_plain, shows_sealed, shows_nothing, shows_node, ShowsItems, no_items, one_more, no_name, a_name, ShowsPart, no_parts, part_more, ShowsNode, ShowsNodes, no_nodes, node_more, ShowsSection, ShowsSegment, no_equals, at_equals, ShowsOpenNode, ShowsOpenNodes, no_open_nodes, open_node_more, ShowsLayout}
 use Rattle.wk_tree.specs.Tokens.{opens, fills, text_tokens, is_argument, opening_tokens, item_tokens, content_tokens, items_tokens}
 use Rattle.wk_tree.specs.Tree.{IsLaidAs}
@@ -304,3 +305,7 @@ laid-more tokens at x some within is =
     ap laid (drop-cons tokens (at - 1) (Plain 0 0) (omega (arith, some, within)))
     ∙ ap (λ y. with_token y (laid (drop (suc (at - 1)) tokens))) is
     ∙ ap (λ n. with_token x (laid (drop n tokens))) next
+
+-- what is laid out once a node is met
+pub with-node-is : (is_argument : Bool) (start : ℕ) (l : LayoutShown) (open_node : OpenNodeShown) (outer : List OpenNodeShown) (found : List NodeShown) → open_node ≡ with_item (code.Node (record { 0 = length l.nodes })) (new_node is_argument start l.open_node).len (first_open_node l.outer) → outer ≡ other_open_nodes l.outer → found ≡ new_node is_argument start l.open_node ∷ l.nodes → record { open_node = open_node; outer = outer; nodes = found } ≡ with_node is_argument start l
+with-node-is is_argument start l open_node outer found a b c = cc

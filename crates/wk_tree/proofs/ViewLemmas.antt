@@ -1,12 +1,12 @@
 -- What a parsed text shows.
-use Rattle.std.proofs.Common.{◌≡◌, ℕ, zero, suc, ◌-◌, ◌<◌, ◌==◌, Bool, true, false, if◌then◌else◌, List, [], ◌∷◌, length, get_or, map, reverse, Option, Some, None, option_map, refl, ap, ap₂, sym, subst, ◌∙◌, arith}
+use Rattle.std.proofs.Common.{◌≡◌, ℕ, zero, suc, ◌-◌, ◌<◌, ◌≤◌, ◌==◌, Bool, true, false, if◌then◌else◌, List, [], ◌∷◌, length, get_or, map, reverse, Option, Some, None, option_map, refl, ap, ap₂, sym, subst, ◌∙◌, arith}
 use Rattle.std.proofs.lemmas.Bool.{eqb-true}
 use Rattle.std.proofs.lemmas.List.{get_or-reverse, length-map, length-reverse}
 use Rattle.std.specs.List.{slice_get, flat_map, AllByRecursion}
-use Rattle.std.specs.Option.{IfSome, IsSome, option_and_then, option_to_list, unwrap_or}
+use Rattle.std.specs.Option.{IfSome, IsSome, is_some, option_and_then, option_to_list, unwrap_or}
 use Rattle.wk_tree.proofs.LayoutLemmas.{nodes-long}
-use Rattle.wk_tree.specs.Layout.{NodeShown, PartShown, listed, node_of, part_of}
-use Rattle.wk_tree.specs.Parsed.{ParsedText, IsParsed, IsTextIn, part_at, node_with, part_with, list_with, nodes_of, tree_of}
+use Rattle.wk_tree.specs.Laid.{AllLists, NodeShown, PartShown, listed, node_of, part_of, ranged}
+use Rattle.wk_tree.specs.Parsed.{ParsedText, IsParsed, IsName, IsPart, IsTextIn, part_at, node_with, part_with, list_with, nodes_of, tree_of}
 use Rattle.wk_tree.specs.declared.item.ListId.{ListId}
 use Rattle.wk_tree.specs.declared.item.ListId.TheVariants.{Root, Title, Name, Value}
 use Rattle.wk_tree_laws.proofs.PieceLemmas.{all-front, all-back}
@@ -16,8 +16,10 @@ use Rattle.wk_tree_rules.specs.Trees.{source_of as item_source}
 use Rattle.wk_tree.specs.Shown.{from_end, ShowsItems, ShowsName, no_name, a_name, ShowsPart, ShowsParts, no_parts, part_more, ShowsNode, ShowsNodes, no_nodes, node_more}
 use Rattle.wk_tree.specs.Tree.{IsLaidAs}
 use Rattle.wk_tree.specs.declared.item.Item.{Item}
-use Rattle.wk_tree.specs.declared.layout.NodeLists.{NodeLists}
-use Rattle.wk_tree.specs.declared.layout.PartLists.{PartLists}
+use Rattle.wk_tree.specs.declared.item.NodeId.{NodeId}
+use Rattle.wk_tree.specs.declared.laid.Listed.{Listed}
+use Rattle.wk_tree.specs.declared.laid.NodeLists.{NodeLists}
+use Rattle.wk_tree.specs.declared.laid.PartLists.{PartLists}
 use Rattle.wk_tree_rules.specs.Reduction.{pieces_of, reduced}
 use Rattle.wk_tree_rules.specs.Selection.{selection, selected}
 use Rattle.wk_tree_rules.specs.Tree.{Node, Part, item_of, tree, lists, node_lists, part_lists, title_part, further_parts}
@@ -62,6 +64,11 @@ from_end-get {X = X} (y ∷ xs) n x e = by_test (n == length xs) refl e (from_en
         let at : suc (length xs) - 1 - n ≡ suc (length xs - 1 - n) = omega (arith, later.0) in
         (omega (arith, later.0), λ d. ap (λ k. get_or (y ∷ xs) k d) at ∙ later.1 d)
 
+get_or-same : {X : Type 0} (xs : List X) (n : ℕ) (d e : X) → n < length xs → get_or xs n d ≡ get_or xs n e
+get_or-same [] n d e h = absurd (omega (arith, h))
+get_or-same (x ∷ xs) zero d e h = refl
+get_or-same (x ∷ xs) (suc n) d e h = get_or-same xs n d e (omega (arith, h))
+
 get_or-map : {X Y : Type 0} (f : X → Y) (xs : List X) (n : ℕ) (d : X) → get_or (map f xs) n (f d) ≡ f (get_or xs n d)
 get_or-map f [] n d = refl
 get_or-map f (x ∷ xs) zero d = refl
@@ -101,19 +108,25 @@ found-node {ns = ns} id n (node_more {s = s} {n = m} {ss = ss} {rest = rest} h k
         let later = again g in
         record { s = later.s; is = ap (λ b. if b then Some s else from_end ss id) (ap (λ k. id == k) long ∙ f) ∙ later.is; shows = later.shows }
 
-module _ (ns rest : List Node) (kept : List NodeLists) (id : ℕ) (all : ShowsNodes ns (map node_of (reverse kept)) rest) where
-  pub node-within : IsSome (from_end rest id) → id < length kept
-  node-within h =
-      let n = some-is (from_end rest id) h in
-      let found = found-node id n.0 all n.1 in
-      (from_end-reverse node_of kept id found.s found.is).0
+none-there : {X : Type 0} (o : Option X) → ((x : X) → o ≡ Some x → ⊥) → o ≡ None
+none-there None h = refl
+none-there (Some x) h = absurd (h x refl)
 
-  pub node-shown : (x : NodeLists) → x ≡ get_or kept id x → IfSome (from_end rest id) (ShowsNode ns (node_of x))
+module _ (every : AllLists) (ns rest : List Node) (kept : List NodeLists) (id : ℕ) (shows : ShowsNodes ns (map (node_of every) (reverse kept)) rest) where
+  node-within : (n : Node) → from_end rest id ≡ Some n → id < length kept
+  node-within n e =
+      let found = found-node id n shows e in
+      (from_end-reverse (node_of every) kept id found.s found.is).0
+
+  pub node-none : length kept ≤ id → from_end rest id ≡ None
+  node-none long = none-there (from_end rest id) (λ n e. omega (arith, long, node-within n e))
+
+  pub node-shown : (x : NodeLists) → x ≡ get_or kept id x → IfSome (from_end rest id) (ShowsNode ns (node_of every x))
   node-shown x read =
-      if-some (ShowsNode ns (node_of x)) (from_end rest id) (λ n e.
-      let found = found-node id n all e in
-      let is = (from_end-reverse node_of kept id found.s found.is).1 x in
-      subst (λ s. ShowsNode ns s n) (sym (ap node_of read ∙ is)) found.shows)
+      if-some (ShowsNode ns (node_of every x)) (from_end rest id) (λ n e.
+      let found = found-node id n shows e in
+      let is = (from_end-reverse (node_of every) kept id found.s found.is).1 x in
+      subst (λ s. ShowsNode ns s n) (sym (ap (node_of every) read ∙ is)) found.shows)
 
 -- ---- parts
 
@@ -130,26 +143,35 @@ found-part (suc at) q (part_more h k) e =
     let later = found-part at q k e in
     (omega (arith, later.0), later.1)
 
-module _ (ns : List Node) (lists : NodeLists) where
-  pub part-within : (o : Option Node) (at : ℕ) → IfSome o (ShowsNode ns (node_of lists)) → IsSome (option_and_then (part_at at) o) → at < length lists.parts.items
-  part-within None at h s = absurd (cc)
-  part-within (Some n) at h s =
-      let q = some-is (slice_get (further_parts n.content) at) s in
-      let found = found-part at q.0 h.parts q.1 in
-      omega (arith, found.0, length-map lists.parts.items part_of)
+module _ (every : AllLists) (ns : List Node) (lists : NodeLists) where
+  pub part-none : (o : Option Node) (at : ℕ) → IfSome o (ShowsNode ns (node_of every lists)) → length (ranged every.parts lists.parts) ≤ at → option_and_then (part_at at) o ≡ None
+  part-none None at h long = refl
+  part-none (Some n) at h long =
+      none-there (slice_get (further_parts n.content) at) (λ q e.
+      let found = found-part at q h.parts e in
+      omega (arith, found.0, long, length-map (ranged every.parts lists.parts) (part_of every.items)))
 
-  pub part-shown : (o : Option Node) (at : ℕ) (x : PartLists) → IfSome o (ShowsNode ns (node_of lists)) → x ≡ get_or lists.parts.items at x → IfSome (option_and_then (part_at at) o) (ShowsPart ns (part_of x))
+  pub part-shown : (o : Option Node) (at : ℕ) (x : PartLists) → IfSome o (ShowsNode ns (node_of every lists)) → x ≡ get_or (ranged every.parts lists.parts) at x → IfSome (option_and_then (part_at at) o) (ShowsPart ns (part_of every.items x))
   part-shown None at x h read = tt
   part-shown (Some n) at x h read =
-      if-some (ShowsPart ns (part_of x)) (slice_get (further_parts n.content) at) (λ q e.
-      let found = (found-part at q h.parts e).1 (part_of x) in
-      subst (λ p. ShowsPart ns p q) (get_or-map part_of lists.parts.items at x ∙ ap part_of (sym read)) found)
+      if-some (ShowsPart ns (part_of every.items x)) (slice_get (further_parts n.content) at) (λ q e.
+      let found = (found-part at q h.parts e).1 (part_of every.items x) in
+      subst (λ p. ShowsPart ns p q) (get_or-map (part_of every.items) (ranged every.parts lists.parts) at x ∙ ap (part_of every.items) (sym read)) found)
 
-  pub parts-count : (o : Option Node) (count : ℕ) → count ≡ length lists.parts.items → IfSome o (ShowsNode ns (node_of lists)) → IfSome o (λ n. count ≡ length (further_parts n.content))
+  -- the part that is read, whatever another would be read as
+  pub part-there : (o : Option Node) (at : ℕ) (parts : List PartLists) (d : PartLists) → IfSome o (ShowsNode ns (node_of every lists)) → parts ≡ ranged every.parts lists.parts → at < length parts → IfSome (option_and_then (part_at at) o) (ShowsPart ns (part_of every.items (get_or parts at d)))
+  part-there o at parts d h is within =
+      part-shown o at (get_or parts at d) h (get_or-same parts at d (get_or parts at d) within ∙ ap (λ (ps : List PartLists). get_or ps at (get_or parts at d)) is)
+
+  pub parts-count : (o : Option Node) (count : ℕ) → count ≡ length (ranged every.parts lists.parts) → IfSome o (ShowsNode ns (node_of every lists)) → IfSome o (λ n. count ≡ length (further_parts n.content))
   parts-count None count e h = tt
-  parts-count (Some n) count e h = e ∙ sym (length-map lists.parts.items part_of) ∙ parts-long h.parts
+  parts-count (Some n) count e h = e ∙ sym (length-map (ranged every.parts lists.parts) (part_of every.items)) ∙ parts-long h.parts
 
--- ---- names
+  pub title-shown : (o : Option Node) (cs : List Item) → cs ≡ listed every.items lists.title → IfSome o (ShowsNode ns (node_of every lists)) → IfSome o (λ n. ShowsItems ns cs (title_part n.content))
+  title-shown None cs e h = tt
+  title-shown (Some n) cs e h = subst (λ t. ShowsItems ns t (title_part n.content)) (sym e) h.title
+
+-- ---- names and values
 
 a_name-shown : {ns : List Node} {cs : List Item} {name : Option (List TreeItem)} → ShowsName ns (Some cs) name → IfSome name (ShowsItems ns cs)
 a_name-shown (a_name h) = h
@@ -157,13 +179,35 @@ a_name-shown (a_name h) = h
 no_name-shown : {ns : List Node} (cs : List Item) {name : Option (List TreeItem)} → ShowsName ns None name → IfSome name (ShowsItems ns cs)
 no_name-shown cs no_name = tt
 
-pub name-shown : (ns : List Node) (lists : PartLists) (o : Option Part) (cs : List Item) → option_map listed lists.name ≡ Some cs → IfSome o (ShowsPart ns (part_of lists)) → IfSome (option_and_then (λ q. q.name) o) (ShowsItems ns cs)
-name-shown ns lists None cs e h = tt
-name-shown ns lists (Some q) cs e h = a_name-shown (subst (λ n. ShowsName ns n q.name) e h.name)
+pub name-shown : (every : List Item) (ns : List Node) (lists : PartLists) (o : Option Part) (cs : List Item) → option_map (listed every) lists.name ≡ Some cs → IfSome o (ShowsPart ns (part_of every lists)) → IfSome (option_and_then (λ q. q.name) o) (ShowsItems ns cs)
+name-shown every ns lists None cs e h = tt
+name-shown every ns lists (Some q) cs e h = a_name-shown (subst (λ n. ShowsName ns n q.name) e h.name)
 
-pub name-none : (ns : List Node) (lists : PartLists) (o : Option Part) (cs : List Item) → option_map listed lists.name ≡ None → IfSome o (ShowsPart ns (part_of lists)) → IfSome (option_and_then (λ q. q.name) o) (ShowsItems ns cs)
-name-none ns lists None cs e h = tt
-name-none ns lists (Some q) cs e h = no_name-shown cs (subst (λ n. ShowsName ns n q.name) e h.name)
+pub name-none : (every : List Item) (ns : List Node) (lists : PartLists) (o : Option Part) (cs : List Item) → option_map (listed every) lists.name ≡ None → IfSome o (ShowsPart ns (part_of every lists)) → IfSome (option_and_then (λ q. q.name) o) (ShowsItems ns cs)
+name-none every ns lists None cs e h = tt
+name-none every ns lists (Some q) cs e h = no_name-shown cs (subst (λ n. ShowsName ns n q.name) e h.name)
+
+pub value-shown : (every : List Item) (ns : List Node) (lists : PartLists) (o : Option Part) (cs : List Item) → cs ≡ listed every lists.value → IfSome o (ShowsPart ns (part_of every lists)) → IfSome o (λ q. ShowsItems ns cs q.value)
+value-shown every ns lists None cs e h = tt
+value-shown every ns lists (Some q) cs e h = subst (λ t. ShowsItems ns t q.value) (sym e) h.value
+
+-- ---- a part and its lists
+
+is-name : {ns : List Node} (parsed : ParsedText) (every : List Item) (id : NodeId) (at : ℕ) (q : Part) (kept : Option Listed) (name : Option (List TreeItem)) → part_with parsed id at ≡ Some q → q.name ≡ name → ShowsName ns (option_map (listed every) kept) name → IsName parsed (if is_some kept then Some (Name id at) else None) name
+is-name parsed every id at q None name there is no_name = tt
+is-name parsed every id at q (Some l) name there is (a_name h) = ap (option_and_then (λ (p : Part). p.name)) there ∙ is
+
+pub is-part : (parsed : ParsedText) (every : List Item) (id : NodeId) (at : ℕ) (lists : PartLists) (name : Option ListId) → name ≡ (if is_some lists.name then Some (Name id at) else None) → IfSome (part_with parsed id at) (ShowsPart (nodes_of parsed) (part_of every lists))
+    → IfSome (part_with parsed id at) (IsPart parsed (record { name = name; value = Value id at; start = lists.start; len = lists.len }))
+is-part parsed every id at lists name is h =
+    if-some (IsPart parsed (record { name = name; value = Value id at; start = lists.start; len = lists.len })) (part_with parsed id at) (λ q e.
+    let shows : ShowsPart (nodes_of parsed) (part_of every lists) q = subst (λ o. IfSome o (ShowsPart (nodes_of parsed) (part_of every lists))) e h in
+    record {
+      name = subst (λ n. IsName parsed n q.name) (sym is) (is-name parsed every id at q lists.name q.name e refl shows.name);
+      value = ap (option_map (λ (p : Part). p.value)) e;
+      start = shows.start;
+      len = shows.len;
+    })
 
 -- ---- lists among the lists of a tree
 

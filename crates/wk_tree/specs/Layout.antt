@@ -1,13 +1,12 @@
 -- How tokens are laid out in lists, from the last to the first.
-use Rattle.std.specs.Prelude.{ℕ, ◌+◌, Bool, if◌then◌else◌, List, [], ◌∷◌, length, map, reverse, Option, Some, None, option_map}
+use Rattle.std.specs.Prelude.{◌≡◌, ℕ, ◌+◌, Bool, if◌then◌else◌, List, [], ◌∷◌, ◌++◌, length, map, reverse, take, drop, Option, Some, None, option_map}
+use Rattle.wk_tree.specs.Laid.{PartShown, NodeShown, AllLists, part_of, node_of}
 use Rattle.wk_tree.specs.declared.item.Item.{Item}
 use Rattle.wk_tree.specs.declared.item.Item.TheVariants as code
-use Rattle.wk_tree.specs.declared.layout.Listed.{Listed}
-use Rattle.wk_tree.specs.declared.layout.Listed.TheVariants.{Empty, One, Many}
 use Rattle.wk_tree.specs.declared.layout.OpenNode.{OpenNode}
 use Rattle.wk_tree.specs.declared.layout.Layout.{Layout}
-use Rattle.wk_tree.specs.declared.layout.NodeLists.{NodeLists}
-use Rattle.wk_tree.specs.declared.layout.PartLists.{PartLists}
+use Rattle.wk_tree.specs.declared.laid.Lists.{Lists}
+use Rattle.wk_tree.specs.declared.laid.PartLists.{PartLists}
 use Rattle.wk_tree.specs.declared.layout.Section.{Section}
 use Rattle.wk_tree.specs.declared.token.Token.{Token}
 use Rattle.wk_tree.specs.declared.token.Token.TheVariants.{Plain, Sealed, Nothing, Bar, Equals, NodeStart, NodeEnd, Fill}
@@ -23,19 +22,6 @@ pub record SectionShown : Type 0 where
 pub record ValueShown : Type 0 where
   pub equals : ℕ
   pub section : SectionShown
-
-pub record PartShown : Type 0 where
-  pub name : Option (List Item)
-  pub value : List Item
-  pub start : ℕ
-  pub len : ℕ
-
-pub record NodeShown : Type 0 where
-  pub argument : Bool
-  pub start : ℕ
-  pub len : ℕ
-  pub title : List Item
-  pub parts : List PartShown
 
 -- what was met of a node: the items up to the next equals sign or bar, the value behind them, the parts behind it, and
 -- how many bytes all stand for
@@ -53,47 +39,78 @@ pub record LayoutShown : Type 0 where
 
 -- ---- what the code keeps
 
--- the items of a list
-abbrev pub listed : Listed → List Item
-listed Empty = []
-listed (One i) = i ∷ []
-listed (Many items) = items.items
+-- a list that another begins with
+pub record Begins {X : Type 0} (xs ys : List X) : Type 0 where
+  pub rest : List X
+  pub is : ys ≡ xs ++ rest
 
--- the first item, and others from the last
-abbrev pub items_by : Option Item → List Item → List Item
-items_by None others = []
-items_by (Some i) others = i ∷ reverse others
+-- the first item, and so many others, which stand uppermost on a stack
+abbrev pub items_by : Option Item → ℕ → List Item → List Item
+items_by None others stack = []
+items_by (Some i) others stack = i ∷ take others stack
 
-abbrev pub items_of : Section → List Item
-items_of section = items_by section.first section.others.items
+-- what stands under the others
+abbrev pub under_by : Option Item → ℕ → List Item → List Item
+under_by None others stack = stack
+under_by (Some i) others stack = drop others stack
 
-abbrev pub section_of : Section → SectionShown
-section_of section = record { items = items_of section; len = section.len }
+abbrev pub items_of : Section → List Item → List Item
+items_of section stack = items_by section.first section.others stack
+
+abbrev pub under_section : Section → List Item → List Item
+under_section section stack = under_by section.first section.others stack
+
+abbrev pub section_of : Section → List Item → SectionShown
+section_of section stack = record { items = items_of section stack; len = section.len }
 
 -- the place of an equals sign, and what stands behind it
-abbrev pub value_by : Section → ℕ → ValueShown
-value_by section at = record { equals = at; section = section_of section }
+abbrev pub value_by : Section → List Item → ℕ → ValueShown
+value_by section stack at = record { equals = at; section = section_of section stack }
 
-abbrev pub part_of : PartLists → PartShown
-part_of part = record { name = option_map listed part.name; value = listed part.value; start = part.start; len = part.len }
+-- what stands under the items behind an equals sign, if there is one
+abbrev pub under_value : Option ℕ → Section → List Item → List Item
+under_value None value stack = stack
+under_value (Some at) value stack = under_section value stack
 
-abbrev pub node_of : NodeLists → NodeShown
-node_of n = record { argument = n.argument; start = n.start; len = n.len; title = listed n.title; parts = map part_of n.parts.items }
+abbrev pub under_node : OpenNode → List Item → List Item
+under_node open_node stack = under_value open_node.equals open_node.value (under_section open_node.section stack)
 
-abbrev pub open_node_of : OpenNode → OpenNodeShown
-open_node_of open_node = record {
-  section = section_of open_node.section;
-  value = option_map (value_by open_node.value) open_node.equals;
-  parts = map part_of (reverse open_node.parts.items);
+abbrev pub value_of : OpenNode → List Item → Option ValueShown
+value_of open_node stack = option_map (value_by open_node.value (under_section open_node.section stack)) open_node.equals
+
+pub record BeginsAll (lists : Lists) (all : AllLists) : Type 0 where
+  pub items : Begins lists.items.items all.items
+  pub parts : Begins lists.parts.items all.parts
+
+-- an open node, by the stacks of items and of parts
+abbrev pub open_node_of : List Item → List Item → List PartLists → OpenNode → OpenNodeShown
+open_node_of all items parts open_node = record {
+  section = section_of open_node.section items;
+  value = value_of open_node items;
+  parts = map (part_of all) (take open_node.parts parts);
   total = open_node.total;
 }
 
-abbrev pub layout_of : Layout → LayoutShown
-layout_of layout = record {
-  open_node = open_node_of layout.open_node;
-  outer = map open_node_of (reverse layout.outer.items);
-  nodes = map node_of (reverse layout.nodes.items);
+-- open nodes, the innermost first
+abbrev pub open_nodes_of : List Item → List Item → List PartLists → List OpenNode → List OpenNodeShown
+open_nodes_of all items parts [] = []
+open_nodes_of all items parts (open_node ∷ open_nodes) =
+    open_node_of all items parts open_node ∷ open_nodes_of all (under_node open_node items) (drop open_node.parts parts) open_nodes
+
+-- the stacks, the uppermost first
+abbrev pub layout_by : AllLists → List Item → List PartLists → Layout → LayoutShown
+layout_by all items parts layout = record {
+  open_node = open_node_of all.items items parts layout.open_node;
+  outer = open_nodes_of all.items (under_node layout.open_node items) (drop layout.open_node.parts parts) (reverse layout.outer.items);
+  nodes = map (node_of all) (reverse layout.nodes.items);
 }
+
+abbrev pub layout_of : AllLists → Layout → LayoutShown
+layout_of all layout = layout_by all (reverse layout.stacks.items.items) (reverse layout.stacks.parts.items) layout
+
+-- what is laid out so far, whatever the lists will be in the end
+abbrev pub IsLayout : Layout → LayoutShown → Type 0
+IsLayout layout shown = (all : AllLists) → BeginsAll layout.lists all → layout_of all layout ≡ shown
 
 -- ---- the steps
 

@@ -1,3 +1,4 @@
+pub mod Laid
 pub mod Layout
 pub mod Matching
 pub mod Parsed

@@ -1,7 +1,7 @@
 -- A parsed text, and its nodes and lists by how they are named.
 use Rattle.std.specs.Prelude.{◌≡◌, ℕ, List, Option, Some, None, option_map, option_and_then}
 use Rattle.std.specs.List.{slice_get}
-use Rattle.wk_tree.specs.Layout.{NodeShown}
+use Rattle.wk_tree.specs.Laid.{NodeShown}
 use Rattle.wk_tree.specs.Shown.{from_end, ShowsItems, ShowsNodes}
 use Rattle.wk_tree.specs.declared.item.Item.{Item}
 use Rattle.wk_tree.specs.declared.item.ListId.{ListId}

@@ -1,6 +1,7 @@
 -- What the lists of a tree show.
 use Rattle.std.specs.Prelude.{◌≡◌, ℕ, ◌+◌, ◌==◌, if◌then◌else◌, List, [], ◌∷◌, ◌++◌, length, map, Option, Some, None}
-use Rattle.wk_tree.specs.Layout.{SectionShown, ValueShown, PartShown, NodeShown, OpenNodeShown, LayoutShown}
+use Rattle.wk_tree.specs.Laid.{PartShown, NodeShown}
+use Rattle.wk_tree.specs.Layout.{SectionShown, ValueShown, OpenNodeShown, LayoutShown}
 use Rattle.wk_tree.specs.Tokens.{is_argument}
 use Rattle.wk_tree.specs.declared.item.Item.{Item}
 use Rattle.wk_tree.specs.declared.item.Item.TheVariants as code

@@ -1,6 +1,6 @@
 -- A tree that is laid out.
 use Rattle.std.specs.Prelude.{List}
-use Rattle.wk_tree.specs.Layout.{NodeShown}
+use Rattle.wk_tree.specs.Laid.{NodeShown}
 use Rattle.wk_tree.specs.Shown.{ShowsItems, ShowsNodes}
 use Rattle.wk_tree.specs.declared.item.Item.{Item}
 use Rattle.wk_tree_rules.specs.Tree.{nodes}

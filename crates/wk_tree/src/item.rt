@@ -3,7 +3,7 @@
 /// A node of a tree: how many nodes stand behind it in a walk from the root, which meets each node before those that
 /// stand in it, in the order of the text.
 #[derive(Clone, Copy, Debug, PartialEq, Eq)]
-pub struct NodeId(pub(crate) usize);
+pub struct NodeId(pub(crate) u32);
 
 /// A list of a tree.
 #[derive(Clone, Copy, Debug, PartialEq, Eq)]

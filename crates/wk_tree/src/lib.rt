@@ -3,6 +3,7 @@
 #![tactic(auto)]
 
 mod item;
+mod laid;
 mod layout;
 mod matching;
 mod parsed;

@@ -1,9 +1,10 @@
 //! A text that is parsed.
-ghost use Rattle.std.specs.Prelude.{◌≡◌, ◌+◌, ◌<◌, ◌^◌, length, map, reverse, option_map, unwrap_or, Some, IfOk, IfSome, IsSome};
-ghost use Rattle.wk_tree.specs.Layout.{laid, listed, node_of, part_of};
+ghost use Rattle.std.specs.Prelude.{◌≡◌, ◌+◌, ◌<◌, ◌^◌, length, map, option_map, unwrap_or, Some, IfOk, IfSome, IsSome};
+ghost use Rattle.wk_tree.specs.Laid.{found_nodes, root_of};
+ghost use Rattle.wk_tree.specs.Layout.{laid};
 ghost use Rattle.wk_tree.specs.Parsed.{ParsedText, tree_of, nodes_of, source_of, node_with, part_with, list_with, IsPart, IsTextIn};
 ghost use Rattle.std.specs.List.{AllByRecursion};
-ghost use Rattle.wk_tree.specs.Shown.{ShowsItems, ShowsNode, ShowsPart};
+ghost use Rattle.wk_tree.specs.Shown.{ShowsItems};
 ghost use Rattle.wk_tree.specs.Tokens.{is_argument, items_tokens};
 ghost use Rattle.wk_tree.specs.Tree.{IsLaidAs};
 ghost use Rattle.wk_tree_rules.specs.Reduction.{pieces_of, reduced};
@@ -11,7 +12,8 @@ ghost use Rattle.wk_tree_rules.specs.Tree.{item_of, node_length, title_part, fur
 ghost use Rattle.std.specs.Slice.Iter.{iter_rest};
 
 use crate::item::{Item, ListId, NodeId};
-use crate::layout::{Listed, NodeLists, PartLists, finish};
+use crate::laid::{Laid, Listed, Lists};
+use crate::layout::finish;
 use crate::matching::matched;
 use crate::token::Token;
 use std::alloc::Global;
@@ -31,11 +33,10 @@ fn tokens_of(alloc: Global, mode: Mode, source: &[u8]) -> Result<Vec<Token>, Mem
     Ok(tokens)
 }
 
-/// The root's list of the text that is read and its nodes, from the last. Text without any mark is one item, and no list
-/// of tokens is made of it.
-fn lists_of(alloc: Global, mode: Mode, source: &[u8]) -> Result<(Listed, Vec<NodeLists>), Memory>
+/// The tree of the text that is read. Text without any mark is one item, and no list of tokens is made of it.
+fn laid_of(alloc: Global, mode: Mode, source: &[u8]) -> Result<Laid, Memory>
     requires { length source.now < 2 ^ 32 }
-    ensures { IfOk result (λ found. IsLaidAs (map item_of (reduced (pieces_of mode source.now))) (listed found.0) (map node_of (reverse found.1.items))) }
+    ensures { IfOk result (λ found. IsLaidAs (map item_of (reduced (pieces_of mode source.now))) (root_of found) (found_nodes found)) }
 {
     let size = source.len();
     if 0 < size && has_no_mark(source) {
@@ -43,7 +44,15 @@ fn lists_of(alloc: Global, mode: Mode, source: &[u8]) -> Result<(Listed, Vec<Nod
             start: 0,
             len: size as u32,
         };
-        return Ok((Listed::One(item), Vec::new(alloc)));
+        return Ok(Laid {
+            root: Listed::One(item),
+            root_items: Vec::new(alloc),
+            lists: Lists {
+                items: Vec::new(alloc),
+                parts: Vec::new(alloc),
+            },
+            nodes: Vec::new(alloc),
+        });
     }
     let tokens = tokens_of(alloc, mode, source)?;
     let found = finish(alloc, &tokens)?;
@@ -56,20 +65,19 @@ pub struct Parsed {
     mode: Mode,
     text: Text,
     selected: Option<Vec<u8>>,
-    root: Listed,
-    nodes: Vec<NodeLists>,
+    laid: Laid,
 }
 
 impl Model for Parsed {
-    ghost use Rattle.std.specs.Prelude.{map, reverse, option_map};
-    ghost use Rattle.wk_tree.specs.Layout.{listed, node_of};
+    ghost use Rattle.std.specs.Prelude.{option_map};
+    ghost use Rattle.wk_tree.specs.Laid.{found_nodes, root_of};
     ghost use Rattle.wk_tree.specs.Parsed.{ParsedText, IsParsed};
 
     ghost Value = { ParsedText };
 
     ghost view = { λ p. record { mode = p.mode; text = p.text } };
 
-    ghost invariant = { λ p. IsParsed p.mode p.text (option_map (λ v. v.items) p.selected) (listed p.root) (map node_of (reverse p.nodes.items)) };
+    ghost invariant = { λ p. IsParsed p.mode p.text (option_map (λ v. v.items) p.selected) (root_of p.laid) (found_nodes p.laid) };
 }
 
 /// The text that is read: what is selected, or the whole.
@@ -97,14 +105,13 @@ pub fn parse(alloc: Global, text: &Text, mode: Mode) -> Result<Parsed, Memory>
     if MAX_SOURCE <= source.len() {
         return Err(Memory);
     }
-    let (root, nodes) = lists_of(alloc, mode, source)?;
+    let laid = laid_of(alloc, mode, source)?;
     let text = text.share()?;
     Ok(Parsed {
         mode,
         text,
         selected,
-        root,
-        nodes,
+        laid,
     })
 }
 
@@ -153,26 +160,15 @@ impl Parsed {
         ListId::Root
     }
 
-    fn node(&self, node: NodeId) -> &NodeLists
-        requires { IsSome (node_with self.now node) }
-        ensures { IfSome (node_with self.now node) (ShowsNode (nodes_of self.now) (node_of result.now)) }
-    {
-        &self.nodes[node.0]
-    }
-
-    fn part_lists(&self, node: NodeId, at: usize) -> &PartLists
-        requires { IsSome (part_with self.now node at) }
-        ensures { IfSome (part_with self.now node at) (ShowsPart (nodes_of self.now) (part_of result.now)) }
-    {
-        &self.node(node).parts[at]
-    }
-
     /// Whether a node is an argument, and not a template. Takes no memory.
     pub fn argument(&self, node: NodeId) -> bool
         requires { IsSome (node_with self.now node) }
         ensures { IfSome (node_with self.now node) (λ n. result ≡ is_argument n.kind) }
     {
-        self.node(node).argument
+        match self.laid.node(node) {
+            Some(lists) => lists.argument,
+            None => false,
+        }
     }
 
     /// The place at which a node starts, and how many bytes it has. Takes no memory.
@@ -180,8 +176,10 @@ impl Parsed {
         requires { IsSome (node_with self.now node) }
         ensures { IfSome (node_with self.now node) (λ n. (result.0 ≡ n.start) × (result.1 ≡ node_length n)) }
     {
-        let lists = self.node(node);
-        (lists.start, lists.len)
+        match self.laid.node(node) {
+            Some(lists) => (lists.start, lists.len),
+            None => (0, 0),
+        }
     }
 
     /// The title part of a node. Takes no memory.
@@ -197,7 +195,7 @@ impl Parsed {
         requires { IsSome (node_with self.now node) }
         ensures { IfSome (node_with self.now node) (λ n. result ≡ length (further_parts n.content)) }
     {
-        self.node(node).parts.len()
+        self.laid.parts(node)
     }
 
     /// A further part of a node. The first is part 0. Takes no memory.
@@ -205,17 +203,23 @@ impl Parsed {
         requires { IsSome (part_with self.now node at) }
         ensures { IfSome (part_with self.now node at) (IsPart self.now result) }
     {
-        let lists = self.part_lists(node, at);
-        let name = if lists.name.is_some() {
-            Some(ListId::Name(node, at))
-        } else {
-            None
-        };
-        Part {
-            name,
-            value: ListId::Value(node, at),
-            start: lists.start,
-            len: lists.len,
+        match self.laid.part(node, at) {
+            Some(lists) => Part {
+                name: if lists.name.is_some() {
+                    Some(ListId::Name(node, at))
+                } else {
+                    None
+                },
+                value: ListId::Value(node, at),
+                start: lists.start,
+                len: lists.len,
+            },
+            None => Part {
+                name: None,
+                value: ListId::Value(node, at),
+                start: 0,
+                len: 0,
+            },
         }
     }
 
@@ -238,13 +242,10 @@ impl Parsed {
     {
         self.know_texts(list);
         match list {
-            ListId::Root => self.root.iter(),
-            ListId::Title(node) => self.node(node).title.iter(),
-            ListId::Name(node, at) => match &self.part_lists(node, at).name {
-                Some(name) => name.iter(),
-                None => [].iter(),
-            },
-            ListId::Value(node, at) => self.part_lists(node, at).value.iter(),
+            ListId::Root => self.laid.root(),
+            ListId::Title(node) => self.laid.title(node),
+            ListId::Name(node, at) => self.laid.name(node, at),
+            ListId::Value(node, at) => self.laid.value(node, at),
         }
     }
 }
@@ -252,6 +253,7 @@ impl Parsed {
 #[cfg(test)]
 mod tests {
     use super::*;
+    use crate::laid::{NodeLists, PartLists, ranged};
     use std::test::Fail;
 
     /// A mode, a text, and its lists: plain text in quotes, sealed text in angle brackets, what gives nothing in round
@@ -347,25 +349,37 @@ mod tests {
         Ok(())
     }
 
-    fn show_part(out: &mut String, source: &str, part: &PartLists) -> Result<(), Fail> {
+    fn show_part(
+        out: &mut String,
+        source: &str,
+        laid: &Laid,
+        part: &PartLists,
+    ) -> Result<(), Fail> {
+        let all = laid.lists.items.as_slice();
         out.push_str("|")?;
         if let Some(name) = &part.name {
-            show_items(out, source, name.iter().as_slice())?;
+            show_items(out, source, name.iter(all).as_slice())?;
             out.push_str("=")?;
         }
-        show_items(out, source, part.value.iter().as_slice())?;
+        show_items(out, source, part.value.iter(all).as_slice())?;
         out.push_str("@")?;
         show_span(out, part.start, part.len)
     }
 
-    fn show_node(out: &mut String, source: &str, at: usize, node: &NodeLists) -> Result<(), Fail> {
+    fn show_node(
+        out: &mut String,
+        source: &str,
+        laid: &Laid,
+        at: usize,
+        node: &NodeLists,
+    ) -> Result<(), Fail> {
         let braces = if node.argument { "{{{" } else { "{{" };
         out.push_str(&format!(in *out.allocator(); " #{at}{braces}")?)?;
         show_span(out, node.start, node.len)?;
         out.push_str(":")?;
-        show_items(out, source, node.title.iter().as_slice())?;
-        for part in &node.parts {
-            show_part(out, source, part)?;
+        show_items(out, source, node.title.iter(&laid.lists.items).as_slice())?;
+        for part in ranged(&laid.lists.parts, node.parts) {
+            show_part(out, source, laid, part)?;
         }
         Ok(())
     }
@@ -373,9 +387,10 @@ mod tests {
     fn show(alloc: Global, parsed: &Parsed) -> Result<String, Fail> {
         let mut out = String::new(alloc);
         let source = str::from_utf8(parsed.source()).map_err(|_| "no text")?;
+        let laid = &parsed.laid;
         show_items(&mut out, source, parsed.items(parsed.root()).as_slice())?;
-        for (at, node) in parsed.nodes.iter().enumerate() {
-            show_node(&mut out, source, at, node)?;
+        for (at, node) in laid.nodes.iter().enumerate() {
+            show_node(&mut out, source, laid, at, node)?;
         }
         Ok(out)
     }
@@ -407,12 +422,12 @@ mod tests {
             for mode in [Mode::View, Mode::Include] {
                 let parsed = parse_str(alloc, mode, text)?;
                 let tokens = tokens_of(alloc, mode, text.as_bytes())?;
-                let (root, nodes) = finish(alloc, &tokens)?;
-                let mut laid = String::new(alloc);
-                show_items(&mut laid, text, root.iter().as_slice())?;
+                let laid = finish(alloc, &tokens)?;
+                let mut shown = String::new(alloc);
+                show_items(&mut shown, text, laid.root().as_slice())?;
                 let found = show(alloc, &parsed)?;
-                assert_eq!(rt; found.as_bytes(), laid.as_bytes(), "in {text:?}");
-                assert_eq!(rt; nodes.len(), 0);
+                assert_eq!(rt; found.as_bytes(), shown.as_bytes(), "in {text:?}");
+                assert_eq!(rt; laid.nodes.len(), 0);
             }
         }
         Ok(())
@@ -441,7 +456,11 @@ mod tests {
                 text.push_str(end)?;
             }
             let parsed = parse_str(alloc, Mode::View, &text)?;
-            assert_eq!(rt; parsed.nodes.len(), nodes, "at {count} times {piece:?}");
+            assert_eq!(rt;
+                parsed.laid.nodes.len(),
+                nodes,
+                "at {count} times {piece:?}"
+            );
         }
         Ok(())
     }

@@ -1,10 +1,10 @@
-use Rattle.std.proofs.Common.{◌≡◌, ◌≤◌, drop, length}
-use Rattle.wk_tree.specs.Layout.{layout_of, laid}
+use Rattle.std.proofs.Common.{◌≤◌, drop, length}
+use Rattle.wk_tree.specs.Layout.{IsLayout, laid}
 use Rattle.wk_tree.proofs.layout.lay.Given as goal
 
 abbrev pub invariant-loop-at : goal.invariant-loop-at
 invariant-loop-at l = record {
-  laid : layout_of l.layout ≡ laid (drop l.at l.tokens);
+  laid : IsLayout l.layout (laid (drop l.at l.tokens));
   within : l.at ≤ length l.tokens;
 }
 
