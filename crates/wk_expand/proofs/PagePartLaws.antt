@@ -14,7 +14,7 @@ use Rattle.wk_view_rules.specs.Expansions.{Expansion, Output, ◌>>=◌}
 use Rattle.wk_view_rules.specs.Frames.{Frame}
 use Rattle.wk_view_rules.specs.Words.{word}
 use Rattle.wk_view_rules.specs.declared.Word.TheVariants.{Page}
-use Rattle.wk_expand.specs.Items.{IsPlainList}
+use Rattle.wk_expand.specs.Items.{IsPlainName}
 use Rattle.wk_expand.specs.PageParts.{IsPageNext, IsPagePart}
 use Rattle.wk_expand.specs.Stack.{IsHere, IsNext, Place, parts_at}
 use Rattle.wk_expand.specs.Work.{IsGoing, place_of}
@@ -25,18 +25,18 @@ use Rattle.wk_expand.specs.declared.work.Work.{Work}
 use Rattle.wk_expand.proofs.DecideLaws.{page-by, template-by}
 use Rattle.wk_expand.proofs.LeadLaws.{list-here}
 use Rattle.wk_expand.proofs.NodeLaws.{kind-template}
-use Rattle.wk_expand.proofs.PlainLaws.{ExpandsPlainly, behind-plain, plain-text, trimmed-plain}
+use Rattle.wk_expand.proofs.PlainLaws.{ExpandsPlainly, behind-plain, plain-text, trimmed-all-plain}
 use Rattle.wk_expand.proofs.WrittenLaws.{bind-same}
 
 module _ (inner : Frame → List Item → Expansion Output) (viewed : PageTitle) (frame : Frame) (plainly : ExpandsPlainly inner) where
   -- the page that is named
-  pub page-plain : (parsed : ParsedText) (title : ListId) (name : List ℕ) (kind : NodeKind) (parts : List Part) (count : ℕ) (page : PageTitle) → IsPlainList parsed title name → is_argument kind ≡ false → length parts ≡ count → word (all_plain name) (count == 0) ≡ Page → normal name (pos 10) ≡ Some page → (place : Frame) (items : List Item) → list_with parsed title ≡ Some items → (inner place items >>= (λ out. kind_output inner viewed frame kind out parts)) ≡ inclusion inner viewed frame page parts
+  pub page-plain : (parsed : ParsedText) (title : ListId) (name : List ℕ) (kind : NodeKind) (parts : List Part) (count : ℕ) (page : PageTitle) → IsPlainName parsed title name → is_argument kind ≡ false → length parts ≡ count → word (all_plain name) (count == 0) ≡ Page → normal name (pos 10) ≡ Some page → (place : Frame) (items : List Item) → list_with parsed title ≡ Some items → (inner place items >>= (λ out. kind_output inner viewed frame kind out parts)) ≡ inclusion inner viewed frame page parts
   page-plain parsed title name kind parts count page h template counted calls named place items there =
-      let whole : all_plain name ≡ trimmed_output (all_plain name) = sym (trimmed-plain name h.trimmed) in
-      behind-plain inner place parsed title name items (λ out. kind_output inner viewed frame kind out parts) plainly h there
-      ∙ kind-template inner viewed frame kind (all_plain name) parts template
-      ∙ template-by inner viewed frame (all_plain name) (all_plain name) parts count Page whole counted calls
-      ∙ page-by inner viewed frame (all_plain name) (all_plain name) parts (Some page) whole
+      let within : all_plain name ≡ trimmed_output (all_plain h.text) = ap all_plain h.is ∙ sym (trimmed-all-plain h.text) in
+      behind-plain inner place parsed title h.text items (λ out. kind_output inner viewed frame kind out parts) plainly h.alone there
+      ∙ kind-template inner viewed frame kind (all_plain h.text) parts template
+      ∙ template-by inner viewed frame (all_plain h.text) (all_plain name) parts count Page within counted calls
+      ∙ page-by inner viewed frame (all_plain h.text) (all_plain name) parts (Some page) within
       (ap (option_and_then (λ text. normal text (pos 10))) (plain-text name) ∙ named)
 
 -- a node whose title part names a page

@@ -26,13 +26,12 @@ use Rattle.wk_expand.specs.declared.answer.Counts.{Counts}
 use Rattle.wk_expand.specs.declared.levels.Bound.{Bound}
 use Rattle.wk_expand.specs.declared.state.Expander.{Expander}
 use Rattle.wk_expand.proofs.ArgumentLaws.{argument-bound}
-use Rattle.wk_expand.specs.Items.{item_with, text_at, IsItem, IsPlainList, IsPlainText, IsTextAt}
+use Rattle.wk_expand.specs.Items.{item_with, text_at, IsItem, IsPlainName, IsPlainText, IsTextAt}
 use Rattle.wk_expand.proofs.ListLaws.{AreItems, item-found-at, item-known, items-long}
 use Rattle.wk_expand.proofs.NodeLaws.{kind-argument, some_within}
 use Rattle.wk_expand.proofs.PageLaws.{behind_value, run_value}
 use Rattle.wk_expand.proofs.PartLaws.{at_some, some_part}
 use Rattle.wk_expand.proofs.RunLaws.{passes-at}
-use Rattle.wk_expand.proofs.TextLaws.{trimmed_already}
 
 alone : {X : Type 0} (xs : List X) (x : X) → 1 ≡ length xs → slice_get xs 0 ≡ Some x → xs ≡ x ∷ []
 alone [] x long e = cc
@@ -70,30 +69,6 @@ plain-text text =
     ap (λ b. if b then Some (text_of (all_plain text)) else None) (every-plain text)
     ∙ ap (λ t. Some t) (text-of-plain text)
 
--- a text without a blank byte at its ends is a name as it stands
-pub trimmed-plain : (text : List ℕ) → trimmed text ≡ text → trimmed_output (all_plain text) ≡ all_plain text
-trimmed-plain text whole =
-    trimmed_already (all_plain text)
-    (subst (λ t. length (trimmed t) ≡ length t) (sym (text-of-plain text)) (ap length whole))
-
-pub name-plain : (text : List ℕ) → trimmed text ≡ text → plain_text_of (trimmed_output (all_plain text)) ≡ Some text
-name-plain text whole = ap plain_text_of (trimmed-plain text whole) ∙ plain-text text
-
--- ---- its expansion
-
--- a list of one plain part is expanded to its text
-abbrev pub ExpandsPlainly : (Frame → List TreeItem → Expansion Output) → Type 0
-ExpandsPlainly inner = (frame : Frame) (start : ℕ) (text : List ℕ) → inner frame (plain start text ∷ []) ≡ give (all_plain text)
-
--- what is done with the output of such a list is done with its text
-pub behind-plain : {A : Type 0} (inner : Frame → List TreeItem → Expansion Output) (frame : Frame) (parsed : ParsedText) (list : ListId) (text : List ℕ) (items : List TreeItem) (next : Output → Expansion A) → ExpandsPlainly inner → IsPlainList parsed list text → list_with parsed list ≡ Some items → (inner frame items >>= next) ≡ next (all_plain text)
-behind-plain inner frame parsed list text items next plainly h there =
-    let same : items ≡ plain h.start text ∷ [] = (let e : Some items ≡ Some (plain h.start text ∷ []) = sym there ∙ h.there in cc) in
-    ap (λ xs. inner frame xs >>= next) same
-    ∙ ap (λ (e : Expansion Output). e >>= next) (plainly frame h.start text)
-
--- ---- the value of an argument
-
 prefix-plain : (text : List ℕ) → prefix_len is_plain_blank (all_plain text) ≡ prefix_len is_blank_byte text
 prefix-plain [] = refl
 prefix-plain (b ∷ text) = ap (λ (n : ℕ). cond (is_blank_byte b) (1 + n) 0) (prefix-plain text)
@@ -115,6 +90,26 @@ trimmed-end-plain text =
 pub trimmed-all-plain : (text : List ℕ) → trimmed_output (all_plain text) ≡ all_plain (trimmed text)
 trimmed-all-plain text = ap trimmed_output_end (trimmed-start-plain text) ∙ trimmed-end-plain (trimmed_start text)
 
+-- the name is the text without the blank bytes at both ends
+pub name-plain : (text name : List ℕ) → name ≡ trimmed text → plain_text_of (trimmed_output (all_plain text)) ≡ Some name
+name-plain text name is =
+    ap plain_text_of (trimmed-all-plain text) ∙ plain-text (trimmed text) ∙ ap (λ (t : List ℕ). Some t) (sym is)
+
+-- ---- its expansion
+
+-- a list of one plain part is expanded to its text
+abbrev pub ExpandsPlainly : (Frame → List TreeItem → Expansion Output) → Type 0
+ExpandsPlainly inner = (frame : Frame) (start : ℕ) (text : List ℕ) → inner frame (plain start text ∷ []) ≡ give (all_plain text)
+
+-- what is done with the output of such a list is done with its text
+pub behind-plain : {A : Type 0} (inner : Frame → List TreeItem → Expansion Output) (frame : Frame) (parsed : ParsedText) (list : ListId) (text : List ℕ) (items : List TreeItem) (next : Output → Expansion A) → ExpandsPlainly inner → IsPlainText parsed list text → list_with parsed list ≡ Some items → (inner frame items >>= next) ≡ next (all_plain text)
+behind-plain inner frame parsed list text items next plainly h there =
+    let same : items ≡ plain h.start text ∷ [] = (let e : Some items ≡ Some (plain h.start text ∷ []) = sym there ∙ h.there in cc) in
+    ap (λ xs. inner frame xs >>= next) same
+    ∙ ap (λ (e : Expansion Output). e >>= next) (plainly frame h.start text)
+
+-- ---- the value of an argument
+
 shown-plain : (named : Bool) (text : List ℕ) → (if named then trimmed_output (all_plain text) else all_plain text) ≡ all_plain (if named then trimmed text else text)
 shown-plain true text = trimmed-all-plain text
 shown-plain false text = refl
@@ -131,11 +126,11 @@ module _ (inner : Frame → List TreeItem → Expansion Output) (viewed : PageTi
       ∙ ap (λ (t : List ℕ). argument_within_limit (all_plain t)) (sym is)
 
   -- the name of an argument that is one plain part, to which a value is bound
-  pub title-plain : (parsed : ParsedText) (title : ListId) (name : List ℕ) (kind : NodeKind) (parts : List Part) (b : Binding) → IsPlainList parsed title name → is_argument kind ≡ true → bound frame name ≡ Some b → (place : Frame) (items : List TreeItem) → list_with parsed title ≡ Some items → (inner place items >>= (λ out. kind_output inner viewed frame kind out parts)) ≡ argument_value inner viewed frame b
+  pub title-plain : (parsed : ParsedText) (title : ListId) (name : List ℕ) (kind : NodeKind) (parts : List Part) (b : Binding) → IsPlainName parsed title name → is_argument kind ≡ true → bound frame name ≡ Some b → (place : Frame) (items : List TreeItem) → list_with parsed title ≡ Some items → (inner place items >>= (λ out. kind_output inner viewed frame kind out parts)) ≡ argument_value inner viewed frame b
   title-plain parsed title name kind parts b h argument is place items there =
-      behind-plain inner place parsed title name items (λ out. kind_output inner viewed frame kind out parts) plainly h there
-      ∙ kind-argument inner viewed frame kind (all_plain name) parts argument
-      ∙ argument-bound inner viewed frame (all_plain name) parts b (ap (option_and_then (bound frame)) (name-plain name h.trimmed) ∙ is)
+      behind-plain inner place parsed title h.text items (λ out. kind_output inner viewed frame kind out parts) plainly h.alone there
+      ∙ kind-argument inner viewed frame kind (all_plain h.text) parts argument
+      ∙ argument-bound inner viewed frame (all_plain h.text) parts b (ap (option_and_then (bound frame)) (name-plain h.text name h.is) ∙ is)
 
 -- bytes of an argument are counted
 pub counted : (seen : Seen) (s : Expander) (counts : Counts) (out given : Output) → argument_within_limit out (progress_with s.counts s.tested.items) ≡ gives (given, progress_with counts s.tested.items) → ComesTo seen (argument_within_limit out) s (give given) (record s { counts = counts })

@@ -22,16 +22,16 @@ pub record IsTextAt (parsed : ParsedText) (start len : ℕ) : Type 0 where
   pub within : start + len ≤ length (source_of parsed)
   pub utf8 : IsUtf8 (text_at parsed start len)
 
--- a list is one plain part, this text, without a blank byte at its ends
-pub record IsPlainList (parsed : ParsedText) (list : ListId) (text : List ℕ) : Type 0 where
-  pub start : ℕ
-  pub there : list_with parsed list ≡ Some (plain start text ∷ [])
-  pub trimmed : trimmed text ≡ text
-
 -- a list is one plain part, this text
 pub record IsPlainText (parsed : ParsedText) (list : ListId) (text : List ℕ) : Type 0 where
   pub start : ℕ
   pub there : list_with parsed list ≡ Some (plain start text ∷ [])
+
+-- a list is one plain part, some text, of which this is what stands between the blank bytes at both ends
+pub record IsPlainName (parsed : ParsedText) (list : ListId) (name : List ℕ) : Type 0 where
+  pub text : List ℕ
+  pub alone : IsPlainText parsed list text
+  pub is : name ≡ trimmed text
 
 -- what an item stands for
 abbrev pub IsItem : ParsedText → Item → TreeItem → Type 0

@@ -50,7 +50,7 @@ impl Expander {
         if !self.tree().argument(node) {
             return None;
         }
-        let name = self.plain_part(title)?;
+        let name = self.plain_name(title)?;
         self.levels.look(name)
     }
 

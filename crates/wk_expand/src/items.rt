@@ -4,12 +4,12 @@ ghost use Rattle.std.specs.Str.{IsUtf8};
 ghost use Rattle.wk_tree.specs.Parsed.{list_with};
 ghost use Rattle.wk_tree_rules.specs.Trees.{Item as TreeItem};
 ghost use Rattle.wk_text_rules.specs.Blank.{trimmed};
-ghost use Rattle.wk_expand.specs.Items.{IsPlainList, IsPlainText};
+ghost use Rattle.wk_expand.specs.Items.{IsPlainName, IsPlainText};
 ghost use Rattle.wk_expand.specs.State.{current};
 ghost use Rattle.wk_expand.specs.Work.{IsFilled};
 
 use crate::state::Expander;
-use wk_bytes::{trim, trim_end, trim_start};
+use wk_bytes::{trim_end, trim_start};
 use wk_memory::Memory;
 use wk_out::Out;
 use wk_tree::{Item, ListId, NodeId, Parsed};
@@ -70,19 +70,6 @@ pub fn plain_text(tree: &Parsed, list: ListId) -> Option<&str>
     Some(part_of(tree.source(), start, len))
 }
 
-/// The same, where it has no blank byte at its ends. Takes no memory.
-#[inline(always)]
-pub fn plain_part(tree: &Parsed, list: ListId) -> Option<&str>
-    requires { IsSome (list_with tree.now list) }
-    ensures { IfSome result (λ text. IsPlainList tree.now list text.now) }
-{
-    let text = plain_text(tree, list)?;
-    if trim(text.as_bytes()).len() != text.len() {
-        return None;
-    }
-    Some(text)
-}
-
 /// The text without the blank bytes at both ends. Takes no memory.
 pub fn trimmed_text(text: &str) -> &str
     ensures { result.now ≡ trimmed text.now }
@@ -94,12 +81,14 @@ pub fn trimmed_text(text: &str) -> &str
 }
 
 impl Expander {
-    /// The part of the text that a list is, where it is one plain part without a blank byte at its ends. Takes no memory.
+    /// The name that a list gives, where it is one plain part: its text without the blank bytes at both ends. Takes no
+    /// memory.
     #[inline(always)]
-    pub fn plain_part(&self, list: ListId) -> Option<&str>
+    pub fn plain_name(&self, list: ListId) -> Option<&str>
         requires { IsSome (list_with (current self.now) list) }
-        ensures { IfSome result (λ text. IsPlainList (current self.now) list text.now) }
+        ensures { IfSome result (λ name. IsPlainName (current self.now) list name.now) }
     {
-        plain_part(self.tree(), list)
+        let text = plain_text(self.tree(), list)?;
+        Some(trimmed_text(text))
     }
 }

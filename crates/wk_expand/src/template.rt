@@ -104,7 +104,7 @@ impl Expander {
         if self.tree().argument(node) {
             return Ok(None);
         }
-        let Some(name) = self.plain_part(title) else {
+        let Some(name) = self.plain_name(title) else {
             return Ok(None);
         };
         let count = self.tree().parts(node);
@@ -254,7 +254,7 @@ impl Expander {
             bind_number(self.alloc, &mut binder.args, binder.numbered, bound)?;
             return Ok(None);
         };
-        match self.plain_part(name) {
+        match self.plain_name(name) {
             Some(text) => {
                 bind(&mut binder.args, text, bound)?;
                 Ok(None)

@@ -7,7 +7,7 @@ use Rattle.wk_view_rules.specs.Frames.{Binding}
 use Rattle.wk_expand.specs.Levels.{HasLists}
 use Rattle.wk_expand.specs.Stack.{included_with, parts_at, text_at}
 use Rattle.wk_expand.specs.State.{IsBinding, ShowsBindings, current}
-use Rattle.wk_expand.specs.Items.{IsPlainList}
+use Rattle.wk_expand.specs.Items.{IsPlainName}
 use Rattle.wk_expand.specs.declared.levels.Bound.{Bound}
 use Rattle.wk_expand.proofs.BindLaws.{behind_plain as behind_named, bindings-bare, bindings-behind, drop-next, has-more, shows-more}
 use Rattle.wk_expand.proofs.LeadLaws.{part-here, part-there, text-here}
@@ -55,16 +55,16 @@ returns-in_default-clause-bound c =
           ∙ ap (λ m. with_bindings p.inner p.viewed p.frame m (b ∷ k.bindings) later) one);
     }
 
-pub returns-in_ok-bind-in-Some-plain_part-clause-lists : goal.returns-in_ok-bind-in-Some-plain_part-clause-lists
-returns-in_ok-bind-in-Some-plain_part-clause-lists c =
+pub returns-in_ok-bind-in-Some-plain_name-clause-lists : goal.returns-in_ok-bind-in-Some-plain_name-clause-lists
+returns-in_ok-bind-in-Some-plain_name-clause-lists c =
     let parsed = current c.args.self.now in
     let binder = c.args.binder.now in
     let v : Bound = record { value = c.part-part.result.value; len = c.part-part.result.len; named = c.is_some.result } in
-    subst (HasLists parsed) (sym c.in_ok-bind-in-Some-plain_part.ensures)
-    (has-more parsed binder.args c.in-Some-plain_part.text.now v (value-there c.tree.result.now parsed c.args.node binder.at c.part-part.result c.tree.ensures c.part-part.ensures c.requires.there) c.requires.lists)
+    subst (HasLists parsed) (sym c.in_ok-bind-in-Some-plain_name.ensures)
+    (has-more parsed binder.args c.in-Some-plain_name.text.now v (value-there c.tree.result.now parsed c.args.node binder.at c.part-part.result c.tree.ensures c.part-part.ensures c.requires.there) c.requires.lists)
 
-pub returns-in_ok-bind-in-Some-plain_part-clause-bound : goal.returns-in_ok-bind-in-Some-plain_part-clause-bound
-returns-in_ok-bind-in-Some-plain_part-clause-bound c =
+pub returns-in_ok-bind-in-Some-plain_name-clause-bound : goal.returns-in_ok-bind-in-Some-plain_name-clause-bound
+returns-in_ok-bind-in-Some-plain_name-clause-bound c =
     λ p h page rest k.
     let s = c.args.self.now in
     let binder = c.args.binder.now in
@@ -75,13 +75,13 @@ returns-in_ok-bind-in-Some-plain_part-clause-bound c =
     let part = there.0 in
     let q = part-here s c.args.node p h c.tree.result.now binder.at c.part-part.result part c.tree.ensures c.part-part.ensures there.1 in
     let later = drop (binder.at + 1) parts in
-    let text = c.in-Some-plain_part.text.now in
+    let text = c.in-Some-plain_name.text.now in
     let b : Binding = record { name = text; value = part.value; named = true } in
     let v : Bound = record { value = c.part-part.result.value; len = c.part-part.result.len; named = c.is_some.result } in
     let is_bound : IsBinding (text_at p) v b = record { value = q.value; len = q.len; named = c.is_some.ensures ∙ ap is_some c.in-Some.is } in
-    let args = c.in_ok-bind-in-Some-plain_part.ensures in
+    let args = c.in_ok-bind-in-Some-plain_name.ensures in
     let name = named (text_at p) c.part-part.result part c.in-Some.name c.in-Some.is q in
-    let plain : IsPlainList (text_at p) c.in-Some.name text = subst (λ parsed. IsPlainList parsed c.in-Some.name text) (text-here s c.args.node p h) c.in-Some-plain_part.ensures in
+    let plain : IsPlainName (text_at p) c.in-Some.name text = subst (λ parsed. IsPlainName parsed c.in-Some.name text) (text-here s c.args.node p h) c.in-Some-plain_name.ensures in
     let by : Output → Expansion (List Binding) = λ out. behind_named p.inner p.viewed p.frame (n + 1) k.bindings part later (plain_text_of (trimmed_output out)) in
     record {
       bindings = b ∷ k.bindings;
@@ -93,8 +93,8 @@ returns-in_ok-bind-in-Some-plain_part-clause-bound c =
       is = k.is ∙ ap (λ (x : Expansion (List Binding)). x >>= included)
           (ap (with_bindings p.inner p.viewed p.frame (n + 1) k.bindings) (drop-next parts binder.at part there.1)
           ∙ bindings-behind p.inner p.viewed p.frame (n + 1) k.bindings part later name.0 name.1
-          ∙ behind-plain p.inner p.frame (text_at p) c.in-Some.name text name.0 by h.is.plainly plain name.2
-          ∙ ap (behind_named p.inner p.viewed p.frame (n + 1) k.bindings part later) (name-plain text plain.trimmed));
+          ∙ behind-plain p.inner p.frame (text_at p) c.in-Some.name plain.text name.0 by h.is.plainly plain.alone name.2
+          ∙ ap (behind_named p.inner p.viewed p.frame (n + 1) k.bindings part later) (name-plain plain.text text plain.is));
     }
 
 pub returns-in-None-clause-bound : goal.returns-in-None-clause-bound
