@@ -17,6 +17,7 @@ mod laws;
 mod levels;
 mod limits;
 mod machine;
+mod mix;
 mod names;
 mod parts;
 mod reads;

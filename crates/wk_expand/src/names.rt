@@ -2,6 +2,7 @@
 ghost use Rattle.std.specs.Prelude.{◌≡◌, IfOk, IfSome, Some, pos};
 ghost use Rattle.wk_text_rules.specs.Titles.{normal};
 
+use crate::mix::{START, mixed};
 use std::alloc::Global;
 use std::marker::Model;
 use wk_memory::Memory;
@@ -62,15 +63,6 @@ pub struct Names {
     places: Vec<Option<Called>>,
 }
 
-/// The number that the bytes of a name give (the FNV-1a hash).
-fn code_of(name: &[u8]) -> u64 {
-    let mut code = 0xcbf2_9ce4_8422_2325;
-    for byte in name {
-        code = (code ^ *byte as u64).wrapping_mul(0x0000_0100_0000_01b3);
-    }
-    code
-}
-
 impl Names {
     /// Places for so many names at most.
     pub fn new(alloc: Global, most: usize) -> Result<Names, Memory> {
@@ -102,7 +94,8 @@ impl Names {
         Ok(())
     }
 
-    /// The title that a name calls, in the namespace Template where it names none.
+    /// The title that a name calls, in the namespace Template where it names none. Where memory is wanting to keep it, the
+    /// title is given all the same.
     #[inline(always)]
     pub fn called(&mut self, alloc: Global, name: &str) -> Result<Option<Title>, Memory>
         ensures { IfOk result (λ found. found ≡ normal name.now (pos 10)) }
@@ -111,14 +104,14 @@ impl Names {
         if count == 0 || MOST_BYTES < name.len() {
             return named(alloc, name, TEMPLATE);
         }
-        let place = (code_of(name.as_bytes()) % count as u64) as usize;
+        let place = (mixed(START, name.as_bytes()) % count as u64) as usize;
         if let Some(title) = self.kept(name, place)? {
             return Ok(Some(title));
         }
         let Some(title) = named(alloc, name, TEMPLATE)? else {
             return Ok(None);
         };
-        self.keep(alloc, name, place, &title)?;
+        let _ = self.keep(alloc, name, place, &title);
         Ok(Some(title))
     }
 }

@@ -24,6 +24,7 @@ use crate::state::{Expander, Stop};
 use crate::texts::node_error;
 use crate::trees::Trees;
 use wk_args::Args;
+use wk_bytes::Text;
 use wk_func::{Word, find_plain};
 use wk_memory::Memory;
 use wk_out::Out;
@@ -78,12 +79,7 @@ impl Expander {
             Decision::Written => Ok(self.written(node, name)?),
             Decision::Redirects(title, target) => Ok(Next::Goes(Pending::Target(title, target))),
             Decision::Includes(title, source, text) => {
-                let page = Inclusion {
-                    title,
-                    source,
-                    text,
-                };
-                Ok(self.page_text(trees, node, page)?)
+                Ok(self.page_text(trees, node, title, source, text)?)
             }
         }
     }
@@ -132,12 +128,7 @@ impl Expander {
             Found::Gives(out) => Ok(Next::Gives(out)),
             Found::Redirects(target) => Ok(Next::Goes(Pending::Target(title, target))),
             Found::Includes(source, text) => {
-                let page = Inclusion {
-                    title,
-                    source,
-                    text,
-                };
-                Ok(self.page_text(trees, node, page)?)
+                Ok(self.page_text(trees, node, title, source, text)?)
             }
         }
     }
@@ -161,32 +152,35 @@ impl Expander {
             Found::Gives(out) => Ok(Next::Gives(out)),
             Found::Redirects(target) => Ok(Next::Goes(Pending::Target(title.share()?, target))),
             Found::Includes(source, text) => {
-                let page = Inclusion {
-                    title: title.share()?,
-                    source,
-                    text,
-                };
-                Ok(self.page_text(trees, node, page)?)
+                let title = title.share()?;
+                Ok(self.page_text(trees, node, title, source, text)?)
             }
         }
     }
 
-    /// A page's text is included.
+    /// What a template does in whose place a text is included, which stands under `source`.
     #[inline(always)]
     fn page_text(
         &mut self,
         trees: &mut Trees,
         node: NodeId,
-        page: Inclusion,
+        title: Title,
+        source: Title,
+        text: Text,
     ) -> Result<Next, Memory>
         requires { IsSome (node_with (current self.old) node) }
         ensures { IfOk result (λ next. (seen : Answers) (p : Place) → IsHere self.old node p
-            → LeadsTo seen p (included p.inner p.viewed p.frame page.title page.source page.text (parts_at p))
+            → LeadsTo seen p (included p.inner p.viewed p.frame title source text (parts_at p))
             self.old next self.new) }
     {
-        if !self.charge(page.text.len() as u64 / 64) {
+        if !self.charge(text.len() as u64 / 64) {
             return Ok(Next::Gives(node_error(self.alloc)?));
         }
+        let page = Inclusion {
+            title,
+            source,
+            text,
+        };
         let binder = Binder {
             args: Args::new(self.alloc),
             numbered: 0,

@@ -4,6 +4,7 @@ ghost use Rattle.std.specs.NonZero.{non_zero_usize_get};
 ghost use Rattle.wk_text_rules.specs.Titles.{normal};
 ghost use Rattle.wk_expand.specs.Trees.{AreKept, IsKeyOf, most_bytes, parsed_text};
 
+use crate::mix::{START, mixed};
 use crate::names::Names;
 use crate::tree::Tree;
 use lru::LruCache;
@@ -36,19 +37,10 @@ pub struct Reading {
     pub text: Text,
 }
 
-/// The number that comes of mixing these bytes into another.
-fn mixed(code: u64, bytes: &[u8]) -> u64 {
-    let mut code = code;
-    for byte in bytes {
-        code = (code ^ *byte as u64).wrapping_mul(0x0000_0100_0000_01b3);
-    }
-    code
-}
-
-/// What a text is found by: its length, its first bytes and its last ones (the FNV-1a hash of these).
+/// What a text is found by: its length, its first bytes and its last ones.
 fn code_of(text: &[u8]) -> u64 {
     let len = text.len();
-    let code = 0xcbf2_9ce4_8422_2325 ^ len as u64;
+    let code = START ^ len as u64;
     if len <= 2 * FEW_BYTES {
         return mixed(code, text);
     }
@@ -129,6 +121,9 @@ fn kept_tree(
 /// The trees of the texts that were parsed last, in each mode (own). Contracts see how many it keeps at most.
 ///
 /// A text of more than 65,536 bytes is parsed each time. By its type each tree that is kept is that of its text.
+///
+/// Beside the trees it keeps titles, those of the names that templates called last: at most as many as its capacity, and
+/// 1,024 at most. The title of a name of more than 256 bytes is made each time.
 #[derive(Drop)]
 pub struct Trees {
     capacity: usize,

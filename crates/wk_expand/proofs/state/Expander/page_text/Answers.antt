@@ -19,13 +19,12 @@ returns-then-not-charge c =
     λ seen p h.
     let s = c.args.self.now in
     let t = c.charge.new.self in
-    let page = c.args.page in
-    let whole = included p.inner p.viewed p.frame page.title page.source page.text (parts_at p) in
-    let rest = run_text p.inner p.viewed p.frame page.title page.source page.text (parts_at p) in
+    let whole = included p.inner p.viewed p.frame c.args.title c.args.source c.args.text (parts_at p) in
+    let rest = run_text p.inner p.viewed p.frame c.args.title c.args.source c.args.text (parts_at p) in
     leads-comes s c.args.node p h seen whole c.in_ok-node_error.field-0 t
     (gives-then seen whole (give node_error) s t node_error c.in_ok-node_error.field-0
-    (comes-in seen whole (charged (length page.text / 64) rest) (give node_error) s t (included-is p.inner p.viewed p.frame page.title page.source page.text (parts_at p))
-    (charged-as seen c.len.result (length page.text) rest (give node_error) s t c.len.ensures.value (c.if-not-charge.ensures.spent seen rest)))
+    (comes-in seen whole (charged (length c.args.text / 64) rest) (give node_error) s t (included-is p.inner p.viewed p.frame c.args.title c.args.source c.args.text (parts_at p))
+    (charged-as seen c.len.result (length c.args.text) rest (give node_error) s t c.len.ensures.value (c.if-not-charge.ensures.spent seen rest)))
     refl c.in_ok-node_error.ensures)
 
 pub bind-requires-clause-there : goal.bind-requires-clause-there
@@ -40,13 +39,12 @@ pub returns : goal.returns
 returns c =
     let s = c.args.self.now in
     let t = c.charge.new.self in
-    let page = c.args.page in
     IfOk-weaker c.bind.result _ _ (λ next leads seen p h.
-    let whole = included p.inner p.viewed p.frame page.title page.source page.text (parts_at p) in
-    let rest = run_text p.inner p.viewed p.frame page.title page.source page.text (parts_at p) in
+    let whole = included p.inner p.viewed p.frame c.args.title c.args.source c.args.text (parts_at p) in
+    let rest = run_text p.inner p.viewed p.frame c.args.title c.args.source c.args.text (parts_at p) in
     let begun : ComesTo seen whole s rest t =
-    comes-in seen whole (charged (length page.text / 64) rest) rest s t (included-is p.inner p.viewed p.frame page.title page.source page.text (parts_at p))
-    (charged-as seen c.len.result (length page.text) rest rest s t c.len.ensures.value (c.if-not-charge.ensures.within seen rest))
+    comes-in seen whole (charged (length c.args.text / 64) rest) rest s t (included-is p.inner p.viewed p.frame c.args.title c.args.source c.args.text (parts_at p))
+    (charged-as seen c.len.result (length c.args.text) rest rest s t c.len.ensures.value (c.if-not-charge.ensures.within seen rest))
     in
     leads-behind seen p whole rest s t next c.bind.new.self begun
     (leads seen p rest (here-later s c.args.node p h t begun.same)

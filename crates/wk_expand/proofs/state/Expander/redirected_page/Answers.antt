@@ -50,6 +50,6 @@ returns-in_ok-page_text-in-Includes-clause-leads c =
     let e = redirected p.inner p.viewed p.frame c.args.title.now c.args.target.now (parts_at p) in
     let rest = found_rest p.inner p.viewed p.frame c.args.title.now (parts_at p) in
     let there = subst (λ (f : Found). ComesTo seen e s (rest f) t) c.in-Includes.is (c.in_ok-out.ensures.finds p.viewed p.frame (frame-here s c.args.node p h) p.inner (parts_at p)) in
-    leads-behind seen p e (included p.inner p.viewed p.frame c.in_ok-share-in-Includes.field-0 c.in-Includes.source c.in-Includes.text (parts_at p)) s t c.in_ok-page_text-in-Includes.field-0 c.page_text.new.self
-    (subst (λ (x : PageTitle). ComesTo seen e s (included p.inner p.viewed p.frame x c.in-Includes.source c.in-Includes.text (parts_at p)) t) (sym c.in_ok-share-in-Includes.ensures) there)
+    leads-behind seen p e (included p.inner p.viewed p.frame c.in_ok-title-in-Includes.title c.in-Includes.source c.in-Includes.text (parts_at p)) s t c.in_ok-page_text-in-Includes.field-0 c.page_text.new.self
+    (subst (λ (x : PageTitle). ComesTo seen e s (included p.inner p.viewed p.frame x c.in-Includes.source c.in-Includes.text (parts_at p)) t) (sym c.in_ok-title-in-Includes.ensures) there)
     (c.in_ok-page_text-in-Includes.ensures seen p (here-later s c.args.node p h t c.in_ok-out.ensures.same))
