@@ -211,6 +211,9 @@ fn go_on(
     Err(Memory)
 }
 
+/// For how many open nodes there is room at first (by measure).
+const FIRST_OPENED: usize = 5;
+
 /// Begins to expand a text, which is all that is left to do behind the reads that there are.
 fn expand_text(
     alloc: Global,
@@ -228,9 +231,10 @@ fn expand_text(
 {
     let tree = trees.tree(alloc, text, Mode::View)?;
     let list = tree.root();
+    let opened = Vec::with_capacity(alloc, FIRST_OPENED)?;
     let work = Work {
         expander: at_start(alloc, page, tree, reads)?,
-        opened: Vec::new(alloc),
+        opened,
         listing: Listing {
             list,
             at: 0,

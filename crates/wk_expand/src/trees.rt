@@ -4,7 +4,7 @@ ghost use Rattle.std.specs.NonZero.{non_zero_usize_get};
 ghost use Rattle.wk_text_rules.specs.Titles.{normal};
 ghost use Rattle.wk_expand.specs.Trees.{AreKept, IsKeyOf, most_bytes, parsed_text};
 
-use crate::mix::{START, mixed};
+use crate::mix::{START, mixed_by_eight};
 use crate::names::Names;
 use crate::tree::Tree;
 use lru::LruCache;
@@ -42,10 +42,10 @@ fn code_of(text: &[u8]) -> u64 {
     let len = text.len();
     let code = START ^ len as u64;
     if len <= 2 * FEW_BYTES {
-        return mixed(code, text);
+        return mixed_by_eight(code, text);
     }
-    let code = mixed(code, &text[..FEW_BYTES]);
-    mixed(code, &text[len - FEW_BYTES..])
+    let code = mixed_by_eight(code, &text[..FEW_BYTES]);
+    mixed_by_eight(code, &text[len - FEW_BYTES..])
 }
 
 /// The key of a text that is read in a mode.

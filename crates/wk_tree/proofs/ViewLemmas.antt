@@ -1,7 +1,7 @@
 -- What a parsed text shows.
-use Rattle.std.proofs.Common.{◌≡◌, ℕ, zero, suc, ◌-◌, ◌<◌, ◌≤◌, ◌==◌, Bool, true, false, if◌then◌else◌, List, [], ◌∷◌, length, get_or, map, reverse, Option, Some, None, option_map, refl, ap, ap₂, sym, subst, ◌∙◌, arith}
+use Rattle.std.proofs.Common.{◌≡◌, ℕ, zero, suc, ◌-◌, ◌<◌, ◌≤◌, ◌==◌, Bool, true, false, if◌then◌else◌, List, [], ◌∷◌, length, get_or, map, reverse, drop, min, ◌+◌, ◌⊎◌, inl, inr, Option, Some, None, option_map, refl, ap, ap₂, sym, subst, ◌∙◌, arith}
 use Rattle.std.proofs.lemmas.Bool.{eqb-true}
-use Rattle.std.proofs.lemmas.List.{get_or-reverse, length-map, length-reverse}
+use Rattle.std.proofs.lemmas.List.{get_or-reverse, length-drop, length-map, length-reverse, length-take}
 use Rattle.std.specs.List.{slice_get, flat_map, AllByRecursion}
 use Rattle.std.specs.Option.{IfSome, IsSome, is_some, option_and_then, option_to_list, unwrap_or}
 use Rattle.wk_tree.proofs.LayoutLemmas.{nodes-long}
@@ -20,6 +20,7 @@ use Rattle.wk_tree.specs.declared.item.NodeId.{NodeId}
 use Rattle.wk_tree.specs.declared.laid.Listed.{Listed}
 use Rattle.wk_tree.specs.declared.laid.NodeLists.{NodeLists}
 use Rattle.wk_tree.specs.declared.laid.PartLists.{PartLists}
+use Rattle.wk_tree.specs.declared.laid.Range.{Range}
 use Rattle.wk_tree_rules.specs.Reduction.{pieces_of, reduced}
 use Rattle.wk_tree_rules.specs.Selection.{selection, selected}
 use Rattle.wk_tree_rules.specs.Tree.{Node, Part, item_of, tree, lists, node_lists, part_lists, title_part, further_parts}
@@ -63,11 +64,6 @@ from_end-get {X = X} (y ∷ xs) n x e = by_test (n == length xs) refl e (from_en
         let later = again g in
         let at : suc (length xs) - 1 - n ≡ suc (length xs - 1 - n) = omega (arith, later.0) in
         (omega (arith, later.0), λ d. ap (λ k. get_or (y ∷ xs) k d) at ∙ later.1 d)
-
-get_or-same : {X : Type 0} (xs : List X) (n : ℕ) (d e : X) → n < length xs → get_or xs n d ≡ get_or xs n e
-get_or-same [] n d e h = absurd (omega (arith, h))
-get_or-same (x ∷ xs) zero d e h = refl
-get_or-same (x ∷ xs) (suc n) d e h = get_or-same xs n d e (omega (arith, h))
 
 get_or-map : {X Y : Type 0} (f : X → Y) (xs : List X) (n : ℕ) (d : X) → get_or (map f xs) n (f d) ≡ f (get_or xs n d)
 get_or-map f [] n d = refl
@@ -143,6 +139,13 @@ found-part (suc at) q (part_more h k) e =
     let later = found-part at q k e in
     (omega (arith, later.0), later.1)
 
+-- a range has nothing behind its length, and nothing behind all
+pub ranged-short : {X : Type 0} (all : List X) (range : Range) (at : ℕ) → (range.len ≤ at) ⊎ (length all ≤ range.start + at) → length (ranged all range) ≤ at
+ranged-short all range at h =
+    let taken : length (ranged all range) ≡ min range.len (length (drop range.start all)) = length-take range.len (drop range.start all) in
+    let left : length (drop range.start all) ≡ length all - range.start = length-drop range.start all in
+    elim h [ inl short ↦ omega (arith, taken, short) | inr short ↦ omega (arith, taken, left, short) ]
+
 module _ (every : AllLists) (ns : List Node) (lists : NodeLists) where
   pub part-none : (o : Option Node) (at : ℕ) → IfSome o (ShowsNode ns (node_of every lists)) → length (ranged every.parts lists.parts) ≤ at → option_and_then (part_at at) o ≡ None
   part-none None at h long = refl
@@ -157,11 +160,6 @@ module _ (every : AllLists) (ns : List Node) (lists : NodeLists) where
       if-some (ShowsPart ns (part_of every.items x)) (slice_get (further_parts n.content) at) (λ q e.
       let found = (found-part at q h.parts e).1 (part_of every.items x) in
       subst (λ p. ShowsPart ns p q) (get_or-map (part_of every.items) (ranged every.parts lists.parts) at x ∙ ap (part_of every.items) (sym read)) found)
-
-  -- the part that is read, whatever another would be read as
-  pub part-there : (o : Option Node) (at : ℕ) (parts : List PartLists) (d : PartLists) → IfSome o (ShowsNode ns (node_of every lists)) → parts ≡ ranged every.parts lists.parts → at < length parts → IfSome (option_and_then (part_at at) o) (ShowsPart ns (part_of every.items (get_or parts at d)))
-  part-there o at parts d h is within =
-      part-shown o at (get_or parts at d) h (get_or-same parts at d (get_or parts at d) within ∙ ap (λ (ps : List PartLists). get_or ps at (get_or parts at d)) is)
 
   pub parts-count : (o : Option Node) (count : ℕ) → count ≡ length (ranged every.parts lists.parts) → IfSome o (ShowsNode ns (node_of every lists)) → IfSome o (λ n. count ≡ length (further_parts n.content))
   parts-count None count e h = tt

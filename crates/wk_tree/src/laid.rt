@@ -1,5 +1,5 @@
 //! A tree that is laid out: its lists and nodes, and how they are read.
-ghost use Rattle.std.specs.Prelude.{◌≡◌, List, length, None, MatchOption, option_and_then, option_map};
+ghost use Rattle.std.specs.Prelude.{◌≡◌, ◌+◌, ◌<◌, ◌≤◌, ◌⊎◌, List, length, None, MatchOption, option_and_then, option_map};
 ghost use Rattle.std.specs.Option.{IfSome};
 ghost use Rattle.std.specs.Slice.Iter.{iter_rest};
 ghost use Rattle.wk_tree.specs.Laid.{all_of, found_nodes, listed, node_of, part_of, ranged, root_of};
@@ -71,6 +71,21 @@ pub fn ranged<T>(all: &[T], range: Range) -> &[T]
     &behind[..len]
 }
 
+/// The place among so many of the one that is `at` behind the first of a range, if the range has it.
+#[inline(always)]
+fn place_in(range: Range, at: usize, count: usize) -> Option<usize>
+    ensures { MatchOption result ((range.len ≤ at) ⊎ (count ≤ range.start + at)) (λ place. (place ≡ range.start + at) × (at < range.len) × (place < count)) }
+{
+    if range.len as usize <= at {
+        return None;
+    }
+    let place = range.start as usize + at;
+    if count <= place {
+        return None;
+    }
+    Some(place)
+}
+
 impl Listed {
     /// The items, in order.
     pub fn iter<'a>(&'a self, all: &'a [Item]) -> slice::Iter<'a, Item>
@@ -115,11 +130,9 @@ impl Laid {
             (λ lists. IfSome (option_and_then (part_at at) (from_end rest node.0)) (ShowsPart ns (part_of (all_of self.now).items lists.now))) }
     {
         let lists = self.node(node)?;
-        let parts = ranged(&self.lists.parts, lists.parts);
-        if at < parts.len() {
-            Some(&parts[at])
-        } else {
-            None
+        match place_in(lists.parts, at, self.lists.parts.len()) {
+            Some(place) => Some(&self.lists.parts[place]),
+            None => None,
         }
     }
 

@@ -234,6 +234,7 @@ impl Parsed {
     }
 
     /// The items of a list, in order. Takes no memory.
+    #[inline(always)]
     pub fn items(&self, list: ListId) -> Items<'_>
         requires { IsSome (list_with self.now list) }
         ensures items { IfSome (list_with self.now list) (ShowsItems (nodes_of self.now) (iter_rest result)) }

@@ -11,8 +11,8 @@ go_on-requires-clause-left c =
     let page = c.args.page.now in
     let text = c.args.text.now in
     let s = c.in_ok-at_start.field-0 in
-    let listing : Listing = record { list = c.root-list.result; at = 0; out = c.new-2.result } in
-    let work : Work = record { expander = s; opened = c.new.result; listing = listing } in
+    let listing : Listing = record { list = c.root-list.result; at = 0; out = c.new.result } in
+    let work : Work = record { expander = s; opened = c.in_ok-opened.opened; listing = listing } in
     let begun = subst (λ (parsed : ParsedText). IsBegun page parsed c.args.reads s) c.in_ok-tree.ensures.tree c.in_ok-at_start.ensures in
     let root = subst (λ (parsed : ParsedText). list_with parsed c.root-list.result ≡ Some (tree_of parsed)) c.in_ok-tree.ensures.tree c.root-list.ensures in
-    left-begun page c.args.given.now text c.args.reads work begun c.new.ensures.items root refl c.new-2.ensures c.requires.left
+    left-begun page c.args.given.now text c.args.reads work begun c.in_ok-opened.ensures.items root refl c.new.ensures c.requires.left
