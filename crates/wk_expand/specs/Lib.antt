@@ -9,6 +9,7 @@ pub mod Items
 pub mod Kept
 pub mod Levels
 pub mod Machines
+pub mod Marks
 pub mod Nodes
 pub mod PageParts
 pub mod Resumed

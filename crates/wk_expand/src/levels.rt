@@ -1,10 +1,10 @@
 //! The texts that are expanded within each other.
-ghost use Rattle.std.specs.Prelude.{◌≡◌, ◌<◌, [], ◌∷◌, bytes_eq, false, length, drop, reverse, IsSome, IfSome, OnOk};
-ghost use Rattle.std.specs.Bool.{OnFalse};
+ghost use Rattle.std.specs.Prelude.{◌≡◌, ◌<◌, [], ◌∷◌, length, drop, reverse, IsSome, IfSome, OnOk};
 ghost use Rattle.std.specs.List.{list_any};
 ghost use Rattle.wk_text_rules.specs.Titles.{title_eq};
 ghost use Rattle.wk_tree.specs.Parsed.{list_with};
 ghost use Rattle.wk_expand.specs.Levels.{tree_in, look_in, HasLists};
+ghost use Rattle.wk_expand.specs.Marks.{byte_in, title_mark};
 ghost use Rattle.wk_expand.specs.declared.levels.Level.{Level as LevelValue};
 
 use crate::tree::Tree;
@@ -43,7 +43,7 @@ pub struct Level {
 #[derive(Drop)]
 pub struct Levels {
     root: Tree,
-    included: Vec<Level>,
+    included: Vec<Entered>,
 }
 
 impl Model for Levels {
@@ -61,36 +61,73 @@ impl Model for Levels {
     ghost invariant = { λ s. AreBound s.root (reverse s.included.items) };
 }
 
-/// Whether two texts have one length and one last byte. Texts that differ are told apart by these at most times.
+/// A byte of a text, and 0 where it has none there.
 #[inline(always)]
-fn is_alike(a: &[u8], b: &[u8]) -> bool
-    ensures { OnFalse result (bytes_eq a.now b.now ≡ false) }
+fn byte_in(text: &[u8], at: usize) -> u8
+    ensures { result ≡ byte_in text.now at }
 {
-    a.len() == b.len() && (a.is_empty() || a[a.len() - 1] == b[b.len() - 1])
+    text.get(at).copied().unwrap_or(0)
 }
 
-/// Whether a page is of this title.
+/// What tells most titles apart: the length of the key and its last two bytes, as one number. Takes no memory.
 #[inline(always)]
-fn is_of(level: &Level, title: &Title) -> bool
-    ensures { result ≡ title_eq level.now.title title.now }
+fn mark_of(title: &Title) -> u32
+    ensures { result ≡ title_mark title.now }
 {
-    is_alike(level.title.key().as_bytes(), title.key().as_bytes()) && level.title == *title
+    let key = title.key().as_bytes();
+    let len = key.len();
+    let before = byte_in(key, len.saturating_sub(2));
+    let last = byte_in(key, len.saturating_sub(1));
+    (len as u32 * 256 + before as u32) * 256 + last as u32
+}
+
+/// A page that is included, and the mark of its title. Contracts see the page.
+#[derive(Drop)]
+struct Entered {
+    mark: u32,
+    level: Level,
+}
+
+impl Model for Entered {
+    ghost use Rattle.std.specs.Prelude.{◌≡◌};
+    ghost use Rattle.std.specs.Coded.{codes};
+    ghost use Rattle.wk_expand.specs.Codes.{args_code};
+    ghost use Rattle.wk_expand.specs.Marks.{title_mark};
+    ghost use Rattle.wk_expand.specs.declared.levels.Level.{Level};
+
+    ghost Value = { Level };
+
+    ghost coded = { Prim.hlevel (codes, args_code) };
+
+    ghost view = { λ e. e.level };
+
+    ghost invariant = { λ e. e.mark ≡ title_mark e.level.title };
+}
+
+/// Whether a page is of this title, which has this mark.
+#[inline(always)]
+fn is_of(entered: &Entered, title: &Title, mark: u32) -> bool
+    requires { mark ≡ title_mark title.now }
+    ensures { result ≡ title_eq entered.now.title title.now }
+{
+    entered.mark == mark && entered.level.title == *title
 }
 
 /// Whether one of the pages is of this title.
 #[inline(always)]
-fn is_among(included: &[Level], title: &Title) -> bool
+fn is_among(included: &[Entered], title: &Title) -> bool
     ensures { result ≡ list_any (λ (l : LevelValue). title_eq l.title title.now) included.now }
 {
-    included.iter().any(|level| is_of(level, title))
+    let mark = mark_of(title);
+    included.iter().any(|entered| is_of(entered, title, mark))
 }
 
 /// The text of the last page, or the one at the root.
-fn last_text<'a>(root: &'a Tree, included: &'a [Level]) -> &'a Parsed
+fn last_text<'a>(root: &'a Tree, included: &'a [Entered]) -> &'a Parsed
     ensures { result.now ≡ tree_in root.now (reverse included.now) }
 {
     match included.last() {
-        Some(level) => level.tree.parsed(),
+        Some(entered) => entered.level.tree.parsed(),
         None => root.parsed(),
     }
 }
@@ -145,8 +182,8 @@ impl Levels {
         ensures list { IfSome result
             (λ bound. IsSome (list_with (tree_in self.now.root (drop 1 self.now.included)) bound.value)) }
     {
-        let level = self.included.last()?;
-        level.args.look(name).copied()
+        let entered = self.included.last()?;
+        entered.level.args.look(name).copied()
     }
 
     /// A page is included in the innermost text, in which the values of its arguments stand.
@@ -155,7 +192,8 @@ impl Levels {
         requires { HasLists (tree_in self.old.root self.old.included) level.args }
         ensures { OnOk result (self.new ≡ record self.old { included = level ∷ self.old.included }) }
     {
-        self.included.push(level)?;
+        let mark = mark_of(&level.title);
+        self.included.push(Entered { mark, level })?;
         Ok(())
     }
 
@@ -166,7 +204,7 @@ impl Levels {
         ensures root { self.new.root ≡ self.old.root }
         ensures lists { HasLists (tree_in self.new.root self.new.included) result.args }
     {
-        let Some(level) = self.included.pop() else {
+        let Some(Entered { mark: _mark, level }) = self.included.pop() else {
             unreachable!()
         };
         level

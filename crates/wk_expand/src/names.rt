@@ -2,7 +2,7 @@
 ghost use Rattle.std.specs.Prelude.{◌≡◌, IfOk, IfSome, Some, pos};
 ghost use Rattle.wk_text_rules.specs.Titles.{normal};
 
-use crate::mix::{START, mixed};
+use crate::hash::hashed;
 use std::alloc::Global;
 use std::marker::Model;
 use wk_memory::Memory;
@@ -56,8 +56,15 @@ impl Called {
     }
 }
 
-/// The names that were called last, each in a place that its bytes give (own). A name takes the place of another. A
-/// name of more than 256 bytes isn't kept, so that what is kept has a bound.
+/// Where a name stands among so many places, by the high bits of its hash.
+#[inline(always)]
+fn place_of(name: &str, count: usize) -> usize {
+    let high = hashed(name.len() as u64, name.as_bytes()) >> 32;
+    (high.wrapping_mul(count as u64) >> 32) as usize
+}
+
+/// Names that were called, each in a place that its bytes give, of those with one place the last (own). A name of more
+/// than 256 bytes isn't kept, so that what is kept has a bound.
 #[derive(Drop)]
 pub struct Names {
     places: Vec<Option<Called>>,
@@ -104,7 +111,7 @@ impl Names {
         if count == 0 || MOST_BYTES < name.len() {
             return named(alloc, name, TEMPLATE);
         }
-        let place = (mixed(START, name.as_bytes()) % count as u64) as usize;
+        let place = place_of(name, count);
         if let Some(title) = self.kept(name, place)? {
             return Ok(Some(title));
         }

@@ -4,7 +4,7 @@ ghost use Rattle.std.specs.NonZero.{non_zero_usize_get};
 ghost use Rattle.wk_text_rules.specs.Titles.{normal};
 ghost use Rattle.wk_expand.specs.Trees.{AreKept, IsKeyOf, most_bytes, parsed_text};
 
-use crate::mix::{START, mixed_by_eight};
+use crate::hash::hashed;
 use crate::names::Names;
 use crate::tree::Tree;
 use lru::LruCache;
@@ -40,12 +40,12 @@ pub struct Reading {
 /// What a text is found by: its length, its first bytes and its last ones.
 fn code_of(text: &[u8]) -> u64 {
     let len = text.len();
-    let code = START ^ len as u64;
+    let code = len as u64;
     if len <= 2 * FEW_BYTES {
-        return mixed_by_eight(code, text);
+        return hashed(code, text);
     }
-    let code = mixed_by_eight(code, &text[..FEW_BYTES]);
-    mixed_by_eight(code, &text[len - FEW_BYTES..])
+    let code = hashed(code, &text[..FEW_BYTES]);
+    hashed(code, &text[len - FEW_BYTES..])
 }
 
 /// The key of a text that is read in a mode.
@@ -122,8 +122,8 @@ fn kept_tree(
 ///
 /// A text of more than 65,536 bytes is parsed each time. By its type each tree that is kept is that of its text.
 ///
-/// Beside the trees it keeps titles, those of the names that templates called last: at most as many as its capacity, and
-/// 1,024 at most. The title of a name of more than 256 bytes is made each time.
+/// Beside the trees it keeps titles of names that templates called, of those with one place the last: at most as many as
+/// its capacity, and 1,024 at most. The title of a name of more than 256 bytes is made each time.
 #[derive(Drop)]
 pub struct Trees {
     capacity: usize,

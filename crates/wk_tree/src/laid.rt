@@ -136,7 +136,7 @@ impl Laid {
         }
     }
 
-    /// How many parts a node has, none where there is no such node.
+    /// How many parts a node has.
     #[inline(always)]
     pub fn parts(&self, node: NodeId) -> usize
         ensures { (ns rest : List Node) → ShowsNodes ns (found_nodes self.now) rest → IfSome (from_end rest node.0) (λ n. result ≡ length (further_parts n.content)) }
@@ -147,7 +147,7 @@ impl Laid {
         }
     }
 
-    /// The items of a node's title, in order, none where there is no such node.
+    /// The items of a node's title, in order.
     #[inline(always)]
     pub fn title(&self, node: NodeId) -> slice::Iter<'_, Item>
         ensures { (ns rest : List Node) → ShowsNodes ns (found_nodes self.now) rest → IfSome (from_end rest node.0) (λ n. ShowsItems ns (iter_rest result) (title_part n.content)) }
@@ -158,7 +158,7 @@ impl Laid {
         }
     }
 
-    /// The items of the name of a part, in order, none where there is none.
+    /// The items of the name of a part, in order.
     #[inline(always)]
     pub fn name(&self, node: NodeId, at: usize) -> slice::Iter<'_, Item>
         ensures { (ns rest : List Node) → ShowsNodes ns (found_nodes self.now) rest
@@ -173,7 +173,7 @@ impl Laid {
         }
     }
 
-    /// The items of the value of a part, in order, none where there is none.
+    /// The items of the value of a part, in order.
     #[inline(always)]
     pub fn value(&self, node: NodeId, at: usize) -> slice::Iter<'_, Item>
         ensures { (ns rest : List Node) → ShowsNodes ns (found_nodes self.now) rest

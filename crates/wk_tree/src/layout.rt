@@ -13,8 +13,7 @@ use std::alloc::Global;
 use wk_memory::Memory;
 
 /// Items that were met from the last to the first: the first of them in the text, and how many others there are, which
-/// stand on a stack, the next in the text uppermost. Where there is no first, the others don't count. How many bytes they
-/// stand for.
+/// stand on a stack, the next in the text uppermost; there are none where there is no first. How many bytes they stand for.
 #[derive(Clone, Copy, Debug, PartialEq, Eq)]
 pub struct Section {
     pub first: Option<Item>,
@@ -66,13 +65,12 @@ fn sum(a: u32, b: u32) -> Result<u32, Memory>
 }
 
 /// The same number, of which a text of fewer than 2^32 bytes has none that is larger.
-fn short(number: usize) -> Result<u32, Memory>
+fn to_u32(number: usize) -> Result<u32, Memory>
     ensures { IfOk result (λ n. n ≡ number) }
 {
-    if number < 4_294_967_296 {
-        Ok(number as u32)
-    } else {
-        Err(Memory)
+    match u32::try_from(number) {
+        Ok(number) => Ok(number),
+        Err(_) => Err(Memory),
     }
 }
 
@@ -89,8 +87,8 @@ fn unstack<T: Drop>(stack: &mut Vec<T>, count: u32, list: &mut Vec<T>) -> Result
             list.push(one)?;
         }
     }
-    let len = short(list.len() - start)?;
-    let start = short(start)?;
+    let len = to_u32(list.len() - start)?;
+    let start = to_u32(start)?;
     Ok(Range { start, len })
 }
 
@@ -213,7 +211,7 @@ fn join(alloc: Global, stack: &mut Vec<Item>, open_node: &OpenNode) -> Result<Se
 }
 
 #[inline(always)]
-fn push_equals(
+fn put_equals(
     alloc: Global,
     stack: &mut Vec<Item>,
     open_node: &mut OpenNode,
@@ -373,7 +371,7 @@ fn push_node(alloc: Global, layout: &mut Layout, argument: bool, start: u32) -> 
         &mut layout.stacks,
         &mut layout.lists,
     )?;
-    let id = NodeId(short(layout.nodes.len())?);
+    let id = NodeId(to_u32(layout.nodes.len())?);
     let len = made.len;
     layout.nodes.push(made)?;
     layout.open_node = enclosing(&mut layout.outer);
@@ -406,10 +404,10 @@ fn push(layout: &mut Layout, item: Item, len: u32) -> Result<(), Memory>
 
 /// An equals sign before what was laid out.
 #[inline(always)]
-fn equals(alloc: Global, layout: &mut Layout, start: u32) -> Result<(), Memory>
+fn push_equals(alloc: Global, layout: &mut Layout, start: u32) -> Result<(), Memory>
     ensures { OnOk result ((shown : LayoutShown) → IsLayout layout.old shown → IsLayout layout.new (with_token (Token.Equals start) shown)) }
 {
-    push_equals(
+    put_equals(
         alloc,
         &mut layout.stacks.items,
         &mut layout.open_node,
@@ -418,7 +416,7 @@ fn equals(alloc: Global, layout: &mut Layout, start: u32) -> Result<(), Memory>
     Ok(())
 }
 
-/// The place of the first of the tokens that stand for no text of their own before a place.
+/// The place of the first of the `Fill` tokens that stand one behind the other before a place.
 #[inline(always)]
 fn fill_before(tokens: &[Token], end: usize) -> usize
     requires { end ≤ length tokens.now }
@@ -476,7 +474,7 @@ fn step(alloc: Global, layout: &mut Layout, token: Token) -> Result<(), Memory>
         Token::Sealed { start, len } => push(layout, Item::Sealed { start, len }, len),
         Token::Nothing { start, len } => push(layout, Item::Nothing { start, len }, len),
         Token::Bar { start } => push_bar(layout, start),
-        Token::Equals { start } => equals(alloc, layout, start),
+        Token::Equals { start } => push_equals(alloc, layout, start),
         Token::NodeStart { argument, start } => push_node(alloc, layout, argument, start),
         Token::NodeEnd => end_node(layout),
         Token::Fill => Ok(()),

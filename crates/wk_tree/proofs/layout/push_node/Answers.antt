@@ -27,7 +27,7 @@ returns c = λ shown h all begins.
     let others : open_nodes_of all.items (under_node o items2) (drop o.parts parts2) (reverse c.enclosing-layout.new.outer.items) ≡ other_open_nodes around = sym (c.enclosing-layout.ensures.others all.items items2 parts2) ∙ ap other_open_nodes around2 in
     let n = c.push_item.new.open_node in
     let stack = reverse c.push_item.new.stack.items in
-    let node = Node (record { 0 = c.in_ok-short.field-0 }) in
+    let node = Node (record { 0 = c.in_ok-to_u32.field-0 }) in
     let step : open_node_of all.items stack parts2 n ≡ with_item node c.in_ok-made.made.len (open_node_of all.items items2 parts2 o) = c.in_ok-push_item.ensures.shown all.items parts2 in
     let outer : open_nodes_of all.items (under_node n stack) (drop n.parts parts2) (reverse c.enclosing-layout.new.outer.items) ≡ other_open_nodes around =
     ap (λ s. open_nodes_of all.items s (drop n.parts parts2) (reverse c.enclosing-layout.new.outer.items)) c.in_ok-push_item.ensures.under
@@ -36,8 +36,8 @@ returns c = λ shown h all begins.
     let nodes : map (node_of all) (reverse c.push.new.self.items) ≡ new_node c.args.argument c.args.start (open_node_of all.items items parts l.open_node) ∷ map (node_of all) (reverse l.nodes.items) =
     ap (map (node_of all)) (reverse-push l.nodes.items c.push.new.self.items c.in_ok-made.made c.in_ok-push.ensures.items)
     ∙ ap (λ x. x ∷ map (node_of all) (reverse l.nodes.items)) made in
-    let count : c.in_ok-short.field-0 ≡ length (map (node_of all) (reverse l.nodes.items)) =
-    c.in_ok-short.ensures ∙ c.len.ensures ∙ l.nodes.ok.0 ∙ sym (length-reverse l.nodes.items) ∙ sym (length-map (reverse l.nodes.items) (node_of all)) in
+    let count : c.in_ok-to_u32.field-0 ≡ length (map (node_of all) (reverse l.nodes.items)) =
+    c.in_ok-to_u32.ensures ∙ c.len.ensures ∙ l.nodes.ok.0 ∙ sym (length-reverse l.nodes.items) ∙ sym (length-map (reverse l.nodes.items) (node_of all)) in
     let len : c.in_ok-made.made.len ≡ (new_node c.args.argument c.args.start (open_node_of all.items items parts l.open_node)).len = ap (λ x. x.len) made in
     let id = λ (k : ℕ). Node (record { 0 = k }) in
     let found = length (map (node_of all) (reverse l.nodes.items)) in
