@@ -8,12 +8,13 @@ use std::sync::Wait;
 use std::thread::Threads;
 use std::{env, io};
 use wk_base::{Clock, Failed, ReadSource, Sink, Source, SystemClock, WriteSink};
-use wk_cli::{Finish, refusal_text, wiki_main};
+use wk_cli::{Finish, wiki_main};
 use wk_core::BadStore;
 use wk_door::Door;
 use wk_gate::NoGate;
 use wk_net::TcpDoor;
 use wk_vault::{FileVault, Stored};
+use wk_words::{Command, read, refusal_text};
 
 /// The words of the command line, the program's name first.
 fn words(rt: &(impl Env + AllocGlobal)) -> io::Result<Vec<String>> {
@@ -41,10 +42,37 @@ fn meaning(status: u8) -> &'static str {
     }
 }
 
-/// Tells why the vault opened no store, if it didn't.
-fn tell_cause(rt: &HostRuntime, vault: &FileVault<'_>) -> io::Result<()> {
-    match vault.cause() {
-        Some(cause) => eprintln!(rt; "wiki: {cause}"),
+/// What the words say to what stands outside.
+#[derive(Clone, Copy)]
+struct Outside<'a> {
+    /// Whether a store that isn't there is made: `check` and `jobs` would tell nothing of it.
+    makes: bool,
+    /// The store's name.
+    store: &'a str,
+    /// The address to listen at.
+    listen: &'a str,
+}
+
+/// What these words say; where they are refused, nothing that counts.
+fn said_by<'a>(alloc: Global, words: &'a [String]) -> Outside<'a> {
+    match read(alloc, words) {
+        Ok(line) => Outside {
+            makes: line.command != Command::Check && line.command != Command::Jobs,
+            store: line.store,
+            listen: line.listen,
+        },
+        Err(_) => Outside {
+            makes: false,
+            store: "",
+            listen: "",
+        },
+    }
+}
+
+/// Tells why nobody can connect to the address, if a call of the door failed.
+fn tell_door(rt: &HostRuntime, address: &str, error: Option<io::Error>) -> io::Result<()> {
+    match error {
+        Some(error) => eprintln!(rt; "wiki: {address}: {error}"),
         None => Ok(()),
     }
 }
@@ -60,11 +88,38 @@ fn tell(rt: &HostRuntime, words: &[String], status: u8, bad: Option<BadStore>) -
     }
     match bad {
         Some(BadStore { rule, row }) => {
-            eprintln!(rt; "wiki: status {status} rule {rule} row {row}")?
+            eprintln!(rt; "wiki: status {status} rule {rule} row {row}")?;
+            eprintln!(rt; "table {}", rule_text(rule))?
         }
         None => eprintln!(rt; "wiki: status {status}")?,
     }
     eprintln!(rt; "{}", meaning(status))
+}
+
+/// The rule of a good store in words, and where its rows are counted.
+fn rule_text(rule: u8) -> &'static str {
+    match rule {
+        1 => { "page, in the order of page_id: page_id is 1, 2, 3 and so on, at most 1000000" }
+        2 => {
+            "page, page_id is the row: each title is one that a text can name, isn't in Media or Special, and stands once"
+        }
+        3 => {
+            "revision, in the order of rev_id: rev_id is 1, 2, 3 and so on, rev_page is a page's, a deletion has no text, rev_len is the text's length, and all texts have at most 2^30 bytes"
+        }
+        4 => {
+            "page or revision, page_id or rev_id is the row: page_latest and page_len are those of the page's last revision, 0 where it is a deletion, rev_parent_id is the page's revision before, and each page has one"
+        }
+        5 => {
+            "pagelinks, templatelinks, existlinks, categorylinks and redirect, counted one after the other, each in the order of its page and its title: each row is from a page that is there, to a title that a text can name, and stands once"
+        }
+        6 => {
+            "job, in the order of job_id: job_id rises from 1 on, and the job refreshes a page that is there or fans out from a title, each once"
+        }
+        7 => {
+            "redirect, and behind its rows site: the version is 1 or 2, and with 1 there is no redirect"
+        }
+        _ => "no rule that is known",
+    }
 }
 
 /// Ends the store, if one was opened.
@@ -122,7 +177,8 @@ fn tell_log(rt: &HostRuntime, closed: Result<(), Failed>) -> io::Result<()> {
 
 fn main(rt: HostRuntime) -> io::Result<ExitCode> {
     let words = words(&rt)?;
-    let mut vault = FileVault::new(&rt);
+    let said = said_by(rt.alloc(), &words);
+    let mut vault = FileVault::new(&rt, said.makes);
     let mut input = ReadSource::new(rt.reader());
     let mut output = WriteSink::new(io::writer(&rt));
     let mut clock = SystemClock::new(&rt);
@@ -141,7 +197,8 @@ fn main(rt: HostRuntime) -> io::Result<ExitCode> {
         &mut clock,
         &mut door,
     );
-    tell_cause(&rt, &vault)?;
+    vault.tell_cause(said.store)?;
+    tell_door(&rt, said.listen, door.error())?;
     tell(&rt, &words, status, bad)?;
     tell_log(&rt, closed)?;
     Ok(ExitCode::from(status))

@@ -2,7 +2,5 @@
 #![tactic(auto)]
 
 mod args;
-#[cfg(test)]
-mod tests;
 
 pub use args::Args;

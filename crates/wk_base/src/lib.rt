@@ -21,6 +21,3 @@ pub use mem_source::MemSource;
 pub use outside::{Clock, Failed, Sink, Source};
 pub use wk_memory::Memory;
 pub use writing::write_all;
-
-#[cfg(test)]
-mod tests;

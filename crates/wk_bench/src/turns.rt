@@ -1,5 +1,5 @@
 //! Turns that several threads take, each with a pass of its own, to add to one list.
-ghost use Rattle.std.specs.Prelude.{◌≡◌, ◌<◌, [], ◌∷◌, ◌++◌, None, All, IfOk, IfErr};
+ghost use Rattle.std.specs.Prelude.{◌≡◌, [], ◌∷◌, ◌++◌, None, All, IfOk, IfErr};
 ghost use Rattle.wk_turn.specs.Told.{IsOf};
 
 use std::alloc::Global;
@@ -40,136 +40,95 @@ impl Entries {
     }
 }
 
-/// A thread's pass, the turns that it is to take, and how many of them added an entry.
-#[derive(Drop)]
-struct Worker {
-    pass: Pass<Entries>,
-    turns: u64,
-    added: u64,
-}
-
-/// Takes a turn, and adds an entry in it.
-fn add<R: Wait>(
-    rt: &R,
-    turn: &Turn<Entries>,
-    pass: &mut Pass<Entries>,
-    entry: u64,
-) -> Result<(), Memory>
+/// Takes a turn, and adds an entry in it, unless memory runs out.
+fn add<R: Wait>(rt: &R, turn: &Turn<Entries>, pass: &mut Pass<Entries>, entry: u64)
     requires { IsOf turn.now pass.old × (pass.old.held ≡ None) }
     ensures { IsOf turn.now pass.new × (pass.new.held ≡ None) }
 {
     let mut held = turn.enter(rt, pass);
-    let answer = held.value.add(entry);
+    let _added = held.value.add(entry);
     turn.leave(pass, held);
-    answer
 }
 
-/// Takes the worker's turns.
-fn work<R: Wait>(rt: &R, turn: &Turn<Entries>, worker: &mut Worker)
-    requires { IsOf turn.now worker.old.pass × (worker.old.pass.held ≡ None) }
-    ensures { IsOf turn.now worker.new.pass × (worker.new.pass.held ≡ None) }
+/// Takes so many turns.
+fn work<R: Wait>(rt: &R, turn: &Turn<Entries>, pass: &mut Pass<Entries>, turns: u64)
+    requires { IsOf turn.now pass.old × (pass.old.held ≡ None) }
+    ensures { IsOf turn.now pass.new × (pass.new.held ≡ None) }
 {
-    let turns = worker.turns;
     'turns: for entry in 0..turns {
-        if add(rt, turn, &mut worker.pass, entry).is_ok() {
-            worker.added = worker.added.saturating_add(1);
-        }
+        add(rt, turn, pass, entry);
     }
 }
 
-/// Each worker takes its turns, on a thread of its own.
-fn work_all<R: Threads + Wait + Sync>(rt: &R, turn: &Turn<Entries>, workers: &mut [Worker])
-    requires { All (λ w. IsOf turn.now w.pass × (w.pass.held ≡ None)) workers.old }
-    ensures { All (λ w. IsOf turn.now w.pass × (w.pass.held ≡ None)) workers.new }
+/// Takes so many turns by each pass, on a thread of its own.
+fn work_all<R: Threads + Wait + Sync>(
+    rt: &R,
+    turn: &Turn<Entries>,
+    passes: &mut [Pass<Entries>],
+    turns: u64,
+)
+    requires { All (λ p. IsOf turn.now p × (p.held ≡ None)) passes.old }
+    ensures { All (λ p. IsOf turn.now p × (p.held ≡ None)) passes.new }
 {
-    let threads = workers.len().max(1);
+    let threads = passes.len().max(1);
     for_each_mut(
         rt,
-        workers,
+        passes,
         threads,
-        &|_, worker: &mut Worker| { work(rt, turn, worker) },
+        &|_, pass: &mut Pass<Entries>| { work(rt, turn, pass, turns) },
     );
 }
 
-/// A worker for each thread. They share the turns as evenly as can be.
-fn hired(
+/// So many passes.
+fn split(
     alloc: Global,
     turn: &Turn<Entries>,
     pass: &mut Pass<Entries>,
-    turns: u64,
-    threads: u64,
-) -> Result<Vec<Worker>, Memory>
-    requires pass { IsOf turn.now pass.old × (pass.old.held ≡ None) }
-    requires threads { 0 < threads }
+    count: u64,
+) -> Result<Vec<Pass<Entries>>, Memory>
+    requires { IsOf turn.now pass.old × (pass.old.held ≡ None) }
     ensures pass { pass.new ≡ pass.old }
-    ensures workers { IfOk result (λ v. All (λ w. IsOf turn.now w.pass × (w.pass.held ≡ None)) v.items) }
+    ensures passes { IfOk result (λ v. All (λ p. IsOf turn.now p × (p.held ≡ None)) v.items) }
 {
-    let mut workers = Vec::new(alloc);
-    let (share, more) = (turns / threads, turns % threads);
-    'hiring: for at in 0..threads {
-        let pass = turn.split(pass)?;
-        let turns = if at < more {
-            share.saturating_add(1)
-        } else {
-            share
-        };
-        workers.push(Worker {
-            pass,
-            turns,
-            added: 0,
-        })?;
+    let mut passes = Vec::new(alloc);
+    'splitting: for _ in 0..count {
+        passes.push(turn.split(pass)?)?;
     }
-    Ok(workers)
+    Ok(passes)
 }
 
-/// Joins the workers' passes, and answers how many entries they added.
-fn gathered(turn: &Turn<Entries>, pass: &mut Pass<Entries>, mut workers: Vec<Worker>) -> u64
+/// Joins the passes.
+fn join(turn: &Turn<Entries>, pass: &mut Pass<Entries>, mut passes: Vec<Pass<Entries>>)
     requires pass { IsOf turn.now pass.old × (pass.old.held ≡ None) }
-    requires workers { All (λ w. IsOf turn.now w.pass × (w.pass.held ≡ None)) workers.items }
+    requires passes { All (λ p. IsOf turn.now p × (p.held ≡ None)) passes.items }
     ensures { IsOf turn.now pass.new × (pass.new.held ≡ None) }
 {
-    let mut added = 0u64;
-    'gathering: while let Some(worker) = workers.pop() {
-        let Worker {
-            pass: other,
-            turns: _,
-            added: more,
-        } = worker;
+    'joining: while let Some(other) = passes.pop() {
         turn.join(pass, other);
-        added = added.saturating_add(more);
     }
-    added
 }
 
 fn begun(alloc: Global) -> Result<(Turn<Entries>, Pass<Entries>), Memory>
     ensures { IfOk result (λ t. IsOf t.0 t.1 × (t.1.held ≡ None)) }
 {
-    let entries = Entries {
-        list: Vec::new(alloc),
-    };
-    match begin(alloc, entries) {
+    let list = Vec::new(alloc);
+    match begin(alloc, Entries { list }) {
         Ok(both) => Ok(both),
         Err((_entries, memory)) => Err(memory),
     }
 }
 
-/// Takes so many turns in all, on so many threads, and answers how many entries the list then has.
-/// Memory comes where it ran out, so that a turn added no entry.
+/// Takes so many turns on each of so many threads. The entries of the list behind them, one for each turn in which memory
+/// didn't run out.
 pub fn run<R: Threads + Wait + Sync>(
     rt: &R,
     alloc: Global,
     turns: u64,
     threads: u64,
-) -> Result<u64, Memory>
-    requires { 0 < threads }
-{
+) -> Result<u64, Memory> {
     let (turn, mut pass) = begun(alloc)?;
-    let mut workers = hired(alloc, &turn, &mut pass, turns, threads)?;
-    work_all(rt, &turn, workers.as_mut_slice());
-    let added = gathered(&turn, &mut pass, workers);
-    let entries = turn.finish(rt, pass);
-    if added != turns {
-        return Err(Memory);
-    }
-    Ok(entries.length())
+    let mut passes = split(alloc, &turn, &mut pass, threads)?;
+    work_all(rt, &turn, passes.as_mut_slice(), turns);
+    join(&turn, &mut pass, passes);
+    Ok(turn.finish(rt, pass).length())
 }

@@ -43,26 +43,3 @@ pub fn trim(bytes: &[u8]) -> &[u8]
 {
     trim_end(trim_start(bytes))
 }
-
-#[cfg(test)]
-mod tests {
-    use super::*;
-
-    #[test]
-    fn trims_four_blank_bytes_only(rt: HostRuntime) {
-        for (bytes, trimmed) in [
-            (" \t\r\n a b\n\t", "a b"),
-            ("\u{c}a\u{b}", "\u{c}a\u{b}"),
-            ("\u{a0}", "\u{a0}"),
-            (" \n", ""),
-            ("", ""),
-        ] {
-            assert_eq!(rt; trim(bytes.as_bytes()), trimmed.as_bytes(), "at {bytes:?}");
-            assert_eq!(rt;
-                is_blank(bytes.as_bytes()),
-                trimmed.is_empty(),
-                "at {bytes:?}"
-            );
-        }
-    }
-}

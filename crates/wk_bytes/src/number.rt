@@ -59,24 +59,3 @@ pub fn decimal(bytes: &[u8]) -> Option<u64>
         None
     }
 }
-
-#[cfg(test)]
-mod tests {
-    use super::*;
-
-    #[test]
-    fn reads_decimal_numbers(rt: HostRuntime) {
-        for (text, number) in [
-            ("0", Some(0)),
-            ("10", Some(10)),
-            ("18446744073709551615", Some(u64::MAX)),
-            ("18446744073709551616", None),
-            ("00", None),
-            ("+1", None),
-            (" 1", None),
-            ("", None),
-        ] {
-            assert_eq!(rt; decimal(text.as_bytes()), number, "at {text:?}");
-        }
-    }
-}

@@ -135,32 +135,3 @@ impl fmt::Debug for Text {
         fmt::Debug::fmt(&self.as_str(), f)
     }
 }
-
-#[cfg(test)]
-mod tests {
-    use super::*;
-    use std::test::Fail;
-    use std::thread;
-
-    #[test]
-    fn is_shared_between_threads(rt: HostRuntime) -> Result<(), Fail> {
-        let text = Text::new(rt.alloc(), "Zürich")?;
-        let other = text.share()?;
-        let (mine, theirs) = thread::join(&rt, || text.len(), move || other);
-        assert_eq!(rt; mine, 7);
-        assert_eq!(rt; theirs.as_str(), "Zürich");
-        assert_eq!(rt; theirs, text);
-        Ok(())
-    }
-
-    #[test]
-    fn is_ordered_and_printed_as_its_bytes(rt: HostRuntime) -> Result<(), Fail> {
-        let alloc = rt.alloc();
-        let a = Text::new(alloc, "a\"b")?;
-        let z = Text::new(alloc, "Z")?;
-        assert!(rt; z < a);
-        assert!(rt; !a.is_empty());
-        assert_eq!(rt; format!(in alloc; "{a:?}")?.as_str(), "\"a\\\"b\"");
-        Ok(())
-    }
-}

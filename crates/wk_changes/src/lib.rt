@@ -10,8 +10,6 @@ mod migrations;
 mod refreshes;
 mod rows;
 mod saves;
-#[cfg(test)]
-mod tests;
 
 pub use all_tables::tables;
 pub use fans::fan_change;

@@ -4,7 +4,5 @@
 mod comparison;
 mod numeral;
 mod parts;
-#[cfg(test)]
-mod tests;
 
 pub use comparison::same;

@@ -7,8 +7,6 @@ mod door;
 mod entrance;
 mod locked_clock;
 mod mem_door;
-#[cfg(test)]
-mod tests;
 
 pub use door::Door;
 pub use entrance::{Closed, Entrance, Entry, Shut, Taken, take_link};

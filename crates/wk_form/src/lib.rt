@@ -2,7 +2,5 @@
 #![tactic(auto)]
 
 mod params;
-#[cfg(test)]
-mod tests;
 
 pub use params::Params;

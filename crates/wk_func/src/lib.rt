@@ -4,8 +4,6 @@
 
 mod equality;
 mod switch;
-#[cfg(test)]
-mod tests;
 mod word;
 
 pub use equality::equal;

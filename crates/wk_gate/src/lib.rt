@@ -17,36 +17,3 @@ pub struct NoGate;
 impl Gate for NoGate {
     fn pass(&mut self) {}
 }
-
-#[cfg(test)]
-mod tests {
-    use super::*;
-
-    /// A gate that counts how often it is passed.
-    #[derive(Drop)]
-    struct Counting {
-        passed: u64,
-    }
-
-    impl Gate for Counting {
-        fn pass(&mut self) {
-            self.passed = self.passed.wrapping_add(1);
-        }
-    }
-
-    fn pass_twice<G: Gate>(gate: &mut G) {
-        gate.pass();
-        gate.pass();
-    }
-
-    #[test]
-    fn each_pass_is_one_call(rt: HostRuntime) {
-        let mut gate = Counting { passed: 0 };
-        pass_twice(&mut gate);
-        assert_eq!(rt; gate.passed, 2);
-        let mut none = NoGate;
-        let copy = none;
-        pass_twice(&mut none);
-        assert_eq!(rt; none, copy);
-    }
-}

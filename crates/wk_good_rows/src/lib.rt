@@ -11,8 +11,6 @@ mod number;
 mod order;
 mod pages;
 mod revisions;
-#[cfg(test)]
-mod tests;
 mod titles;
 
 pub use broken::broken_rows;

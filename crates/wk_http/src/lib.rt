@@ -10,8 +10,6 @@ mod report;
 mod request;
 mod responses;
 mod target;
-#[cfg(test)]
-mod tests;
 
 pub use feed::Feed;
 pub use laws::{

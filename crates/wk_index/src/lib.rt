@@ -18,8 +18,6 @@ mod pages_by_title;
 mod row_titles;
 mod same;
 mod shared_rows;
-#[cfg(test)]
-mod tests;
 mod title_map;
 
 pub use index::Index;

@@ -8,8 +8,6 @@ mod load;
 mod numbers;
 mod refreshes;
 mod rows;
-#[cfg(test)]
-mod tests;
 
 pub use fans::FanJob;
 pub use jobs::Jobs;

@@ -17,6 +17,3 @@ pub use keeper::{Keeper, KeeperRefusal, OpenRefusal, Vault};
 pub use list_vault::ListVault;
 pub use mem_keeper::MemKeeper;
 pub use mem_vault::MemVault;
-
-#[cfg(test)]
-mod tests;

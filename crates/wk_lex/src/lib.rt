@@ -17,6 +17,3 @@ pub use atoms::lex;
 pub use lexer::{Lexer, has_no_mark};
 pub use selection::select;
 pub use wk_tree_rules::{AtomKind, Mode};
-
-#[cfg(test)]
-mod tests;

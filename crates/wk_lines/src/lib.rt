@@ -8,6 +8,3 @@ mod stop;
 pub use reader::LineReader;
 pub use reading::NextLine;
 pub use stop::Stop;
-
-#[cfg(test)]
-mod tests;

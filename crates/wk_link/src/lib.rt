@@ -4,8 +4,6 @@
 mod link;
 mod mem_link;
 mod sending;
-#[cfg(test)]
-mod tests;
 
 pub use link::Link;
 pub use mem_link::MemLink;

@@ -4,8 +4,6 @@
 mod brackets;
 mod found;
 mod scan;
-#[cfg(test)]
-mod tests;
 mod what;
 
 pub use found::{Found, What};

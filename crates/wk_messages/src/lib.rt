@@ -3,7 +3,5 @@
 
 mod reader;
 mod reading;
-#[cfg(test)]
-mod tests;
 
 pub use reader::MessageReader;

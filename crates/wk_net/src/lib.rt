@@ -3,8 +3,6 @@
 
 mod tcp_door;
 mod tcp_link;
-#[cfg(test)]
-mod tests;
 
 pub use tcp_door::TcpDoor;
 pub use tcp_link::TcpLink;

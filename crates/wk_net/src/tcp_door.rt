@@ -27,6 +27,7 @@ pub struct TcpDoor<R, L> {
     net: R,
     listener: Option<L>,
     faults: u64,
+    error: Option<io::Error>,
 }
 
 impl<R: Net> TcpDoor<R, R::Listener> {
@@ -38,6 +39,7 @@ impl<R: Net> TcpDoor<R, R::Listener> {
             net,
             listener: None,
             faults: 0,
+            error: None,
         }
     }
 }
@@ -48,6 +50,11 @@ impl<R, L> TcpDoor<R, L> {
         ensures { result ≡ door_faults_of self.now }
     {
         self.faults
+    }
+
+    /// Why the last call that failed did, and None where none has.
+    pub fn error(&self) -> Option<io::Error> {
+        self.error
     }
 }
 
@@ -84,7 +91,10 @@ pub(crate) fn prepare<S: OpenStream>(stream: &S) -> io::Result<()> {
 }
 
 /// Accepts until a connection comes that isn't gone. Where descriptors are wanting it waits a little, so many times at most.
-pub(crate) fn next_stream<R: Clock, L: OpenListener>(clock: &R, listener: &L) -> Option<L::Stream>
+pub(crate) fn next_stream<R: Clock, L: OpenListener>(
+    clock: &R,
+    listener: &L,
+) -> io::Result<L::Stream>
 where
     L::Stream: OpenStream,
 {
@@ -93,7 +103,7 @@ where
         match listener.accept() {
             Ok((stream, _)) => {
                 if prepare(&stream).is_ok() {
-                    return Some(stream);
+                    return Ok(stream);
                 }
             }
             Err(error) => match trouble_of(&error) {
@@ -102,11 +112,11 @@ where
                     waits += 1;
                     thread::sleep(clock, Duration::from_millis(WAIT));
                 }
-                Trouble::Crowded | Trouble::Broken => return None,
+                Trouble::Crowded | Trouble::Broken => return Err(error),
             },
         }
     }
-    None
+    Err(ErrorKind::Other.into())
 }
 
 impl<R: Net + Clock> Door for TcpDoor<R, R::Listener>
@@ -127,7 +137,10 @@ where
                 self.listener = Some(listener);
                 Ok(())
             }
-            Err(_) => Err(count_fault(&mut self.faults)),
+            Err(error) => {
+                self.error = Some(error);
+                Err(count_fault(&mut self.faults))
+            }
         }
     }
 
@@ -138,8 +151,11 @@ where
             return Err(count_fault(&mut self.faults));
         };
         match next_stream(&self.net, listener) {
-            Some(stream) => Ok(Some(TcpLink::new(stream))),
-            None => Err(count_fault(&mut self.faults)),
+            Ok(stream) => Ok(Some(TcpLink::new(stream))),
+            Err(error) => {
+                self.error = Some(error);
+                Err(count_fault(&mut self.faults))
+            }
         }
     }
 }

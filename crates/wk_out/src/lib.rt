@@ -7,8 +7,6 @@ mod error_text;
 mod output;
 mod run;
 mod runs;
-#[cfg(test)]
-mod tests;
 
 pub use output::Out;
 pub use runs::Runs;

@@ -12,8 +12,6 @@ mod parameters;
 mod queries;
 mod refusal;
 mod request;
-#[cfg(test)]
-mod tests;
 
 pub use listings::Listing;
 pub use refusal::RequestRefusal;

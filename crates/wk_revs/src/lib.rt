@@ -8,8 +8,6 @@ mod load;
 mod pages;
 mod revisions;
 mod revs;
-#[cfg(test)]
-mod tests;
 mod verdict;
 
 pub use edit::{Edit, Limits, full_is_the_full_limits};

@@ -2,11 +2,7 @@
 #![tactic(auto)]
 
 mod draft_rows;
-#[cfg(test)]
-mod draft_tests;
 mod members;
-#[cfg(test)]
-mod tests;
 mod titles;
 
 pub use draft_rows::rows;

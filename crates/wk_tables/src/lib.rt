@@ -6,8 +6,6 @@ mod change;
 mod job_list;
 mod links;
 mod tables;
-#[cfg(test)]
-mod tests;
 
 pub use change::{Change, RowEdit};
 pub use tables::{Tables, apply, broken, make_room};

@@ -10,8 +10,6 @@ mod parts;
 mod rules;
 mod spaces;
 mod target;
-#[cfg(test)]
-mod tests;
 mod title;
 
 pub use characters::to_nfc;

@@ -11,8 +11,6 @@ mod lock;
 mod pass;
 mod plays;
 mod storied;
-#[cfg(test)]
-mod tests;
 
 pub use lock::{Turn, begin};
 pub use pass::{Held, Pass};

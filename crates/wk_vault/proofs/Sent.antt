@@ -12,6 +12,7 @@ use Rattle.sqlite.below.sqlite_store.proofs.store.FileStore.TheSendSync as files
 use Rattle.sqlite.below.sqlite_store.specs.contracts.store.FileStoreStore.TheImpl as store
 use Rattle.wk_keeper.proofs.mem_keeper.MemKeeper.TheSendSync as memory
 use Rattle.wk_sqlkeeper.proofs.keeper.SqlKeeper.TheSendSync as database
+use Rattle.wk_vault.proofs.tells.Voice.TheSendSync as voice
 use Rattle.wk_vault.specs.contracts.stored.Stored as Stored
 
 host : IsSend Host.the_row
@@ -25,7 +26,7 @@ file_send : IsSend file
 file_send = modelled.the_send Host.the_row Unknown.the_row _ _ host
 
 field : IsSend Stored.the_field.row
-field = enum_send (shape Stored.the_type) ((memory.the_send, tt), ((database.the_field_send _ (store.ghosts file _ store.no_dict) (files.the_send file _ file_send), tt), tt))
+field = enum_send (shape Stored.the_type) ((memory.the_send, tt), ((database.the_field_send _ (store.ghosts file _ store.no_dict) (files.the_send file _ file_send), (voice.the_field_send, tt)), tt))
 
 pub stored_send : IsSend Stored.the_row
 stored_send = recorded_send Stored.the_field.row _ _ Stored.the_type.to_one field

@@ -25,6 +25,15 @@ pub enum StoreCause {
     /// The disk is full.
     #[error("the disk of the store is full")]
     DiskFull,
+    /// There is no store, and none is to be made.
+    #[error("there is no store of this name")]
+    NoStore,
+    /// The file is missing or empty, and its log has something.
+    #[error("the store's file is missing or empty, and its log isn't")]
+    LogAlone,
+    /// What lies in the place of the log is none, or is the log of another database.
+    #[error("the store's log isn't one, or is another database's")]
+    OtherLog,
 }
 
 /// Why a store isn't opened.

@@ -8,26 +8,30 @@ ghost use Rattle.wk_vault.specs.Vault.{names_memory, opened_tables, vault_calls,
 use crate::cause::{Refusal, StoreCause};
 use crate::opening::opened;
 use crate::stored::Stored;
+use crate::tells::Voice;
+use std::io;
 use wk_keeper::{MemKeeper, OpenRefusal, Vault};
 use wk_tables::Tables;
 
 /// The vault of the program. The empty name is a new, empty store in memory, which is gone when the program ends; every
-/// other name is a file, which is a new store where it is missing or empty.
+/// other name is a file, which is a new store where it is missing or empty, unless none is to be made.
 #[derive(Drop)]
 pub struct FileVault<'a> {
     rt: &'a HostRuntime,
+    makes: bool,
     faults: u64,
     cause: Option<StoreCause>,
 }
 
 impl<'a> FileVault<'a> {
-    /// A vault of which no call has failed yet. Takes no memory.
-    pub fn new(rt: &'a HostRuntime) -> FileVault<'a>
+    /// A vault of which no call has failed yet, and which makes new stores in files or doesn't. Takes no memory.
+    pub fn new(rt: &'a HostRuntime, makes: bool) -> FileVault<'a>
         ensures faults { vault_faults result ≡ 0 }
         ensures cause { vault_cause result ≡ None }
     {
         FileVault {
             rt,
+            makes,
             faults: 0,
             cause: None,
         }
@@ -38,6 +42,21 @@ impl<'a> FileVault<'a> {
         ensures { result ≡ vault_faults self.now }
     {
         self.faults
+    }
+
+    /// Tells on the standard error why the store of this name wasn't opened, if the last call failed.
+    pub fn tell_cause(&self, name: &str) -> io::Result<()> {
+        match self.cause {
+            None => Ok(()),
+            Some(StoreCause::NoStore) => eprintln!(self.rt; "wiki: there is no store {name}"),
+            Some(StoreCause::LogAlone) => {
+                eprintln!(self.rt; "wiki: {name} is missing or empty, and its log {name}-wal isn't")
+            }
+            Some(StoreCause::OtherLog) => {
+                eprintln!(self.rt; "wiki: {name}-wal is no log, or not the log of {name}")
+            }
+            Some(cause) => eprintln!(self.rt; "wiki: {cause}"),
+        }
     }
 
     /// Why the last call failed, and None where it didn't.
@@ -77,7 +96,7 @@ fn answered<T: Drop>(
 }
 
 /// The store of the name.
-fn opened_as_named(rt: &HostRuntime, name: &str) -> Result<Stored, Refusal>
+fn opened_as_named(rt: &HostRuntime, name: &str, makes: bool) -> Result<Stored, Refusal>
     ensures tells { IfOk result (λ store. stored_told store ≡ opened_tables name.now) }
     ensures whole { IfOk result (λ store. names_memory name.now ≡ true → stored_whole store ≡ true) }
     ensures no_faults { IfOk result (λ store. stored_faults store ≡ 0) }
@@ -86,7 +105,7 @@ fn opened_as_named(rt: &HostRuntime, name: &str) -> Result<Stored, Refusal>
     if name.is_empty() {
         return Ok(Stored::Memory(MemKeeper::new(Tables::new(rt.alloc()))));
     }
-    Ok(Stored::File(opened(rt, name)?))
+    Ok(Stored::File(opened(rt, name, makes)?, Voice::new(rt)))
 }
 
 impl<'a> Vault for FileVault<'a> {
@@ -103,7 +122,9 @@ impl<'a> Vault for FileVault<'a> {
     /// The store of this name. For the empty name it is an empty one in memory, and the answer is `Ok`.
     ///
     /// `Failed` comes where the file is open elsewhere, where the system doesn't open or make it, where it has something
-    /// else than a wiki's database, of which it keeps each byte, and where the disk fails or is full; `cause` tells which.
+    /// else than a wiki's database, of which it keeps each byte, where it is missing or empty beside a log that isn't, where
+    /// what lies in the log's place is none or another database's, where there is no store and none is to be made, and where
+    /// the disk fails or is full; `cause` tells which.
     fn open(&mut self, name: &str) -> Result<Stored, OpenRefusal>
         ensures given { IfOk result (λ store. IfSome (vault_told self.old name.now) (λ kept. stored_told store ≡ Some kept)) }
         ensures whole { IfOk result (λ store. vault_opens_whole self.old name.now ≡ true → stored_whole store ≡ true) }
@@ -123,7 +144,7 @@ impl<'a> Vault for FileVault<'a> {
         ensures counted { result ≡ Err OpenRefusal.Failed → vault_faults self.new ≡ one_more (vault_faults self.old) }
         ensures why { (result ≡ Err OpenRefusal.Failed) ↔ IsSome (vault_cause self.new) }
     {
-        let opened = opened_as_named(self.rt, name);
+        let opened = opened_as_named(self.rt, name, self.makes);
         answered(&mut self.faults, &mut self.cause, opened)
     }
 }

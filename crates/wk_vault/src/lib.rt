@@ -6,10 +6,9 @@ mod file_vault;
 mod opening;
 mod start;
 mod stored;
+mod tells;
+mod verdict;
 
 pub use cause::StoreCause;
 pub use file_vault::FileVault;
 pub use stored::Stored;
-
-#[cfg(test)]
-mod tests;

@@ -1,17 +1,38 @@
 //! A file that is opened as a store.
-ghost use Rattle.std.specs.Prelude.{◌≡◌, IfOk};
+ghost use Rattle.std.specs.Prelude.{◌≡◌, IfOk, true};
 ghost use Rattle.wk_sqlkeeper.specs.SqlKeeper.{sql_faults};
+ghost use Rattle.wk_vault.specs.Opening.{may_open};
 
 use crate::cause::{Refusal, StoreCause, refusal_of};
-use crate::start::refuse_other_byte;
+use crate::start::{FileKind, found_at};
+use crate::tells::{tell_lost, tell_new};
+use crate::verdict::judged;
 use sqlite::{Alter, Connection, File, FileStore};
 use std::alloc::Global;
+use std::io::{self, ErrorKind};
 use wk_keeper::KeeperRefusal;
 use wk_sqlkeeper::SqlKeeper;
+use wk_wal::LogKind;
 
-/// The connection to the database in the file, which is made where there is none.
-fn connected(rt: &HostRuntime, name: &str) -> Result<Connection<FileStore<File>>, Refusal> {
-    refuse_other_byte(rt, name)?;
+/// What it means that a file or its log can't be looked at.
+fn refusal_of_look(error: io::Error) -> Refusal {
+    match error.kind() {
+        ErrorKind::OutOfMemory => Refusal::Memory,
+        _ => Refusal::Because(StoreCause::CannotOpen),
+    }
+}
+
+/// The connection to the database in the file. What stands at the name was judged before, since a file that isn't there is
+/// made, and a log beside one that is empty is lost.
+fn connected(
+    rt: &HostRuntime,
+    name: &str,
+    file: FileKind,
+    log: LogKind,
+    makes: bool,
+) -> Result<Connection<FileStore<File>>, Refusal>
+    requires judged { may_open file log makes ≡ true }
+{
     Connection::open(rt, name).map_err(refusal_of)
 }
 
@@ -29,10 +50,22 @@ fn adopted<S: Alter + Drop>(
     }
 }
 
-/// The keeper of the store in the file of this name. A file that is missing or empty becomes a new store.
-pub fn opened(rt: &HostRuntime, name: &str) -> Result<SqlKeeper<FileStore<File>>, Refusal>
+/// The keeper of the store in the file of this name. A file that is missing or empty becomes a new store where one is to be
+/// made and no log lies beside it, and that is told; it is told too where a part of the log is left out.
+pub fn opened(
+    rt: &HostRuntime,
+    name: &str,
+    makes: bool,
+) -> Result<SqlKeeper<FileStore<File>>, Refusal>
     ensures { IfOk result (λ keeper. sql_faults keeper ≡ 0) }
 {
-    let connection = connected(rt, name)?;
-    adopted(rt.alloc(), connection)
+    let found = found_at(rt, name).map_err(refusal_of_look)?;
+    let new = judged(found.file, found.log, makes).map_err(Refusal::Because)?;
+    let connection = connected(rt, name, found.file, found.log, makes)?;
+    tell_lost(rt, name, found.lost);
+    let keeper = adopted(rt.alloc(), connection)?;
+    if new {
+        tell_new(rt, name);
+    }
+    Ok(keeper)
 }

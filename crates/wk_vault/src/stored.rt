@@ -2,6 +2,7 @@
 ghost use Rattle.std.specs.Prelude.{◌≡◌, IsErr, None};
 ghost use Rattle.wk_vault.specs.Stores.{stored_faults, stored_told, stored_whole};
 
+use crate::tells::Voice;
 use sqlite::{File, FileStore};
 use wk_base::Failed;
 use wk_keeper::{Keeper, KeeperRefusal, MemKeeper};
@@ -9,9 +10,10 @@ use wk_sqlkeeper::SqlKeeper;
 use wk_tables::{Change, Tables};
 
 /// A store of the program: in memory, where it tells its tables and is whole, or in a file, where it tells none and isn't.
+/// One in a file says on the standard error when changes can't be stored, and when they are again.
 pub enum Stored {
     Memory(MemKeeper),
-    File(SqlKeeper<FileStore<File>>),
+    File(SqlKeeper<FileStore<File>>, Voice),
 }
 
 // It is written out, so that a caller does not prove again how a database in a file is dropped.
@@ -19,7 +21,7 @@ impl Drop for Stored {
     fn drop(self) {
         match self {
             Stored::Memory(_) => {}
-            Stored::File(_) => {}
+            Stored::File(_, _) => {}
         }
     }
 }
@@ -35,7 +37,7 @@ impl Keeper for Stored {
     fn load(&mut self) -> Result<Tables, KeeperRefusal> {
         match self {
             Stored::Memory(keeper) => keeper.load(),
-            Stored::File(keeper) => keeper.load(),
+            Stored::File(keeper, _) => keeper.load(),
         }
     }
 
@@ -43,7 +45,11 @@ impl Keeper for Stored {
     fn apply(&mut self, change: &Change) -> Result<(), KeeperRefusal> {
         match self {
             Stored::Memory(keeper) => keeper.apply(change),
-            Stored::File(keeper) => keeper.apply(change),
+            Stored::File(keeper, voice) => {
+                let answer = keeper.apply(change);
+                voice.hear(answer);
+                answer
+            }
         }
     }
 }
@@ -56,7 +62,7 @@ impl Stored {
     {
         match self {
             Stored::Memory(_) => Ok(()),
-            Stored::File(keeper) => keeper.release().close().map_err(|_| Failed),
+            Stored::File(keeper, _) => keeper.release().close().map_err(|_| Failed),
         }
     }
 }

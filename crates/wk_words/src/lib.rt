@@ -5,8 +5,6 @@ mod commands;
 mod options;
 mod reading;
 mod refusals;
-#[cfg(test)]
-mod tests;
 
 pub use commands::Command;
 pub use reading::{CommandLine, read, refusal_text};

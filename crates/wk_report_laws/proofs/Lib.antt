@@ -1,0 +1,4 @@
+pub mod Expanded
+pub mod Sorting
+pub mod Tallies
+pub mod Walks

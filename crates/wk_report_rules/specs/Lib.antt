@@ -1,0 +1,4 @@
+pub mod Reports
+pub mod Pages
+pub mod Texts
+pub mod Computing

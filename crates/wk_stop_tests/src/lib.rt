@@ -1,0 +1,16 @@
+//! Tests of stores that stop or fail: keepers over a database and in memory, and vaults. Nothing stands on this crate, and it
+//! holds nothing but tests.
+#![tactic(auto)]
+
+#[cfg(test)]
+mod keepers;
+#[cfg(test)]
+mod opened;
+#[cfg(test)]
+mod refused;
+#[cfg(test)]
+mod same;
+#[cfg(test)]
+mod samples;
+#[cfg(test)]
+mod stops;

@@ -1,0 +1,4 @@
+pub mod SizeLemmas
+pub mod SpendLemmas
+pub mod TextSpends
+pub mod RoundLemmas

@@ -1,6 +1,0 @@
-use Rattle.std.proofs.Common.{◌≡◌, None}
-use Rattle.wk_turn.specs.Told.{IsOf}
-use Rattle.wk_turn.proofs.tests.work.Given as goal
-
-abbrev pub invariant-turns : goal.invariant-turns
-invariant-turns g l = IsOf l.turn l.worker.pass × (l.worker.pass.held ≡ None)
