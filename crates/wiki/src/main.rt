@@ -7,13 +7,14 @@ use std::rt::Env;
 use std::sync::Wait;
 use std::thread::Threads;
 use std::{env, io};
-use wk_base::{Clock, Failed, ReadSource, Sink, Source, SystemClock, WriteSink};
+use wk_bad_rows::{RowKey, key_in_store, rule_text};
+use wk_base::{Clock, ReadSource, Sink, Source, SystemClock, WriteSink};
 use wk_cli::{Finish, wiki_main};
 use wk_core::BadStore;
 use wk_door::Door;
 use wk_gate::NoGate;
 use wk_net::TcpDoor;
-use wk_vault::{FileVault, Stored};
+use wk_vault::{Closed, FileVault, SqlCause, Stored, close_opened};
 use wk_words::{Command, read, refusal_text};
 
 /// The words of the command line, the program's name first.
@@ -77,9 +78,18 @@ fn tell_door(rt: &HostRuntime, address: &str, error: Option<io::Error>) -> io::R
     }
 }
 
+/// Tells which row breaks which rule of a good store: its table and its key, where these could be looked up, and the rule in
+/// words.
+fn tell_bad(rt: &HostRuntime, rule: u8, key: Option<RowKey>) -> io::Result<()> {
+    if let Some(key) = key {
+        eprintln!(rt; "the row: {key}")?;
+    }
+    eprintln!(rt; "the rule: {}", rule_text(rule))
+}
+
 /// Tells a status that isn't 0 on the standard error: what is wrong with the words, if anything; the status with the bad
 /// row, if any; and what the status means.
-fn tell(rt: &HostRuntime, words: &[String], status: u8, bad: Option<BadStore>) -> io::Result<()> {
+fn tell(rt: &HostRuntime, words: &[String], status: u8, bad: Option<BadRow>) -> io::Result<()> {
     if status == 0 {
         return Ok(());
     }
@@ -87,57 +97,45 @@ fn tell(rt: &HostRuntime, words: &[String], status: u8, bad: Option<BadStore>) -
         eprint!(rt; "{text}")?;
     }
     match bad {
-        Some(BadStore { rule, row }) => {
+        Some(
+            BadRow {
+                store: BadStore { rule, row },
+                key,
+            },
+        ) => {
             eprintln!(rt; "wiki: status {status} rule {rule} row {row}")?;
-            eprintln!(rt; "table {}", rule_text(rule))?
+            tell_bad(rt, rule, key)?
         }
         None => eprintln!(rt; "wiki: status {status}")?,
     }
     eprintln!(rt; "{}", meaning(status))
 }
 
-/// The rule of a good store in words, and where its rows are counted.
-fn rule_text(rule: u8) -> &'static str {
-    match rule {
-        1 => { "page, in the order of page_id: page_id is 1, 2, 3 and so on, at most 1000000" }
-        2 => {
-            "page, page_id is the row: each title is one that a text can name, isn't in Media or Special, and stands once"
-        }
-        3 => {
-            "revision, in the order of rev_id: rev_id is 1, 2, 3 and so on, rev_page is a page's, a deletion has no text, rev_len is the text's length, and all texts have at most 2^30 bytes"
-        }
-        4 => {
-            "page or revision, page_id or rev_id is the row: page_latest and page_len are those of the page's last revision, 0 where it is a deletion, rev_parent_id is the page's revision before, and each page has one"
-        }
-        5 => {
-            "pagelinks, templatelinks, existlinks, categorylinks and redirect, counted one after the other, each in the order of its page and its title: each row is from a page that is there, to a title that a text can name, and stands once"
-        }
-        6 => {
-            "job, in the order of job_id: job_id rises from 1 on, and the job refreshes a page that is there or fans out from a title, each once"
-        }
-        7 => {
-            "redirect, and behind its rows site: the version is 1 or 2, and with 1 there is no redirect"
-        }
-        _ => "no rule that is known",
-    }
+/// A row that breaks a rule of a good store, and its key, where that could be looked up.
+#[derive(Drop)]
+struct BadRow {
+    store: BadStore,
+    key: Option<RowKey>,
 }
 
-/// Ends the store, if one was opened.
-fn close(store: Option<Stored>) -> Result<(), Failed> {
-    match store {
-        Some(store) => store.close(),
-        None => Ok(()),
-    }
+/// The row that breaks a rule, if one does, with its key in the store.
+fn bad_row(store: &mut Option<Stored>, bad: Option<BadStore>) -> Option<BadRow> {
+    let bad = bad?;
+    let key = match store {
+        Some(store) => key_in_store(store, bad),
+        None => None,
+    };
+    Some(BadRow { store: bad, key })
 }
 
 /// How the program ended, with its store ended too.
 struct Ended {
     status: u8,
-    bad: Option<BadStore>,
-    closed: Result<(), Failed>,
+    bad: Option<BadRow>,
+    closed: Result<Option<Closed>, SqlCause>,
 }
 
-/// Makes the top call, and ends the store.
+/// Makes the top call, looks up the row that breaks a rule, if one does, and ends the store.
 fn ran<I: Source, O: Sink, C: Clock + Send, D: Door + Send, R: Threads + Wait + Sync>(
     rt: &R,
     alloc: Global,
@@ -155,9 +153,10 @@ where
         status,
         points: _,
         bad,
-        store,
+        mut store,
     } = wiki_main(rt, alloc, words, vault, input, output, clock, door, NoGate);
-    let closed = close(store);
+    let bad = bad_row(&mut store, bad);
+    let closed = close_opened(store);
     Ended {
         status,
         bad,
@@ -165,12 +164,12 @@ where
     }
 }
 
-/// Tells where the log of the store wasn't copied into its file.
-fn tell_log(rt: &HostRuntime, closed: Result<(), Failed>) -> io::Result<()> {
+/// Tells where the log of the store wasn't copied into its file, and why.
+fn tell_log(rt: &HostRuntime, closed: Result<Option<Closed>, SqlCause>) -> io::Result<()> {
     match closed {
-        Ok(()) => Ok(()),
-        Err(Failed) => eprintln!(rt;
-            "wiki: the store's log couldn't be copied into its file; nothing is lost: keep both"
+        Ok(_) => Ok(()),
+        Err(cause) => eprintln!(rt;
+            "wiki: the store's log couldn't be copied into its file: {cause}; nothing is lost: keep both"
         ),
     }
 }

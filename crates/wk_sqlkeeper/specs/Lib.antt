@@ -1,2 +1,4 @@
+pub mod Causes
+pub mod Reading
 pub mod SqlKeeper
 pub mod Stored

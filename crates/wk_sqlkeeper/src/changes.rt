@@ -1,4 +1,5 @@
 //! A change of the tables as one transaction.
+use crate::answers::Permit;
 use crate::links::set_rows;
 use crate::numbers::{stored_moment, whole};
 use sqlite::types::ValueRef;
@@ -120,6 +121,7 @@ pub fn make_change<S: Alter>(
     alloc: Global,
     connection: &mut Connection<S>,
     change: &Change,
+    _: Permit,
 ) -> Result<(), Error> {
     if !connection.is_autocommit() {
         return Err(Error::SqliteFailure(ErrorCode::TransactionState));

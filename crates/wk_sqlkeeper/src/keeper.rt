@@ -1,9 +1,14 @@
 //! The keeper over a database.
-ghost use Rattle.std.specs.Prelude.{◌≡◌, ◌↔◌, None, false, true, IfErr, IfOk, IsErr, IsOk};
-ghost use Rattle.wk_sqlkeeper.specs.SqlKeeper.{connection_of, sql_faults};
+ghost use Rattle.std.specs.Prelude.{◌≡◌, ◌↔◌, ◌≤◌, None, Some, true, is_some, IfErr, IfOk, IfSome, IsErr, IsOk, IsSome, OnErr, OnOk};
+ghost use Rattle.wk_base.specs.Faults.{Rose};
+ghost use Rattle.wk_table_rules.specs.Changes.{applied, fits};
+ghost use Rattle.wk_keeper.specs.CallCounts.{CountsOne};
+ghost use Rattle.wk_sqlkeeper.specs.Causes.{cause_of};
+ghost use Rattle.wk_sqlkeeper.specs.SqlKeeper.{connection_of, sql_calls, sql_cause, sql_faults, sql_told, sql_whole};
 
 use crate::adoption::make_tables;
-use crate::answers::{counted, refusal_of};
+use crate::answers::{Calls, refusal_of};
+use crate::cause::{SqlCause, cause_of};
 use crate::changes::make_change;
 use crate::loading::load_tables;
 use sqlite::{Alter, Connection, Error, ErrorCode};
@@ -15,7 +20,7 @@ use wk_tables::{Change, Tables};
 pub struct SqlKeeper<S: Alter> {
     connection: Connection<S>,
     alloc: Global,
-    faults: u64,
+    calls: Calls,
 }
 
 // It is written out, so that a caller does not prove again how a connection is dropped.
@@ -24,29 +29,31 @@ impl<S: Alter + Drop> Drop for SqlKeeper<S> {
         let SqlKeeper {
             connection: _,
             alloc: _,
-            faults: _,
+            calls: _,
         } = self;
     }
 }
 
-/// The keeper of the connection, without a fault, where its tables were made, or else the connection again, and why.
+/// The keeper of the connection, before its first call, where its tables were made, or else the connection again, and why.
 fn kept<S: Alter + Drop>(
     alloc: Global,
     connection: Connection<S>,
     made: Result<(), Error>,
-) -> Result<SqlKeeper<S>, (Connection<S>, KeeperRefusal)>
+) -> Result<SqlKeeper<S>, (Connection<S>, SqlCause)>
     ensures adopted { IfOk result (λ keeper. IsOk made × (connection_of keeper ≡ connection)) }
     ensures no_faults { IfOk result (λ keeper. sql_faults keeper ≡ 0) }
+    ensures no_calls { IfOk result (λ keeper. sql_calls keeper ≡ Some 0) }
+    ensures no_cause { IfOk result (λ keeper. sql_cause keeper ≡ None) }
     ensures handed_back { IfErr result (λ e. IsErr made × (e.0 ≡ connection)) }
-    ensures memory { IfErr result (λ e. (e.1 ≡ KeeperRefusal.Memory) ↔ (made ≡ Err (Error.SqliteFailure ErrorCode.OutOfMemory))) }
+    ensures cause { IfErr result (λ e. IfErr made (λ error. e.1 ≡ cause_of error)) }
 {
     match made {
         Ok(()) => Ok(SqlKeeper {
             connection,
             alloc,
-            faults: 0,
+            calls: Calls::new(),
         }),
-        Err(error) => Err((connection, refusal_of(error))),
+        Err(error) => Err((connection, cause_of(error))),
     }
 }
 
@@ -59,10 +66,27 @@ impl<S: Alter + Drop> SqlKeeper<S> {
     /// transaction is open; `Memory` may come. At a refusal the connection is handed back, and the tables are as before.
     pub fn adopt(
         alloc: Global,
-        mut connection: Connection<S>,
+        connection: Connection<S>,
     ) -> Result<SqlKeeper<S>, (Connection<S>, KeeperRefusal)>
         ensures no_faults { IfOk result (λ keeper. sql_faults keeper ≡ 0) }
         ensures in_transaction { connection.in_transaction ≡ true → result ≡ Err (connection, KeeperRefusal.Failed) }
+    {
+        match SqlKeeper::adopt_or_cause(alloc, connection) {
+            Ok(keeper) => Ok(keeper),
+            Err((connection, cause)) => Err((connection, refusal_of(cause))),
+        }
+    }
+
+    /// As `adopt`, and a refusal tells its cause: `OtherTables` where the database has other tables, or these in another
+    /// shape, `Statement` where a transaction is open, another where the database refuses, or memory is wanting.
+    pub fn adopt_or_cause(
+        alloc: Global,
+        mut connection: Connection<S>,
+    ) -> Result<SqlKeeper<S>, (Connection<S>, SqlCause)>
+        ensures no_faults { IfOk result (λ keeper. sql_faults keeper ≡ 0) }
+        ensures no_calls { IfOk result (λ keeper. sql_calls keeper ≡ Some 0) }
+        ensures no_cause { IfOk result (λ keeper. sql_cause keeper ≡ None) }
+        ensures in_transaction { connection.in_transaction ≡ true → result ≡ Err (connection, SqlCause.Statement) }
     {
         let made = make_tables(&mut connection);
         kept(alloc, connection, made)
@@ -77,7 +101,7 @@ impl<S: Alter> SqlKeeper<S> {
         let SqlKeeper {
             connection,
             alloc: _,
-            faults: _,
+            calls: _,
         } = self;
         connection
     }
@@ -86,27 +110,73 @@ impl<S: Alter> SqlKeeper<S> {
     pub fn faults(&self) -> u64
         ensures { result ≡ sql_faults self.now }
     {
-        self.faults
+        self.calls.faults()
+    }
+
+    /// Why the last call was refused, and `None` where it wasn't.
+    pub fn cause(&self) -> Option<SqlCause>
+        ensures { result ≡ sql_cause self.now }
+    {
+        self.calls.cause()
     }
 }
 
 impl<S: Alter + Drop> Keeper for SqlKeeper<S> {
-    ghost told = { λ _. None };
+    ghost told = { sql_told };
 
-    ghost faults = { λ k. k.faults };
+    ghost faults = { sql_faults };
 
-    ghost is_whole = { λ _. false };
+    ghost is_whole = { sql_whole };
 
-    /// The tables, each read by one query. `Failed` also comes where a value doesn't fit the field of its row.
-    fn load(&mut self) -> Result<Tables, KeeperRefusal> {
-        let answer = load_tables(self.alloc, &mut self.connection);
-        counted(&mut self.faults, answer)
+    ghost calls = { sql_calls };
+
+    /// The tables, each read by one query. `Failed` also comes where a value doesn't fit the field of its row; `cause`
+    /// tells why.
+    fn load(&mut self) -> Result<Tables, KeeperRefusal>
+        ensures given { IfOk result (λ tables. IfSome (sql_told self.old) (λ kept. tables.tables ≡ kept)) }
+        ensures tables { sql_told self.new ≡ sql_told self.old }
+        ensures stays_whole { sql_whole self.new ≡ sql_whole self.old }
+        ensures never_falls { sql_faults self.old ≤ sql_faults self.new }
+        ensures whole { sql_whole self.old ≡ true → sql_faults self.new ≡ sql_faults self.old }
+        ensures no_fault { OnOk result (sql_faults self.new ≡ sql_faults self.old) }
+        ensures cause { result ≡ Err KeeperRefusal.Failed → Rose (sql_faults self.old) (sql_faults self.new) }
+        ensures one_call { OnOk result (CountsOne (sql_calls self.old) (sql_calls self.new)) }
+        ensures failed_call { result ≡ Err KeeperRefusal.Failed → CountsOne (sql_calls self.old) (sql_calls self.new) }
+        ensures no_call { result ≡ Err KeeperRefusal.Memory → sql_calls self.new ≡ sql_calls self.old }
+
+        ensures no_cause { OnOk result (sql_cause self.new ≡ None) }
+        ensures why { IsErr result → IsSome (sql_cause self.new) }
+        ensures memory { (result ≡ Err KeeperRefusal.Memory) ↔ (sql_cause self.new ≡ Some SqlCause.Memory) }
+    {
+        let made = self.calls.made();
+        let permit = self.calls.permit();
+        let answer = load_tables(self.alloc, &mut self.connection, permit);
+        self.calls.answered(made, answer)
     }
 
     /// Makes the change in one transaction, which is on the disk before the answer is given. `Failed` also comes where a
-    /// number of a row is 2^63 or more, but for moments.
-    fn apply(&mut self, change: &Change) -> Result<(), KeeperRefusal> {
-        let answer = make_change(self.alloc, &mut self.connection, change);
-        counted(&mut self.faults, answer)
+    /// number of a row is 2^63 or more, but for moments; `cause` tells why.
+    fn apply(&mut self, change: &Change) -> Result<(), KeeperRefusal>
+        requires { IfSome (sql_told self.old) (λ kept. fits kept change.now ≡ true) }
+        ensures made { OnOk result (IfSome (sql_told self.old) (λ kept. sql_told self.new ≡ Some (applied kept change.now))) }
+        ensures refused { OnErr result (sql_told self.new ≡ sql_told self.old) }
+        ensures tells { is_some (sql_told self.new) ≡ is_some (sql_told self.old) }
+        ensures stays_whole { sql_whole self.new ≡ sql_whole self.old }
+        ensures never_falls { sql_faults self.old ≤ sql_faults self.new }
+        ensures whole { sql_whole self.old ≡ true → sql_faults self.new ≡ sql_faults self.old }
+        ensures no_fault { OnOk result (sql_faults self.new ≡ sql_faults self.old) }
+        ensures cause { result ≡ Err KeeperRefusal.Failed → Rose (sql_faults self.old) (sql_faults self.new) }
+        ensures one_call { OnOk result (CountsOne (sql_calls self.old) (sql_calls self.new)) }
+        ensures failed_call { result ≡ Err KeeperRefusal.Failed → CountsOne (sql_calls self.old) (sql_calls self.new) }
+        ensures no_call { result ≡ Err KeeperRefusal.Memory → sql_calls self.new ≡ sql_calls self.old }
+
+        ensures no_cause { OnOk result (sql_cause self.new ≡ None) }
+        ensures why { IsErr result → IsSome (sql_cause self.new) }
+        ensures memory { (result ≡ Err KeeperRefusal.Memory) ↔ (sql_cause self.new ≡ Some SqlCause.Memory) }
+    {
+        let made = self.calls.made();
+        let permit = self.calls.permit();
+        let answer = make_change(self.alloc, &mut self.connection, change, permit);
+        self.calls.answered(made, answer)
     }
 }

@@ -6,6 +6,7 @@
 
 mod adoption;
 mod answers;
+mod cause;
 mod changes;
 mod columns;
 mod keeper;
@@ -16,4 +17,5 @@ mod order;
 mod rows;
 mod texts;
 
+pub use cause::{SqlCause, cause_of};
 pub use keeper::SqlKeeper;

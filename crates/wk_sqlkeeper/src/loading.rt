@@ -1,5 +1,12 @@
 //! The tables of a wiki out of the database, one query a table.
-use crate::answers::no_memory;
+ghost use Rattle.std.specs.Prelude.{◌≡◌, [], IfOk};
+ghost use Rattle.sqlite.specs.State.{HasCleanDisk};
+ghost use Rattle.sqlite.specs.Held.{state};
+ghost use Rattle.sqlite.specs.Given.{IsPlain};
+ghost use Rattle.sqlite.specs.Listing.{understood};
+ghost use Rattle.wk_sqlkeeper.specs.Reading.{ReadsAll};
+
+use crate::answers::{Permit, no_memory};
 use crate::columns::text_at;
 use crate::order::{sort_links, sort_members};
 use crate::rows::FromColumns;
@@ -11,12 +18,15 @@ use wk_tables::{
     CategoryRow, JobRow, LinkRow, PageRow, RedirectRow, RevisionRow, TableRows, Tables,
 };
 
-/// The rows that the query gives, in its order.
+/// All rows that the query gives, in its order.
 fn read_all<S: Alter, R: FromColumns>(
     alloc: Global,
     connection: &mut Connection<S>,
     query: &str,
-) -> Result<Vec<R>, Error> {
+) -> Result<Vec<R>, Error>
+    ensures all { IsPlain (understood connection.old.schema query.now) → HasCleanDisk (state S.Store connection.new)
+        → IfOk result (λ rows. ReadsAll R.FromColumns.stands_as query.now (state S.Store connection.old) (state S.Store connection.new) rows.items) }
+{
     let mut read = Vec::new(alloc);
     let mut rows = connection.query(query, &[])?;
     'rows: for _ in 0..u64::MAX {
@@ -143,6 +153,7 @@ fn read_version<S: Alter>(alloc: Global, connection: &mut Connection<S>) -> Resu
 pub fn load_tables<S: Alter>(
     alloc: Global,
     connection: &mut Connection<S>,
+    _: Permit,
 ) -> Result<Tables, Error> {
     let rows = TableRows {
         pages: read_pages(alloc, connection)?,

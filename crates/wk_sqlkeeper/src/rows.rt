@@ -1,6 +1,7 @@
 //! The rows of a query as the rows of a table.
-ghost use Rattle.std.specs.Prelude.{List, IfOk};
+ghost use Rattle.std.specs.Prelude.{List, IfErr, IfOk};
 ghost use Rattle.sqlite_value.specs.declared.value.Value.{Value};
+ghost use Rattle.wk_sqlkeeper.specs.Reading.{IsJobRow, IsLinkRow, IsMemberRow, IsPageRow, IsRedirectRow, IsRevisionRow, OnlyUnless};
 ghost use Rattle.wk_sqlkeeper.specs.Stored.{IsPage, IsRevision, IsLink, IsMember, IsRedirect, IsJob};
 
 use crate::columns::{flag_at, moment_at, namespace_at, number_at, text_at};
@@ -13,13 +14,19 @@ pub trait FromColumns: Drop {
     /// The columns are those of the row.
     ghost stands_as: { List Value → Self → Type 0 };
 
+    /// Each column fits its field.
+    ghost is_row: { List Value → Type 0 };
+
     /// The row that has these columns, or the error of the first one that doesn't fit its field.
     fn from_columns(alloc: Global, row: &Row) -> Result<Self, Error>
-        ensures { IfOk result (stands_as row.now) };
+        ensures read { IfOk result (stands_as row.now) }
+        ensures refused { IfErr result (OnlyUnless (is_row row.now)) };
 }
 
 impl FromColumns for PageRow {
     ghost stands_as = { IsPage };
+
+    ghost is_row = { IsPageRow };
 
     fn from_columns(alloc: Global, row: &Row) -> Result<PageRow, Error> {
         Ok(PageRow {
@@ -34,6 +41,8 @@ impl FromColumns for PageRow {
 
 impl FromColumns for RevisionRow {
     ghost stands_as = { IsRevision };
+
+    ghost is_row = { IsRevisionRow };
 
     fn from_columns(alloc: Global, row: &Row) -> Result<RevisionRow, Error> {
         Ok(RevisionRow {
@@ -51,6 +60,8 @@ impl FromColumns for RevisionRow {
 impl FromColumns for LinkRow {
     ghost stands_as = { IsLink };
 
+    ghost is_row = { IsLinkRow };
+
     fn from_columns(alloc: Global, row: &Row) -> Result<LinkRow, Error> {
         Ok(LinkRow {
             from: number_at(row, 0)?,
@@ -63,6 +74,8 @@ impl FromColumns for LinkRow {
 
 impl FromColumns for CategoryRow {
     ghost stands_as = { IsMember };
+
+    ghost is_row = { IsMemberRow };
 
     fn from_columns(alloc: Global, row: &Row) -> Result<CategoryRow, Error> {
         Ok(CategoryRow {
@@ -77,6 +90,8 @@ impl FromColumns for CategoryRow {
 impl FromColumns for RedirectRow {
     ghost stands_as = { IsRedirect };
 
+    ghost is_row = { IsRedirectRow };
+
     fn from_columns(alloc: Global, row: &Row) -> Result<RedirectRow, Error> {
         Ok(RedirectRow {
             rd_from: number_at(row, 0)?,
@@ -88,6 +103,8 @@ impl FromColumns for RedirectRow {
 
 impl FromColumns for JobRow {
     ghost stands_as = { IsJob };
+
+    ghost is_row = { IsJobRow };
 
     fn from_columns(alloc: Global, row: &Row) -> Result<JobRow, Error> {
         Ok(JobRow {

@@ -1,3 +1,5 @@
+pub mod Causes
 pub mod Opening
 pub mod Stores
 pub mod Vault
+pub mod Voices

@@ -1,8 +1,10 @@
 //! Why a file isn't opened as a store.
 ghost use Rattle.std.specs.Prelude.{◌≡◌, ◌↔◌};
+ghost use Rattle.wk_vault.specs.Causes.{adopt_refusal, open_refusal};
 
 use sqlite::{Error as SqlError, ErrorCode};
 use thiserror::Error;
+use wk_sqlkeeper::SqlCause;
 
 /// Why a file isn't opened as a store.
 #[derive(Clone, Copy, Debug, PartialEq, Eq, Error)]
@@ -50,6 +52,7 @@ pub enum Refusal {
 pub fn refusal_of(error: SqlError) -> Refusal
     ensures memory { (result ≡ Refusal.Memory) ↔ (error ≡ SqlError.SqliteFailure ErrorCode.OutOfMemory) }
     ensures in_use { (result ≡ Refusal.Because StoreCause.InUse) ↔ (error ≡ SqlError.SqliteFailure ErrorCode.DatabaseBusy) }
+    ensures which { result ≡ open_refusal error }
 {
     match error {
         SqlError::SqliteFailure(ErrorCode::OutOfMemory) => Refusal::Memory,
@@ -60,5 +63,21 @@ pub fn refusal_of(error: SqlError) -> Refusal
         }
         SqlError::SqliteFailure(ErrorCode::DiskFull) => Refusal::Because(StoreCause::DiskFull),
         _ => Refusal::Because(StoreCause::NoDatabase),
+    }
+}
+
+/// What it means that a database isn't taken over for this cause.
+pub fn refusal_of_cause(cause: SqlCause) -> Refusal
+    ensures { result ≡ adopt_refusal cause }
+{
+    match cause {
+        SqlCause::Memory => Refusal::Memory,
+        SqlCause::DiskFull => Refusal::Because(StoreCause::DiskFull),
+        SqlCause::DiskFailed | SqlCause::Closed => Refusal::Because(StoreCause::DiskFailed),
+        SqlCause::Damaged => Refusal::Because(StoreCause::NoDatabase),
+        SqlCause::Locked => Refusal::Because(StoreCause::InUse),
+        SqlCause::OtherTables | SqlCause::Value | SqlCause::NoRow | SqlCause::Statement => {
+            Refusal::Because(StoreCause::OtherTables)
+        }
     }
 }

@@ -81,7 +81,8 @@ fn answered<T: Drop>(
     ensures never_falls { faults.old ≤ faults.new }
     ensures cause { result ≡ Err OpenRefusal.Failed → Rose faults.old faults.new }
     ensures why { (result ≡ Err OpenRefusal.Failed) ↔ IsSome cause.new }
-    ensures because { IfSome cause.new (λ why. opened ≡ Err (Refusal.Because why)) }
+    ensures because { (why : _) → (cause.new ≡ Some why) ↔ (opened ≡ Err (Refusal.Because why)) }
+    ensures no_memory { (result ≡ Err OpenRefusal.Memory) ↔ (opened ≡ Err Refusal.Memory) }
 {
     *cause = None;
     match opened {

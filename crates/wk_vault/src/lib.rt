@@ -11,4 +11,5 @@ mod verdict;
 
 pub use cause::StoreCause;
 pub use file_vault::FileVault;
-pub use stored::Stored;
+pub use stored::{Closed, Stored, close_opened};
+pub use wk_sqlkeeper::SqlCause;

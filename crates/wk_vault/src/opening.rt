@@ -1,21 +1,24 @@
 //! A file that is opened as a store.
 ghost use Rattle.std.specs.Prelude.{◌≡◌, IfOk, true};
+ghost use Rattle.std.specs.IoError.{error_kind};
 ghost use Rattle.wk_sqlkeeper.specs.SqlKeeper.{sql_faults};
+ghost use Rattle.wk_vault.specs.Causes.{look_refusal};
 ghost use Rattle.wk_vault.specs.Opening.{may_open};
 
-use crate::cause::{Refusal, StoreCause, refusal_of};
+use crate::cause::{Refusal, StoreCause, refusal_of, refusal_of_cause};
 use crate::start::{FileKind, found_at};
 use crate::tells::{tell_lost, tell_new};
 use crate::verdict::judged;
 use sqlite::{Alter, Connection, File, FileStore};
 use std::alloc::Global;
 use std::io::{self, ErrorKind};
-use wk_keeper::KeeperRefusal;
 use wk_sqlkeeper::SqlKeeper;
 use wk_wal::LogKind;
 
 /// What it means that a file or its log can't be looked at.
-fn refusal_of_look(error: io::Error) -> Refusal {
+fn refusal_of_look(error: io::Error) -> Refusal
+    ensures { result ≡ look_refusal (error_kind error) }
+{
     match error.kind() {
         ErrorKind::OutOfMemory => Refusal::Memory,
         _ => Refusal::Because(StoreCause::CannotOpen),
@@ -43,10 +46,9 @@ fn adopted<S: Alter + Drop>(
 ) -> Result<SqlKeeper<S>, Refusal>
     ensures { IfOk result (λ keeper. sql_faults keeper ≡ 0) }
 {
-    match SqlKeeper::adopt(alloc, connection) {
+    match SqlKeeper::adopt_or_cause(alloc, connection) {
         Ok(keeper) => Ok(keeper),
-        Err((_, KeeperRefusal::Failed)) => Err(Refusal::Because(StoreCause::OtherTables)),
-        Err((_, KeeperRefusal::Memory)) => Err(Refusal::Memory),
+        Err((_, cause)) => Err(refusal_of_cause(cause)),
     }
 }
 
