@@ -1,0 +1,7 @@
+use Rattle.std.proofs.Common.{◌≡◌, rules, w64, to_z, of_z}
+use Rattle.wk_sqltables.proofs.links.run_drop.Goals as goal
+
+pub returns-clause-runs : goal.returns-clause-runs
+returns-clause-runs g c clean inside =
+    let page : to_z w64 (of_z w64 c.args.page) ≡ c.args.page = search rules in
+    rw page at (c.execute.ensures.runs clean inside)

@@ -1,0 +1,31 @@
+use Rattle.std.proofs.Common.{arith}
+use Rattle.sqlite.specs.Held.{state}
+use Rattle.sqlite.specs.State.{HasCleanDisk}
+use Rattle.wk_sqltables.proofs.Inside.{keeps_after, on_ok, survives_both}
+use Rattle.wk_sqltables.proofs.LinkSets.{sets_links}
+use Rattle.wk_sqltables.proofs.links.set_links.Goals as goal
+
+pub returns-clause-made : goal.returns-clause-made
+returns-clause-made g c clean =
+    let old = state g.S.Store c.args.transaction.now.conn.now in
+    let mid = state g.S.Store c.drop_links.new.transaction.conn.now in
+    let new = state g.S.Store c.add_links.new.transaction.conn.now in
+    let clean_mid : HasCleanDisk mid = omega (arith, c.add_links.ensures.survives.clean, clean) in
+    on_ok c.add_links.result (c.add_links.ensures.made clean) (λ adds. sets_links c.args.table old mid new c.args.from.page c.args.from.namespace c.args.titles.now (c.in_ok-drop_links.ensures.made clean_mid) adds)
+
+pub returns-clause-inside : goal.returns-clause-inside
+returns-clause-inside g c clean =
+    let mid = state g.S.Store c.drop_links.new.transaction.conn.now in
+    let clean_mid : HasCleanDisk mid = omega (arith, c.add_links.ensures.survives.clean, clean) in
+    on_ok c.add_links.result (c.add_links.ensures.inside clean) (λ later inside. later (c.in_ok-drop_links.ensures.inside clean_mid inside))
+
+pub returns-clause-kept : goal.returns-clause-kept
+returns-clause-kept g c clean inside =
+    let old = state g.S.Store c.args.transaction.now.conn.now in
+    let mid = state g.S.Store c.drop_links.new.transaction.conn.now in
+    let new = state g.S.Store c.add_links.new.transaction.conn.now in
+    let clean_mid : HasCleanDisk mid = omega (arith, c.add_links.ensures.survives.clean, clean) in
+    keeps_after old mid new (c.drop_links.ensures.kept clean_mid inside) (c.add_links.ensures.kept clean (c.in_ok-drop_links.ensures.inside clean_mid inside))
+
+pub returns-clause-survives : goal.returns-clause-survives
+returns-clause-survives g c = survives_both _ _ _ c.drop_links.ensures.survives c.add_links.ensures.survives

@@ -1,0 +1,8 @@
+use Rattle.std.proofs.Common.{◌≡◌, rules, w64, to_z, of_z}
+use Rattle.wk_sqltables.proofs.redirects.run_add.Goals as goal
+
+pub returns-clause-runs : goal.returns-clause-runs
+returns-clause-runs g c clean inside =
+    let page : to_z w64 (of_z w64 c.args.page) ≡ c.args.page = search rules in
+    let namespace : to_z w64 (of_z w64 c.args.namespace) ≡ c.args.namespace = search rules in
+    rw (c.as_bytes.ensures.value, page, namespace) at (c.execute.ensures.runs clean inside)
