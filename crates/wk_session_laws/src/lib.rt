@@ -51,11 +51,16 @@ pub fn entries_are_of_messages_and_steps<K>()
         → IsStep (MayFail is_whole faults start) old new refresh made → AreEntries new false made }
 {}
 
-/// A page whose least point the pass has seen is parsed in the state at the point that is shown, no older than what the pass
-/// had seen, or memory was wanting: so a page that exists there is answered.
+/// A page is parsed in the state at the point that is shown, no older than what the pass had seen, or memory was wanting, where
+/// the pass had seen the least point, and wherever the point that is shown isn't below it: so a page that exists there is
+/// answered.
 pub fn a_parse_is_answered<K>()
-    ensures { (is_whole : K → Bool) (faults : K → ℕ) (start : Start) (old new : PassSeen) (least : ℕ) (page : List ℕ) (moments : List ℕ) (reply : ApiReply) (made : List ℕ)
+    ensures seen { (is_whole : K → Bool) (faults : K → ℕ) (start : Start) (old new : PassSeen) (least : ℕ) (page : List ℕ) (moments : List ℕ) (reply : ApiReply) (made : List ℕ)
         → least ≤ length old.journal
+        → IsAnswered (MayFail is_whole faults start) old new (valid (record { least = least; ask = parse page })) moments reply made
+        → IsParsedOrStarved new (length old.journal) page reply }
+    ensures reached { (is_whole : K → Bool) (faults : K → ℕ) (start : Start) (old new : PassSeen) (least : ℕ) (page : List ℕ) (moments : List ℕ) (reply : ApiReply) (made : List ℕ)
+        → least ≤ reply.point
         → IsAnswered (MayFail is_whole faults start) old new (valid (record { least = least; ask = parse page })) moments reply made
         → IsParsedOrStarved new (length old.journal) page reply }
 {}

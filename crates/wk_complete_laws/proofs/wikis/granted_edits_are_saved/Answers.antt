@@ -1,0 +1,29 @@
+use Rattle.wk_revs.specs.Edit.{edit_asked}
+use Rattle.wk_core.specs.Seen.{verdict_now}
+use Rattle.wk_state_rules.specs.Verdicts.{event_of}
+use Rattle.wk_complete_laws.proofs.Completing.{no-rise, save-answer, save-event, save-nothing, start-kept, still-whole}
+use Rattle.wk_complete_laws.proofs.wikis.granted_edits_are_saved.Goals as goal
+
+pub returns-clause-answered : goal.returns-clause-answered
+returns-clause-answered g c = λ memory.
+    save-answer c.args.wiki.now.state.history (verdict_now c.args.wiki.now (edit_asked c.args.edit.now)) c.save.result c.save.ensures.saved c.save.ensures.refusal
+    (λ is. no-rise g.K.Keeper.told g.K.Keeper.faults c.args.wiki.now c.save.new.self c.requires.whole c.save.ensures.keeper (c.save.ensures.fault is)) memory
+
+pub returns-clause-event : goal.returns-clause-event
+returns-clause-event g c = λ memory.
+    save-event g.K.Keeper.told c.args.wiki.now c.save.new.self c.args.wiki.now.state.history (verdict_now c.args.wiki.now (edit_asked c.args.edit.now)) c.args.now c.save.result
+    (returns-clause-answered g c memory) c.save.ensures.event c.save.ensures.refused
+
+pub returns-clause-memory : goal.returns-clause-memory
+returns-clause-memory g c = λ is. save-nothing c.save.result _ c.save.ensures.refused is
+
+start : goal.returns-clause-start
+start g c =
+    start-kept g.K.Keeper.told g.K.Keeper.faults c.args.wiki.now c.save.new.self (event_of (verdict_now c.args.wiki.now (edit_asked c.args.edit.now)) c.args.now) c.save.result
+    c.save.ensures.event c.save.ensures.refused
+
+pub returns-clause-start : goal.returns-clause-start
+returns-clause-start = start
+
+pub returns-clause-whole : goal.returns-clause-whole
+returns-clause-whole g c = still-whole g.K.Keeper.told g.K.Keeper.faults c.args.wiki.now c.save.new.self (start g c) c.requires.whole c.save.ensures.keeper
