@@ -9,9 +9,10 @@ use crate::numerals::same_value;
 use crate::refusal::{Refusal, refusal_text};
 use crate::titles::{kept_value, norm};
 use crate::trees::tree_value;
+use crate::values::{Plain, object};
 use crate::wikis::api_value;
 use crate::wire::{http_value, params_value};
-use serde_json::{Value, json};
+use serde_json::Value;
 use std::alloc::Global;
 use wk_bytes::Line;
 use wk_memory::Memory;
@@ -45,7 +46,7 @@ fn value_of(alloc: Global, answer: Result<Value, Refusal>) -> Result<Value, Memo
     match answer {
         Ok(value) => Ok(value),
         Err(Refusal::Memory) => Err(Memory),
-        Err(refusal) => Ok(json!(in alloc; {"error": refusal_text(refusal)})?),
+        Err(refusal) => object(alloc, &[("error", Plain::Text(refusal_text(refusal)))]),
     }
 }
 

@@ -2,63 +2,76 @@
 
 use crate::members::string_of;
 use crate::refusal::Refusal;
+use crate::values::{
+    Plain, list, members_of, number_or_null, object, object_with, put, text_or_null, value_of,
+};
 use crate::wire::bytes_of;
-use serde_json::{Value, json};
+use serde_json::{Map, Value};
 use std::alloc::Global;
 use wk_form::Params;
 use wk_memory::Memory;
 use wk_request::{Ask, Listing, Request, RequestRefusal};
 use wk_revs::Edit;
 
-/// The number, or `null` where there is none.
-fn number_value(alloc: Global, number: Option<u64>) -> Result<Value, Memory> {
-    match number {
-        Some(number) => Ok(json!(in alloc; number)?),
-        None => Ok(Value::Null),
-    }
-}
-
-/// The text, or `null` where there is none.
-fn text_value(alloc: Global, text: &Option<String>) -> Result<Value, Memory> {
-    match text {
-        Some(text) => Ok(json!(in alloc; text)?),
-        None => Ok(Value::Null),
-    }
-}
-
 fn edit_value(alloc: Global, edit: &Edit) -> Result<Value, Memory> {
-    let base = number_value(alloc, edit.base)?;
-    let body = text_value(alloc, &edit.body)?;
-    Ok(json!(in alloc; {"edit": {
-        "base": base,
-        "body": body,
-        "create_only": edit.create_only,
-        "no_create": edit.no_create,
-        "title": &edit.title
-    }})?)
+    let asked = object(
+        alloc,
+        &[
+            ("base", number_or_null(edit.base)),
+            ("body", text_or_null(&edit.body)),
+            ("create_only", Plain::Flag(edit.create_only)),
+            ("no_create", Plain::Flag(edit.no_create)),
+            ("title", Plain::Text(&edit.title)),
+        ],
+    )?;
+    object_with(alloc, "edit", asked)
 }
 
 fn delete_value(alloc: Global, title: &str, base: Option<u64>) -> Result<Value, Memory> {
-    let base = number_value(alloc, base)?;
-    Ok(json!(in alloc; {"delete": {"base": base, "title": title}})?)
+    let asked = object(
+        alloc,
+        &[
+            ("base", number_or_null(base)),
+            ("title", Plain::Text(title)),
+        ],
+    )?;
+    object_with(alloc, "delete", asked)
+}
+
+/// From where on, how many, and of which title.
+fn listing_members(alloc: Global, listing: &Listing) -> Result<Map<String, Value>, Memory> {
+    members_of(
+        alloc,
+        &[
+            ("from", number_or_null(listing.from)),
+            ("limit", Plain::Number(listing.limit as u64)),
+            ("title", Plain::Text(&listing.title)),
+        ],
+    )
 }
 
 fn listing_value(alloc: Global, word: &str, listing: &Listing) -> Result<Value, Memory> {
-    let from = number_value(alloc, listing.from)?;
-    let limit = listing.limit as u64;
-    let entries = json!(in alloc; {"from": from, "limit": limit, "title": &listing.title})?;
-    Ok(json!(in alloc; {word: entries})?)
+    let asked = listing_members(alloc, listing)?;
+    object_with(alloc, word, Value::Object(asked))
 }
 
 fn revisions_value(alloc: Global, listing: &Listing, content: bool) -> Result<Value, Memory> {
-    let from = number_value(alloc, listing.from)?;
-    let limit = listing.limit as u64;
-    Ok(json!(in alloc; {"revisions": {
-        "content": content,
-        "from": from,
-        "limit": limit,
-        "title": &listing.title
-    }})?)
+    let mut asked = listing_members(alloc, listing)?;
+    put(alloc, &mut asked, "content", Value::Bool(content))?;
+    object_with(alloc, "revisions", Value::Object(asked))
+}
+
+fn page_value(alloc: Global, page: &str) -> Result<Value, Memory> {
+    let asked = object(alloc, &[("page", Plain::Text(page))])?;
+    object_with(alloc, "parse", asked)
+}
+
+fn text_value(alloc: Global, text: &str, title: &str) -> Result<Value, Memory> {
+    let asked = object(
+        alloc,
+        &[("text", Plain::Text(text)), ("title", Plain::Text(title))],
+    )?;
+    object_with(alloc, "expand", asked)
 }
 
 /// What is asked, under its word.
@@ -66,18 +79,32 @@ fn ask_value(alloc: Global, ask: &Ask) -> Result<Value, Memory> {
     match ask {
         Ask::Edit(edit) => edit_value(alloc, edit),
         Ask::Delete { title, base } => delete_value(alloc, title, *base),
-        Ask::Parse { page } => Ok(json!(in alloc; {"parse": {"page": page}})?),
-        Ask::Expand { text, title } => {
-            Ok(json!(in alloc; {"expand": {"text": text, "title": title}})?)
-        }
+        Ask::Parse { page } => page_value(alloc, page),
+        Ask::Expand { text, title } => text_value(alloc, text, title),
         Ask::Backlinks(listing) => listing_value(alloc, "backlinks", listing),
         Ask::Embedded(listing) => listing_value(alloc, "embedded", listing),
         Ask::Members(listing) => listing_value(alloc, "members", listing),
         Ask::Changes(listing) => listing_value(alloc, "changes", listing),
         Ask::Revisions(listing, content) => revisions_value(alloc, listing, *content),
-        Ask::Tokens => Ok(json!(in alloc; "tokens")?),
-        Ask::SiteInfo => Ok(json!(in alloc; "siteinfo")?),
+        Ask::Tokens => value_of(alloc, Plain::Text("tokens")),
+        Ask::SiteInfo => value_of(alloc, Plain::Text("siteinfo")),
     }
+}
+
+/// What is asked, and the least point.
+fn asked_value(alloc: Global, asked: &Request) -> Result<Value, Memory> {
+    let mut members = members_of(alloc, &[("least", Plain::Number(asked.least))])?;
+    put(alloc, &mut members, "ask", ask_value(alloc, &asked.ask)?)?;
+    Ok(Value::Object(members))
+}
+
+/// Why it is refused: the number of the rule, and the parameter.
+fn refused_value(alloc: Global, number: u8, parameter: &str) -> Result<Value, Memory> {
+    let why = list(
+        alloc,
+        &[Plain::Number(u64::from(number)), Plain::Text(parameter)],
+    )?;
+    object_with(alloc, "refused", why)
 }
 
 /// The parameters of the members `query` and `body`.
@@ -95,12 +122,9 @@ pub fn request_value(alloc: Global, request: &Value) -> Result<Value, Refusal> {
         .and_then(Value::as_bool)
         .unwrap_or(false);
     match Request::read(alloc, &params, posted) {
-        Ok(asked) => {
-            let ask = ask_value(alloc, &asked.ask)?;
-            Ok(json!(in alloc; {"ask": ask, "least": asked.least})?)
-        }
+        Ok(asked) => Ok(asked_value(alloc, &asked)?),
         Err(RequestRefusal::Refused { number, parameter }) => {
-            Ok(json!(in alloc; {"refused": [number, parameter]})?)
+            Ok(refused_value(alloc, number, parameter)?)
         }
         Err(RequestRefusal::Memory) => Err(Refusal::Memory),
     }

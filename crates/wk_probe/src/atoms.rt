@@ -2,7 +2,8 @@
 
 use crate::members::{add, mode_of, text_of};
 use crate::refusal::Refusal;
-use serde_json::{Value, json};
+use crate::values::{Plain, list};
+use serde_json::Value;
 use std::alloc::Global;
 use wk_lex::{Atom, AtomKind, lex, select};
 use wk_memory::Memory;
@@ -44,7 +45,15 @@ fn kind_word(kind: AtomKind) -> &'static str {
 
 /// An atom, or neighbouring single bytes, as an entry of the answer.
 fn atom_value(alloc: Global, kind: AtomKind, start: u32, len: u64) -> Result<Value, Memory> {
-    Ok(json!(in alloc; [kind_word(kind), start, len])?)
+    let start = u64::from(start);
+    list(
+        alloc,
+        &[
+            Plain::Text(kind_word(kind)),
+            Plain::Number(start),
+            Plain::Number(len),
+        ],
+    )
 }
 
 /// Adds the single bytes that wait to be joined, from a place and so many, if there are any.

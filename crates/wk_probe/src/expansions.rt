@@ -10,7 +10,8 @@ use crate::refusal::Refusal;
 use crate::rows::rows_value;
 use crate::seen::{keep, kind_word, seen_of};
 use crate::titles::{shown_text, title_of};
-use serde_json::{Value, json};
+use crate::values::{Plain, list, members_of, object, object_with, put, value_of};
+use serde_json::{Map, Value};
 use std::alloc::Global;
 use wk_expand::{Counts, Draft, Read, Root, Seen, Step, Trees, draft, resumed};
 use wk_memory::Memory;
@@ -114,21 +115,34 @@ fn drafted(
 
 /// What the expansion cost.
 fn counts_value(alloc: Global, counts: Counts) -> Result<Value, Memory> {
-    Ok(json!(in alloc; {
-        "argument": counts.argument,
-        "exists": counts.exists,
-        "include": counts.include,
-        "nodes": counts.nodes
-    })?)
+    object(
+        alloc,
+        &[
+            ("argument", Plain::Number(counts.argument)),
+            ("exists", Plain::Number(counts.exists)),
+            ("include", Plain::Number(counts.include)),
+            ("nodes", Plain::Number(counts.nodes)),
+        ],
+    )
+}
+
+/// A read: its title, its kind and its mark.
+fn read_value(alloc: Global, read: &Read) -> Result<Value, Memory> {
+    let mut parts = Vec::new(alloc);
+    add(&mut parts, Value::String(shown_text(alloc, &read.title)?))?;
+    add(
+        &mut parts,
+        value_of(alloc, Plain::Text(kind_word(read.kind)))?,
+    )?;
+    add(&mut parts, value_of(alloc, Plain::Number(read.mark))?)?;
+    Ok(Value::Array(parts))
 }
 
 /// What was read: titles, kinds and marks.
 fn reads_value(alloc: Global, reads: &[Read]) -> Result<Value, Memory> {
     let mut entries = Vec::new(alloc);
     for read in reads {
-        let title = shown_text(alloc, &read.title)?;
-        let kind = kind_word(read.kind);
-        add(&mut entries, json!(in alloc; [&title, kind, read.mark])?)?;
+        add(&mut entries, read_value(alloc, read)?)?;
     }
     Ok(Value::Array(entries))
 }
@@ -137,7 +151,10 @@ fn reads_value(alloc: Global, reads: &[Read]) -> Result<Value, Memory> {
 fn runs_value(alloc: Global, out: &Out) -> Result<Value, Memory> {
     let mut entries = Vec::new(alloc);
     for (text, sealed) in out.runs() {
-        add(&mut entries, json!(in alloc; [text, sealed])?)?;
+        add(
+            &mut entries,
+            list(alloc, &[Plain::Text(text), Plain::Flag(sealed)])?,
+        )?;
     }
     Ok(Value::Array(entries))
 }
@@ -150,44 +167,55 @@ fn title_or_null(alloc: Global, title: Option<&Title>) -> Result<Value, Memory> 
     }
 }
 
-/// What is answered of a draft, but for the rows of its page.
-fn draft_members(alloc: Global, draft: &Draft) -> Result<Value, Memory> {
-    let counts = counts_value(alloc, draft.counts())?;
-    let found = links_in(alloc, draft.out())?;
-    let reads = reads_value(alloc, draft.reads())?;
-    let runs = runs_value(alloc, draft.out())?;
-    let turned = title_or_null(alloc, draft.turned())?;
-    Ok(json!(in alloc; {
-        "counts": counts,
-        "found": found,
-        "out": draft.out().text(),
-        "reads": reads,
-        "runs": runs,
-        "turned": turned
-    })?)
+/// Puts what an output has: its runs, and the links in them.
+fn put_out(alloc: Global, members: &mut Map<String, Value>, out: &Out) -> Result<(), Memory> {
+    put(alloc, members, "found", links_in(alloc, out)?)?;
+    put(alloc, members, "runs", runs_value(alloc, out)?)
 }
 
-/// Adds the rows of the draft's page to what is answered of it.
-fn add_rows(alloc: Global, draft: &Draft, value: &mut Value) -> Result<(), Memory>
+/// Puts what a draft read, what that cost, and where its page redirects to.
+fn put_reads(alloc: Global, members: &mut Map<String, Value>, draft: &Draft) -> Result<(), Memory> {
+    put(
+        alloc,
+        members,
+        "counts",
+        counts_value(alloc, draft.counts())?,
+    )?;
+    put(alloc, members, "reads", reads_value(alloc, draft.reads())?)?;
+    put(
+        alloc,
+        members,
+        "turned",
+        title_or_null(alloc, draft.turned())?,
+    )
+}
+
+/// What is answered of a draft, but for the rows of its page.
+fn draft_members(alloc: Global, draft: &Draft) -> Result<Map<String, Value>, Memory> {
+    let mut members = members_of(alloc, &[("out", Plain::Text(draft.out().text()))])?;
+    put_out(alloc, &mut members, draft.out())?;
+    put_reads(alloc, &mut members, draft)?;
+    Ok(members)
+}
+
+/// Puts the rows of the draft's page.
+fn put_rows(alloc: Global, members: &mut Map<String, Value>, draft: &Draft) -> Result<(), Memory>
     requires { draft.now.given ≡ None }
 {
-    let rows = rows_value(alloc, &rows(alloc, draft)?)?;
-    if let Some(members) = value.as_object_mut() {
-        members.insert(String::from_str(alloc, "rows")?, rows)?;
-    }
-    Ok(())
+    let rows = rows(alloc, draft)?;
+    put(alloc, members, "rows", rows_value(alloc, &rows)?)
 }
 
 /// A draft as it is answered.
 fn draft_value(alloc: Global, root: &Root, draft: &Draft) -> Result<Value, Memory>
     requires { draft.now.given ≡ given_text root.now }
 {
-    let mut value = draft_members(alloc, draft)?;
+    let mut members = draft_members(alloc, draft)?;
     match root {
-        Root::Page => add_rows(alloc, draft, &mut value)?,
+        Root::Page => put_rows(alloc, &mut members, draft)?,
         Root::Given(_) => {}
     }
-    Ok(value)
+    Ok(Value::Object(members))
 }
 
 /// What a draft comes to, as it is answered.
@@ -198,8 +226,8 @@ fn step_value(alloc: Global, root: &Root, step: &Step) -> Result<Value, Memory>
         Step::Done(draft) => draft_value(alloc, root, draft),
         Step::Needs(title, kind) => {
             let title = shown_text(alloc, title)?;
-            let kind = kind_word(*kind);
-            Ok(json!(in alloc; {"needs": [&title, kind]})?)
+            let read = list(alloc, &[Plain::Text(&title), Plain::Text(kind_word(*kind))])?;
+            object_with(alloc, "needs", read)
         }
     }
 }
@@ -207,7 +235,7 @@ fn step_value(alloc: Global, root: &Root, step: &Step) -> Result<Value, Memory>
 /// Adds the number of runs to an answer.
 fn add_rounds(alloc: Global, value: &mut Value, runs: u64) -> Result<(), Memory> {
     if let Some(members) = value.as_object_mut() {
-        members.insert(String::from_str(alloc, "rounds")?, json!(in alloc; runs)?)?;
+        put(alloc, members, "rounds", Value::from(runs))?;
     }
     Ok(())
 }

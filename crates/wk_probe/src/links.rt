@@ -3,7 +3,8 @@
 use crate::members::add;
 use crate::refusal::Refusal;
 use crate::titles::shown_text;
-use serde_json::{Value, json};
+use crate::values::{Plain, list};
+use serde_json::Value;
 use std::alloc::Global;
 use wk_links::{Found, What, links};
 use wk_memory::Memory;
@@ -47,18 +48,31 @@ fn output_of(alloc: Global, request: &Value) -> Result<Out, Refusal> {
 
 /// A link as an entry of the answer.
 fn found_value(alloc: Global, found: &Found) -> Result<Value, Memory> {
-    let start = found.start as u64;
-    let end = found.end as u64;
+    let start = Plain::Number(found.start as u64);
+    let end = Plain::Number(found.end as u64);
     match &found.what {
         What::Page(title) => {
             let text = shown_text(alloc, title)?;
-            Ok(json!(in alloc; [start, end, "page", &text])?)
+            list(
+                alloc,
+                &[start, end, Plain::Text("page"), Plain::Text(&text)],
+            )
         }
         What::Member(title, prefix) => {
             let text = shown_text(alloc, title)?;
-            Ok(json!(in alloc; [start, end, "member", &text, prefix.as_str()])?)
+            let prefix = Plain::Text(prefix.as_str());
+            list(
+                alloc,
+                &[
+                    start,
+                    end,
+                    Plain::Text("member"),
+                    Plain::Text(&text),
+                    prefix,
+                ],
+            )
         }
-        What::Nothing => Ok(json!(in alloc; [start, end, "nothing"])?),
+        What::Nothing => list(alloc, &[start, end, Plain::Text("nothing")]),
     }
 }
 

@@ -69,6 +69,7 @@ mod run;
 mod seen;
 mod titles;
 mod trees;
+mod values;
 mod wikis;
 mod wire;
 

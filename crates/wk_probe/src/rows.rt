@@ -2,7 +2,8 @@
 
 use crate::members::add;
 use crate::titles::shown_text;
-use serde_json::{Value, json};
+use crate::values::{Plain, list, put};
+use serde_json::{Map, Value};
 use std::alloc::Global;
 use wk_bytes::Text;
 use wk_memory::Memory;
@@ -23,9 +24,10 @@ fn members_value(alloc: Global, members: &[(Title, Text, Text)]) -> Result<Value
     let mut entries = Vec::new(alloc);
     for (category, sortkey, prefix) in members {
         let category = shown_text(alloc, category)?;
+        let (sortkey, prefix) = (Plain::Text(sortkey.as_str()), Plain::Text(prefix.as_str()));
         add(
             &mut entries,
-            json!(in alloc; [&category, sortkey.as_str(), prefix.as_str()])?,
+            list(alloc, &[Plain::Text(&category), sortkey, prefix])?,
         )?;
     }
     Ok(Value::Array(entries))
@@ -40,18 +42,47 @@ fn redirect_value(alloc: Global, redirect: Option<&Title>) -> Result<Value, Memo
     Ok(Value::Array(entries))
 }
 
+/// Puts the categories, and where the page redirects to.
+fn put_members(
+    alloc: Global,
+    lists: &mut Map<String, Value>,
+    rows: &PageRows,
+) -> Result<(), Memory> {
+    put(
+        alloc,
+        lists,
+        "members",
+        members_value(alloc, &rows.members)?,
+    )?;
+    put(
+        alloc,
+        lists,
+        "redirect",
+        redirect_value(alloc, rows.redirect.as_ref())?,
+    )
+}
+
 /// The rows of a page, list by list.
 pub fn rows_value(alloc: Global, rows: &PageRows) -> Result<Value, Memory> {
-    let exists = titles_value(alloc, &rows.exists)?;
-    let links = titles_value(alloc, &rows.links)?;
-    let members = members_value(alloc, &rows.members)?;
-    let redirect = redirect_value(alloc, rows.redirect.as_ref())?;
-    let templates = titles_value(alloc, &rows.templates)?;
-    Ok(json!(in alloc; {
-        "exists": exists,
-        "links": links,
-        "members": members,
-        "redirect": redirect,
-        "templates": templates
-    })?)
+    let mut lists = Map::new(alloc);
+    put(
+        alloc,
+        &mut lists,
+        "exists",
+        titles_value(alloc, &rows.exists)?,
+    )?;
+    put(
+        alloc,
+        &mut lists,
+        "links",
+        titles_value(alloc, &rows.links)?,
+    )?;
+    put(
+        alloc,
+        &mut lists,
+        "templates",
+        titles_value(alloc, &rows.templates)?,
+    )?;
+    put_members(alloc, &mut lists, rows)?;
+    Ok(Value::Object(lists))
 }

@@ -2,7 +2,8 @@
 
 use crate::members::{number_of, text_of};
 use crate::refusal::Refusal;
-use serde_json::{Value, json};
+use crate::values::{put, put_text};
+use serde_json::{Map, Value};
 use std::alloc::Global;
 use wk_memory::Memory;
 use wk_revs::kept;
@@ -26,9 +27,11 @@ pub fn title_of(alloc: Global, text: &str) -> Result<Option<Title>, Memory> {
 
 /// A title as it is answered.
 fn title_value(alloc: Global, title: &Title) -> Result<Value, Memory> {
-    let text = shown_text(alloc, title)?;
-    let ns = i64::from(title.ns());
-    Ok(json!(in alloc; {"key": title.key(), "ns": ns, "shown": &text})?)
+    let mut members = Map::new(alloc);
+    put_text(alloc, &mut members, "key", title.key())?;
+    put(alloc, &mut members, "ns", Value::from(title.ns()))?;
+    put_text(alloc, &mut members, "shown", &shown_text(alloc, title)?)?;
+    Ok(Value::Object(members))
 }
 
 /// Which title the text names.

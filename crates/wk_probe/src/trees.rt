@@ -5,13 +5,15 @@ ghost use Rattle.wk_probe.specs.Known.{IsKnown};
 
 use crate::members::{add, mode_of, shared_text, text_of};
 use crate::refusal::Refusal;
-use serde_json::{Value, json};
+use crate::values::{Plain, entries_of, list};
+use serde_json::Value;
 use std::alloc::Global;
+use wk_memory::Memory;
 use wk_tree::{Item, ListId, NodeId, Parsed, parse};
 
-/// How many calls deep the lists and nodes of a tree are shown: a tree has at most 100 nodes within each other, and
-/// each takes three.
-const MOST_DEEP: usize = 400;
+/// How many calls deep the lists and nodes of a tree are shown: a tree has at most 100 nodes within each other, each takes
+/// at most four, and the innermost list and its item take two.
+const MOST_DEEP: usize = 402;
 
 /// A stretch of the text that is read.
 fn stretch(parsed: &Parsed, start: u32, len: u32) -> Result<&str, Refusal> {
@@ -26,6 +28,12 @@ fn stretch(parsed: &Parsed, start: u32, len: u32) -> Result<&str, Refusal> {
         },
         None => Err(Refusal::NotUtf8),
     }
+}
+
+/// Adds the two numbers of a span: its place and its length.
+fn add_span(entries: &mut Vec<Value>, start: u32, len: u32) -> Result<(), Memory> {
+    add(entries, Value::from(start))?;
+    add(entries, Value::from(len))
 }
 
 /// A further part of a node: its name or `null`, its value, and the span of the value.
@@ -48,7 +56,11 @@ fn part_value(
         None => Value::Null,
     };
     let value = list_value(alloc, parsed, part.value, left - 1)?;
-    Ok(json!(in alloc; [name, value, part.start, part.len])?)
+    let mut entries = Vec::new(alloc);
+    add(&mut entries, name)?;
+    add(&mut entries, value)?;
+    add_span(&mut entries, part.start, part.len)?;
+    Ok(Value::Array(entries))
 }
 
 /// A node: its kind, its span, its title part and its further parts.
@@ -70,7 +82,11 @@ fn node_value(alloc: Global, parsed: &Parsed, node: NodeId, left: usize) -> Resu
     for at in 0..parsed.parts(node) {
         add(&mut parts, part_value(alloc, parsed, node, at, left - 1)?)?;
     }
-    Ok(json!(in alloc; [kind, start, len, title, parts])?)
+    let mut entries = entries_of(alloc, &[Plain::Text(kind)])?;
+    add_span(&mut entries, start, len)?;
+    add(&mut entries, title)?;
+    add(&mut entries, Value::Array(parts))?;
+    Ok(Value::Array(entries))
 }
 
 /// An item of a list.
@@ -87,7 +103,8 @@ fn item_value(alloc: Global, parsed: &Parsed, item: &Item, left: usize) -> Resul
         Item::Sealed { start, len } => ("sealed", start, len),
         Item::Nothing { start, len } => ("nothing", start, len),
     };
-    Ok(json!(in alloc; [kind, stretch(parsed, start, len)?])?)
+    let text = Plain::Text(stretch(parsed, start, len)?);
+    Ok(list(alloc, &[Plain::Text(kind), text])?)
 }
 
 /// The items of a list.

@@ -3,7 +3,8 @@
 
 use crate::members::{add, string_of};
 use crate::refusal::Refusal;
-use serde_json::{Value, json};
+use crate::values::{Plain, members_of, object_with, put, put_text, value_of};
+use serde_json::{Map, Value};
 use std::alloc::Global;
 use wk_form::Params;
 use wk_http::{Feed, HttpRequest, Method, Next};
@@ -45,18 +46,29 @@ fn method_word(method: Method) -> &'static str {
     }
 }
 
+/// Puts the texts of a message.
+fn put_texts(
+    alloc: Global,
+    members: &mut Map<String, Value>,
+    request: &HttpRequest,
+) -> Result<(), Memory> {
+    put_text(alloc, members, "body", &text_for(alloc, &request.body)?)?;
+    put_text(alloc, members, "path", &request.path)?;
+    put_text(alloc, members, "query", &text_for(alloc, &request.query)?)
+}
+
 /// A message as an entry of the answer.
 fn message_value(alloc: Global, request: &HttpRequest) -> Result<Value, Memory> {
-    let body = text_for(alloc, &request.body)?;
-    let query = text_for(alloc, &request.query)?;
-    Ok(json!(in alloc; {
-        "body": &body,
-        "last": request.last,
-        "method": method_word(request.method),
-        "multipart": request.multipart,
-        "path": &request.path,
-        "query": &query
-    })?)
+    let mut members = members_of(
+        alloc,
+        &[
+            ("last", Plain::Flag(request.last)),
+            ("method", Plain::Text(method_word(request.method))),
+            ("multipart", Plain::Flag(request.multipart)),
+        ],
+    )?;
+    put_texts(alloc, &mut members, request)?;
+    Ok(Value::Object(members))
 }
 
 /// Takes the messages that are whole, and gives how the stream ends, if it ends here.
@@ -68,11 +80,11 @@ fn take_messages(
     for _ in 0..u64::MAX {
         match feed.next()? {
             Next::More => return Ok(None),
-            Next::Bad(status) => return Ok(Some(json!(in alloc; {"bad": status})?)),
+            Next::Bad(status) => return Ok(Some(object_with(alloc, "bad", Value::from(status))?)),
             Next::Whole(request) => {
                 add(messages, message_value(alloc, &request)?)?;
                 if request.last {
-                    return Ok(Some(json!(in alloc; "closed")?));
+                    return Ok(Some(value_of(alloc, Plain::Text("closed"))?));
                 }
             }
         }
@@ -91,7 +103,7 @@ fn piece_of(alloc: Global, piece: &Value) -> Result<Vec<u8>, Refusal> {
 /// How the stream ends where no message and no bad place ended it.
 fn end_of(alloc: Global, feed: &Feed) -> Result<Value, Memory> {
     let word = if feed.is_between() { "peer" } else { "cut" };
-    Ok(json!(in alloc; word)?)
+    value_of(alloc, Plain::Text(word))
 }
 
 /// The messages of the stream that comes in these pieces, and how it ends.
@@ -111,6 +123,14 @@ fn stream_value(
     Ok(end_of(alloc, &feed)?)
 }
 
+/// How a stream ends, and its messages.
+fn stream_answer(alloc: Global, end: Value, messages: Vec<Value>) -> Result<Value, Memory> {
+    let mut members = Map::new(alloc);
+    put(alloc, &mut members, "end", end)?;
+    put(alloc, &mut members, "messages", Value::Array(messages))?;
+    Ok(Value::Object(members))
+}
+
 /// The messages of the member `pieces`.
 pub fn http_value(alloc: Global, request: &Value) -> Result<Value, Refusal> {
     let Some(pieces) = request.get("pieces").and_then(Value::as_array) else {
@@ -118,8 +138,7 @@ pub fn http_value(alloc: Global, request: &Value) -> Result<Value, Refusal> {
     };
     let mut messages = Vec::new(alloc);
     let end = stream_value(alloc, pieces.as_slice(), &mut messages)?;
-    let messages = Value::Array(messages);
-    Ok(json!(in alloc; {"end": end, "messages": messages})?)
+    Ok(stream_answer(alloc, end, messages)?)
 }
 
 /// The parameter `name` of the query and the body.
@@ -131,7 +150,7 @@ pub fn params_value(alloc: Global, request: &Value) -> Result<Value, Refusal> {
     let body = bytes_of(alloc, string_of(request, "body").unwrap_or(""))?;
     let params = Params::read(alloc, &query, &body)?;
     match params.get(name) {
-        Some(value) => Ok(json!(in alloc; value)?),
+        Some(value) => Ok(value_of(alloc, Plain::Text(value))?),
         None => Ok(Value::Null),
     }
 }

@@ -16,10 +16,40 @@ const TWO_PAGES: &str = "api action=edit&title=A&text=%7B%7BT%7D%7D&token=%2B%5C
 api action=edit&title=B&text=%7B%7BT%7D%7D&token=%2B%5C
 ";
 
+/// A script that does both jobs behind that.
+const TWO_DONE: &str = "api action=edit&title=A&text=%7B%7BT%7D%7D&token=%2B%5C
+api action=edit&title=B&text=%7B%7BT%7D%7D&token=%2B%5C
+claim
+read 3
+read 3
+finish 3
+claim
+read 5
+read 5
+finish 5
+";
+
 /// A message that asks for the first of them, and one that asks for the second.
 const PARSE_BOTH: [&str; 2] = [
     "GET /api.php?action=parse&page=A HTTP/1.1\r\nHost: localhost\r\n\r\n",
     "GET /api.php?action=parse&page=B HTTP/1.1\r\nHost: localhost\r\n\r\n",
+];
+
+/// Two messages that ask what a text expands to.
+const EXPAND_BOTH: [&str; 2] = [
+    "GET /api.php?action=expandtemplates&text={{T}}{{U}}a HTTP/1.1\r\nHost: localhost\r\n\r\n",
+    "GET /api.php?action=expandtemplates&text={{T}}{{U}}b HTTP/1.1\r\nHost: localhost\r\n\r\n",
+];
+
+/// What the answers to each pair show.
+const PARSED_BOTH: [&str; 2] = [
+    "\"expanded\":\"[[:Template:T]]\",\"links\":[{\"ns\":10,\"title\":\"Template:T\"}],\"pageid\":1,",
+    "\"expanded\":\"[[:Template:T]]\",\"links\":[{\"ns\":10,\"title\":\"Template:T\"}],\"pageid\":2,",
+];
+
+const EXPANDED_BOTH: [&str; 2] = [
+    "{\"expandtemplates\":{\"wikitext\":\"[[:Template:T]][[:Template:U]]a\"},\"point\":0}",
+    "{\"expandtemplates\":{\"wikitext\":\"[[:Template:T]][[:Template:U]]b\"},\"point\":0}",
 ];
 
 /// A message that saves a page, and one that asks for it once that is done.
@@ -78,25 +108,28 @@ fn gen_at_once(rt: HostRuntime) -> Result<(), Fail> {
     Ok(())
 }
 
-/// Whether one who asked for the page of this name, one of the two, was answered what it expands to.
-fn is_parsed(heard: &[u8], name: &str) -> bool {
+/// Whether one who asked was answered so.
+fn is_answered(heard: &[u8], shown: &str) -> bool {
     let text = text_of(heard);
-    let ok = text.starts_with("HTTP/1.1 200 OK\r\n");
-    let expanded = text.contains("\"expanded\":\"[[:Template:T]]\"");
-    ok && expanded && text.contains(name)
+    text.starts_with("HTTP/1.1 200 OK\r\n") && text.contains(shown)
 }
 
-/// What comes of a run of `serve` by two workers over the two pages, where they met and both peers heard what they asked for.
-fn served_at_once<R: Threads + Wait + Sync>(rt: &R, alloc: Global) -> Result<String, Memory> {
+/// What comes of a run of `serve` by two workers over the store that a script leaves, where they met and both peers heard this.
+fn served_at_once<R: Threads + Wait + Sync>(
+    rt: &R,
+    alloc: Global,
+    script: &str,
+    asked: [&str; 2],
+    shown: [&str; 2],
+) -> Result<String, Memory> {
     let given = Given {
         words: "wiki serve --workers 2",
-        asked: PARSE_BOTH,
+        asked,
         ..NOTHING
     };
     let meeting = Meeting::new(2);
-    let ran = run_behind(rt, alloc, TWO_PAGES, &given, &meeting)?;
-    let heard = is_parsed(&ran.first, "\"title\":\"A\"}")
-        && is_parsed(&ran.second, "\"title\":\"B\"}");
+    let ran = run_behind(rt, alloc, script, &given, &meeting)?;
+    let heard = is_answered(&ran.first, shown[0]) && is_answered(&ran.second, shown[1]);
     if heard && meeting.took_place() {
         ran.told(alloc)
     } else {
@@ -107,9 +140,25 @@ fn served_at_once<R: Threads + Wait + Sync>(rt: &R, alloc: Global) -> Result<Str
 /// The output of `serve` behind two links, and what is left in the store of two pages.
 const SERVED: &str = "0 2 2 0 \"listening on 127.0.0.1:8080\\nserved 2\\n\"";
 
+/// Two workers meet at their gates, each in a read or in the step behind its reply.
 #[test]
 fn serve_at_once(rt: HostRuntime) -> Result<(), Fail> {
-    let told = served_at_once(&rt, rt.alloc())?;
+    let told = served_at_once(&rt, rt.alloc(), TWO_PAGES, PARSE_BOTH, PARSED_BOTH)?;
+    assert_eq!(rt; told.as_str(), SERVED);
+    Ok(())
+}
+
+/// Where no job is left they can meet in reads alone, so none of them has the turn while it reads.
+#[test]
+fn pages_are_read_at_once(rt: HostRuntime) -> Result<(), Fail> {
+    let told = served_at_once(&rt, rt.alloc(), TWO_DONE, PARSE_BOTH, PARSED_BOTH)?;
+    assert_eq!(rt; told.as_str(), SERVED);
+    Ok(())
+}
+
+#[test]
+fn texts_are_read_at_once(rt: HostRuntime) -> Result<(), Fail> {
+    let told = served_at_once(&rt, rt.alloc(), TWO_DONE, EXPAND_BOTH, EXPANDED_BOTH)?;
     assert_eq!(rt; told.as_str(), SERVED);
     Ok(())
 }
@@ -155,5 +204,19 @@ fn leaves<R: Threads + Wait + Sync>(rt: &R, alloc: Global, text: &str) -> Result
 #[test]
 fn serve_leaves_what_was_saved(rt: HostRuntime) -> Result<(), Fail> {
     assert!(rt; leaves(&rt, rt.alloc(), "x")?);
+    Ok(())
+}
+
+/// What the first peer of that run hears where its link takes a byte at each write.
+fn heard_in_pieces<R: Threads + Wait + Sync>(rt: &R, alloc: Global) -> Result<String, Memory> {
+    let given = Given { most: 1, ..SERVE };
+    let ran = run_on(rt, alloc, Tables::new(alloc), &given)?;
+    Ok(String::from_str(alloc, text_of(&ran.first))?)
+}
+
+#[test]
+fn a_reply_is_sent_in_pieces(rt: HostRuntime) -> Result<(), Fail> {
+    let heard = heard_in_pieces(&rt, rt.alloc())?;
+    assert_eq!(rt; heard.as_str(), SAVED);
     Ok(())
 }

@@ -25,6 +25,8 @@ pub struct Given<'a> {
     pub door: &'a str,
     /// How many bytes the output takes, or nothing where it takes all.
     pub room: &'a str,
+    /// How many bytes each link takes at a write, at most.
+    pub most: usize,
 }
 
 /// No words, no input, no link, and no call that fails.
@@ -38,6 +40,7 @@ pub const NOTHING: Given<'static> = Given {
     store: "",
     door: "",
     room: "",
+    most: usize::MAX,
 };
 
 impl<'a> Given<'a> {

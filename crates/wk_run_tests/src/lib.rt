@@ -1,13 +1,9 @@
-//! Tests of whole runs of the program over devices that fail and on many threads, of sessions, and of what runs are made of.
-//! Nothing stands on this crate, and it holds nothing but tests.
+//! Tests of whole runs of the program, by its top call, over devices that fail and on many threads. Nothing stands on this
+//! crate, and it holds nothing but tests.
 #![tactic(auto)]
 
 #[cfg(test)]
-mod adapters;
-#[cfg(test)]
 mod at_once;
-#[cfg(test)]
-mod devices;
 #[cfg(test)]
 mod doors;
 #[cfg(test)]
@@ -17,16 +13,8 @@ mod gates;
 #[cfg(test)]
 mod given;
 #[cfg(test)]
-mod limits;
-#[cfg(test)]
 mod links;
-#[cfg(test)]
-mod nets;
 #[cfg(test)]
 mod runs;
 #[cfg(test)]
-mod sessions;
-#[cfg(test)]
 mod stores;
-#[cfg(test)]
-mod texts;

@@ -191,8 +191,8 @@ fn run_at_door<V: Vault, R: Threads + Wait + Sync>(
 where
     V::Store: Send,
 {
-    let one = HeardLink::new(rt, alloc, given.asked[0], usize::MAX, first)?;
-    let two = HeardLink::new(rt, alloc, given.asked[1], usize::MAX, second)?;
+    let one = HeardLink::new(rt, alloc, given.asked[0], given.most, first)?;
+    let two = HeardLink::new(rt, alloc, given.asked[1], given.most, second)?;
     let mut door = door_of(alloc, given, one, two)?;
     run_streams(rt, alloc, vault, given, &mut door, gate)
 }

@@ -2,7 +2,6 @@
 ghost use Rattle.wk_revs.specs.Edit.{most_held};
 ghost use Rattle.wk_core.specs.Limits.{AreWithinFull};
 
-use crate::runs::text_of;
 use std::alloc::Global;
 use std::test::Fail;
 use wk_base::{ListClock, MemSink, MemSource};
@@ -39,7 +38,7 @@ fn written<K: Keeper>(
                 points: _,
             } = run_script(wiki, &mut source, &mut sink, &mut clock);
             let _keeper = keeper_of(wiki);
-            let written = text_of(sink.bytes());
+            let written = str::from_utf8(sink.bytes()).unwrap_or("no text");
             Ok(format!(in alloc; "{end:?} {written}")?)
         }
         Err(refusal) => Err(Fail::from(refusal.cause)),
