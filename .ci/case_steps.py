@@ -14,6 +14,7 @@ import signal
 import socket
 import sqlite3
 import subprocess
+import tempfile
 import time
 
 TOP = os.path.dirname(os.path.dirname(os.path.abspath(__file__)))
@@ -23,6 +24,18 @@ PAUSE = 0.05
 PIECE = 0.005
 # Streams whose calls fail: a folder can't be read, and a full device can't be written.
 FAILING = {"input": ("stdin", "/", os.O_RDONLY), "output": ("stdout", "/dev/full", os.O_WRONLY)}
+# A program that finds a disk of so many KiB at the folder `disk`, which is gone behind it.
+ON_DISK = ["unshare", "--user", "--map-root-user", "--mount", "sh", "-c", 'mount -t tmpfs -o size="$0"k none disk && exec "$@"']
+
+
+def has_disks():
+    """Whether this machine lets a program have a disk of its own."""
+    try:
+        with tempfile.TemporaryDirectory(prefix="kilandru-disk-") as folder:
+            os.mkdir(os.path.join(folder, "disk"))
+            return subprocess.run([*ON_DISK, "64", "true"], cwd=folder, stderr=subprocess.DEVNULL).returncode == 0
+    except OSError:
+        return False
 
 
 def free_port():
@@ -126,7 +139,7 @@ class Steps:
 
     def __init__(self, folder, paths):
         self.folder, self.paths, self.limits = folder, paths, {}
-        self.going = self.port = None
+        self.going = self.port = self.side = self.wiki_port = None
         self.ports = []
         self.connections = {}
 
@@ -200,7 +213,8 @@ class Steps:
     def begin(self, rest, **streams):
         limits = {"preexec_fn": self.limited} if self.limits else {}
         others = {stream: os.open(path, mode) for kind, (stream, path, mode) in FAILING.items() if kind in self.limits}
-        begun = subprocess.Popen(self.words(rest), cwd=self.folder, **(streams | others), **limits)
+        disk = [*ON_DISK, str(self.limits["disk"])] if "disk" in self.limits else []
+        begun = subprocess.Popen([*disk, *self.words(rest)], cwd=self.folder, **(streams | others), **limits)
         for it in others.values():
             os.close(it)
         self.limits = {}
@@ -251,10 +265,29 @@ class Steps:
     # Connections
 
     def serve(self, rest):
-        self.port = free_port()
+        self.port = self.wiki_port = free_port()
         self.ports.append(self.port)
         self.start(f"wiki serve {rest}" if "--listen" in rest else f"wiki serve --listen 127.0.0.1:PORT {rest}", b"")
         return self.heard(1)
+
+    def beside(self, rest):
+        """Starts bin/mediawiki-api in front of the server, in the place of one that was there; what follows is asked of it."""
+        self.end_side()
+        words = [self.paths["mediawiki-api"], "--listen", "127.0.0.1:0", "--wiki", f"127.0.0.1:{self.wiki_port}", *shlex.split(rest)]
+        self.side = subprocess.Popen(words, cwd=self.folder, stdin=subprocess.DEVNULL, stdout=subprocess.PIPE, stderr=subprocess.STDOUT)
+        line = self.side.stdout.readline()
+        if found := re.search(rb"127\.0\.0\.1:(\d+)", line):
+            self.port = int(found[1])
+            self.ports.append(self.port)
+        return lines_of(line)
+
+    def end_side(self):
+        """Ends bin/mediawiki-api; what it has told of its faults."""
+        it, self.side = self.side, None
+        if it:
+            it.terminate()
+            return lines_of(it.communicate()[0])
+        return []
 
     def heard_of(self, *pieces):
         """What comes on a connection of its own, on which these pieces are sent and then no more."""
@@ -290,7 +323,7 @@ class Steps:
         data = bytes_of(body)
         form = b"Content-Type: application/x-www-form-urlencoded\r\n" if data else b""
         it = Connection(self.port)
-        it.socket.sendall(b"%s %s HTTP/1.1\r\nHost: a\r\nConnection: close\r\n%sContent-Length: %d\r\n\r\n%s" % (method.encode(), bytes_of(target), form, len(data), data))
+        it.socket.sendall(b"%s %s HTTP/1.1\r\nHost: 127.0.0.1:%d\r\nConnection: close\r\n%sContent-Length: %d\r\n\r\n%s" % (method.encode(), bytes_of(target), self.port, form, len(data), data))
         head, _, body = it.response().partition(b"\r\n\r\n")
         it.rest()
         time.sleep(PAUSE)
@@ -301,8 +334,10 @@ class Steps:
         of = self.connections.get(name)
         steps = {
             "serve": lambda: self.serve(rest),
+            "beside": lambda: self.beside(rest),
+            "aside": lambda: self.end_side(),
             "open": lambda: self.connections.__setitem__(name, Connection(self.port)),
-            "send": lambda: of.send(bytes_of(text)),
+            "send": lambda: of.send(bytes_of(text.replace(":PORT", f":{self.port}"))),
             "shut": lambda: of.send(b"", True),
             "read": lambda: lines_of(of.response()),
             "rest": lambda: lines_of(of.rest()),
@@ -337,6 +372,7 @@ class Steps:
     def close(self):
         for it in self.connections.values():
             it.socket.close()
+        self.end_side()
         if self.going:
             self.going.kill()
             self.going.communicate()
@@ -367,6 +403,8 @@ def transcript(text, folder, paths):
     finally:
         steps.close()
     whole = "".join(f"{it}\n" for it in lines)
+    if steps.wiki_port != steps.port:
+        whole = re.sub(r"\d{4}-\d\d-\d\dT\d\d:\d\d:\d\dZ", "MOMENT", whole)
     for port in steps.ports:
         whole = whole.replace(f":{port}", ":PORT")
     return re.sub(r'"timestamp":\d+', '"timestamp":N', whole)
