@@ -2,9 +2,9 @@
 use Rattle.std.proofs.Common.{◌≡◌, ℕ, ◌+◌, Bool, cond, List, [], ◌∷◌, length, Option, Some, None, refl, arith}
 use Rattle.std.specs.Prelude.{count_by}
 use Rattle.std.proofs.lemmas.List.Sums.{sum_by-cons}
-use Rattle.wk_job_rules.specs.Jobs.{RefreshEntry, is_claimed, is_queued}
-use Rattle.wk_listing_rules.specs.Revisions.{count_existing}
-use Rattle.wk_state_rules.specs.States.{State}
+use Rattle.wk_wiki_rules.specs.Jobs.{RefreshEntry, is_claimed, is_queued}
+use Rattle.wk_wiki_rules.specs.Revisions.{count_existing}
+use Rattle.wk_wiki_rules.specs.States.{State}
 use Rattle.wk_answer_rules.specs.Pages.{count_jobs, site_entries}
 use Rattle.wk_replies.specs.Counted.{site_shown}
 use Rattle.wk_replies.specs.declared.site.Counts.{Counts}

@@ -1,5 +1,5 @@
 mod ByNumber
+mod EarlyAnswers
 mod JobCounts
 mod ReadFacts
-mod SaveAnswers
 mod Shown

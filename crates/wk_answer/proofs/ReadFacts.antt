@@ -7,7 +7,7 @@ use Rattle.std.proofs.lemmas.List.Elements.{All-nil}
 use Rattle.serde_json.specs.Data.{Data}
 use Rattle.wk_text_rules.specs.Marked.{text_of}
 use Rattle.wk_text_rules.specs.Titles.{PageTitle}
-use Rattle.wk_row_rules.specs.PageRows.{PageRows}
+use Rattle.wk_page_rules.specs.PageRows.{PageRows}
 use Rattle.wk_page_rules.specs.History.{current_revision, current_text, page_exists}
 use Rattle.wk_page_rules.specs.Verdict.{MostHeld}
 use Rattle.wk_view_rules.specs.Plans.{Plan, gives, asks, done, noted, reads_of, run}
@@ -17,9 +17,9 @@ use Rattle.wk_view_rules.specs.Worlds.{Agrees, PageText, Read, Source, World, as
 use Rattle.wk_view_rules.specs.declared.Kind.TheVariants.{View}
 use Rattle.wk_view_laws.proofs.PlanLemmas.{agrees-itself, met}
 use Rattle.wk_view_laws.proofs.ViewLemmas.{after_view}
-use Rattle.wk_state_rules.specs.States.{State, world_of}
-use Rattle.wk_state_laws.specs.WellFormed.{IsWellFormed}
-use Rattle.wk_call_laws.proofs.Marks.{Answered, exists-now}
+use Rattle.wk_wiki_rules.specs.States.{State, world_of}
+use Rattle.wk_wiki_laws.specs.WellFormed.{IsWellFormed}
+use Rattle.wk_life_laws.proofs.Marks.{Answered, exists-now}
 use Rattle.wk_wiki_rules.specs.Passes.{shown_number}
 use Rattle.wk_expand.specs.Drafts.{DraftShown}
 use Rattle.wk_present.specs.Drafted.{IsPresent}

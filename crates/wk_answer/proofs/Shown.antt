@@ -4,10 +4,10 @@ use Rattle.std.proofs.lemmas.Bool.{le-ltb}
 use Rattle.wk_text_rules.specs.Marked.{text_of}
 use Rattle.wk_text_rules.specs.Titles.{PageTitle}
 use Rattle.wk_page_rules.specs.History.{current_revision}
-use Rattle.wk_row_rules.specs.PageRows.{PageRows}
+use Rattle.wk_page_rules.specs.PageRows.{PageRows}
 use Rattle.wk_view_rules.specs.Rows.{rows}
 use Rattle.wk_view_rules.specs.Worlds.{Agrees, World, of_world}
-use Rattle.wk_state_rules.specs.States.{State, world_of}
+use Rattle.wk_wiki_rules.specs.States.{State, world_of}
 use Rattle.wk_wiki_rules.specs.Passes.{drafted_in, shown_number}
 use Rattle.wk_page_rules.specs.Verdict.{max_text}
 use Rattle.wk_answer_rules.specs.Values.{reply_beside}

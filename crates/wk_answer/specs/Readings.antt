@@ -5,8 +5,8 @@ use Rattle.wk_page_rules.specs.Verdict.{real_title}
 use Rattle.wk_page_rules.specs.History.{page_exists}
 use Rattle.wk_view_rules.specs.Plans.{done}
 use Rattle.wk_view_rules.specs.Worlds.{Read, mark}
-use Rattle.wk_state_rules.specs.States.{State, world_of}
-use Rattle.wk_state_laws.specs.WellFormed.{IsWellFormed}
+use Rattle.wk_wiki_rules.specs.States.{State, world_of}
+use Rattle.wk_wiki_laws.specs.WellFormed.{IsWellFormed}
 use Rattle.wk_wiki_rules.specs.Passes.{PageReading, drafted_in, shown_number}
 use Rattle.wk_request_rules.specs.Requests.{Ask, parse, expand_text}
 use Rattle.wk_answer_rules.specs.ApiErrors.{missingtitle}

@@ -1,17 +1,15 @@
 //! What is told of a page and of a given text (MediaWiki's API:Parsing wikitext and API:Expandtemplates).
 ghost use Rattle.std.specs.Prelude.{◌≡◌, IfOk};
 ghost use Rattle.serde_json.specs.View.{view};
-ghost use Rattle.wk_page_rules.specs.Verdict.{real_title};
 ghost use Rattle.wk_wiki_rules.specs.Passes.{shown_number};
-ghost use Rattle.wk_answer_rules.specs.ApiErrors.{contenttoobig};
-ghost use Rattle.wk_answer_rules.specs.Pages.{expand_answer, expanded_in, fails, page_shown, parse_answer, parse_entries, shows};
+ghost use Rattle.wk_answer_rules.specs.Pages.{expand_answer, expanded_in, page_shown, parse_answer, parse_entries, shows};
 ghost use Rattle.wk_listings.specs.Replied.{value_at};
 
-use crate::errors::error_reply;
 use serde_json::Value;
 use std::alloc::Global;
 use wk_bytes::Text;
 use wk_expand::{Root, Trees};
+use wk_good_rows::MAX_TEXT;
 use wk_listings::{invalid_title, missing_title};
 use wk_live::Live;
 use wk_memory::Memory;
@@ -19,26 +17,8 @@ use wk_present::draft_now;
 use wk_replies::{PageShown, expanded, parsed};
 use wk_revs::Revs;
 use wk_rows::rows;
+use wk_saving::{content_too_big, real_title};
 use wk_title::{Title, named};
-
-/// How many bytes a text has at most (own).
-pub const MAX_TEXT: usize = 2_097_152;
-
-/// The page that a text names: its title, in main by default; none exactly where it names no title, or one in a virtual
-/// namespace.
-pub fn real_title(alloc: Global, text: &str) -> Result<Option<Title>, Memory>
-    ensures { IfOk result (λ title. title ≡ real_title text.now) }
-{
-    match named(alloc, text, 0)? {
-        Some(title) => {
-            if title.is_virtual() {
-                return Ok(None);
-            }
-            Ok(Some(title))
-        }
-        None => Ok(None),
-    }
-}
 
 /// The number of the title's page, 0 where it doesn't exist.
 fn shown_number(revs: &Revs, title: &Title) -> u32
@@ -94,14 +74,6 @@ pub fn parse(
             parsed_page(alloc, live, &title, point, trees)
         }
     }
-}
-
-/// The text is longer than any that is kept.
-pub fn content_too_big(alloc: Global, point: u64) -> Result<Value, Memory>
-    ensures { IfOk result (λ v. view v ≡ value_at point (fails contenttoobig)) }
-{
-    let info = "The text is longer than 2097152 bytes.";
-    error_reply(alloc, "contenttoobig", info, point)
 }
 
 /// What a text expands to in the place of a title's page: an error where the text is too long.

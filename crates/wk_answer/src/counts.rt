@@ -1,7 +1,7 @@
 //! How much a wiki holds.
 ghost use Rattle.std.specs.Prelude.{◌≡◌, ◌+◌, IfOk, length};
 ghost use Rattle.serde_json.specs.View.{view};
-ghost use Rattle.wk_listing_rules.specs.Revisions.{count_existing};
+ghost use Rattle.wk_wiki_rules.specs.Revisions.{count_existing};
 ghost use Rattle.wk_answer_rules.specs.Pages.{count_jobs, shows, site_entries};
 ghost use Rattle.wk_listings.specs.Replied.{value_at};
 

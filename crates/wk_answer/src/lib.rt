@@ -3,16 +3,13 @@
 
 mod by_text;
 mod counts;
-mod errors;
 mod reading;
 mod reads;
 mod refusals;
 mod requests;
-mod saved_replies;
-mod saving;
 
-pub use errors::error_reply;
 pub use reading::read_answer;
 pub use reads::read_reply;
 pub use refusals::refused;
 pub use requests::{act, answer};
+pub use wk_saving::error_reply;

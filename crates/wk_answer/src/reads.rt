@@ -5,8 +5,8 @@ ghost use Rattle.wk_page_rules.specs.Verdict.{MostHeld};
 ghost use Rattle.wk_view_rules.specs.Plans.{done};
 ghost use Rattle.wk_view_rules.specs.Views.{shown_text, view as view_of};
 ghost use Rattle.wk_view_rules.specs.Worlds.{of_world};
-ghost use Rattle.wk_state_rules.specs.States.{State, world_of};
-ghost use Rattle.wk_state_laws.specs.WellFormed.{IsWellFormed};
+ghost use Rattle.wk_wiki_rules.specs.States.{State, world_of};
+ghost use Rattle.wk_wiki_laws.specs.WellFormed.{IsWellFormed};
 ghost use Rattle.wk_wiki_rules.specs.Passes.{shown_number};
 ghost use Rattle.wk_request.specs.Asked.{ask_of, request_asked};
 ghost use Rattle.wk_core.specs.declared.outcomes.ReadRefusal.TheVariants.{Future};
@@ -16,15 +16,16 @@ ghost use Rattle.wk_answer_rules.specs.Pages.{expanded_in};
 ghost use Rattle.wk_listings.specs.Replied.{value_at};
 ghost use Rattle.wk_answer.specs.Readings.{IsEarly, IsFitRead, IsRightRead, asks_to_expand, mark_first, page_answer, reading_of};
 
-use crate::by_text::{MAX_TEXT, content_too_big};
 use serde_json::Value;
 use std::alloc::Global;
 use wk_core::{Draft, PageRead, ReadRefusal};
+use wk_good_rows::MAX_TEXT;
 use wk_listings::missing_title;
 use wk_memory::Memory;
 use wk_replies::{PageShown, expanded, future_point, parsed};
 use wk_request::{Ask, Request};
 use wk_rows::rows;
+use wk_saving::content_too_big;
 
 /// The mark of what a draft read first, 0 where it read nothing.
 fn mark_first(draft: &Draft) -> u64

@@ -4,16 +4,16 @@ ghost use Rattle.serde_json.specs.View.{view};
 ghost use Rattle.wk_request.specs.Asked.{ask_of, request_asked};
 ghost use Rattle.wk_core.specs.Steps.{GoesOn, HasMadeNothing};
 ghost use Rattle.wk_answer_rules.specs.Answers.{answer_to_request, asks_to_save};
-ghost use Rattle.wk_answer.specs.Saved.{IsActed};
+ghost use Rattle.wk_saving.specs.Saved.{IsActed};
 
 use crate::reading::read_answer;
-use crate::saving::save_asked;
 use serde_json::Value;
 use wk_core::{Keeper, Wiki};
 use wk_expand::Trees;
 use wk_memory::Memory;
 use wk_replies::future_point;
 use wk_request::{Ask, Request};
+use wk_saving::save_asked;
 
 /// Whether a save is asked for.
 fn asks_to_save(ask: &Ask) -> bool

@@ -7,9 +7,9 @@ use Rattle.wk_page_rules.specs.declared.Limit.TheVariants.{Pages, Revisions, Tex
 use Rattle.wk_page_rules.specs.History.{current_revision, current_text, page_exists, page_number, text_bytes}
 use Rattle.wk_page_rules.specs.Kept.{kept}
 use Rattle.wk_page_rules.specs.Verdict.{EditAsked, MostHeld, Verdict, refuse, no_change, accept, invalid_title, content_too_big, article_exists, missing_title, edit_conflict, wiki_full, with_room, judged, judged_at, real_title, max_text, body_bytes, is_conflict, is_same_text, limit_passed, is_journal_full}
-use Rattle.wk_state_rules.specs.States.{State}
-use Rattle.wk_state_rules.specs.Events.{Save}
-use Rattle.wk_state_rules.specs.Verdicts.{verdict_in, journal_use}
+use Rattle.wk_wiki_rules.specs.States.{State}
+use Rattle.wk_wiki_rules.specs.Events.{Save}
+use Rattle.wk_wiki_rules.specs.Verdicts.{verdict_in, journal_use}
 use Rattle.wk_wiki_rules.specs.SaveOutcomes.{SaveOutcome}
 use Rattle.wk_request_rules.specs.Requests.{Request}
 use Rattle.wk_answer_rules.specs.Values.{Entries}

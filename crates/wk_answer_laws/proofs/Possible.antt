@@ -8,14 +8,14 @@ use Rattle.wk_page_rules.specs.History.{History, current_revision, current_text,
 use Rattle.wk_page_rules.specs.Kept.{kept}
 use Rattle.wk_page_rules.specs.Verdict.{EditAsked, MostHeld, Refusal, Verdict, refuse, no_change, accept, invalid_title, content_too_big, article_exists, missing_title, edit_conflict, wiki_full, journal_full, with_room, judged, judged_at, real_title, max_text, body_bytes, is_conflict, is_same_text, limit_passed, is_journal_full}
 use Rattle.wk_view_laws.specs.Titles.{IsPageTitle}
-use Rattle.wk_row_laws.proofs.NormalRows.{page-title}
-use Rattle.wk_state_rules.specs.States.{State}
-use Rattle.wk_state_rules.specs.Events.{Event, Save, step, with_saved}
-use Rattle.wk_state_rules.specs.Soundness.{IsSound}
-use Rattle.wk_state_rules.specs.Verdicts.{verdict_in, journal_use}
-use Rattle.wk_job_rules.specs.Steps.{fan_pages}
-use Rattle.wk_state_laws.specs.WellFormed.{IsWellFormed}
-use Rattle.wk_state_laws.proofs.Saved.{IsSound-saved}
+use Rattle.wk_title_laws.proofs.NormalRows.{page-title}
+use Rattle.wk_wiki_rules.specs.States.{State}
+use Rattle.wk_wiki_rules.specs.Events.{Event, Save, step, with_saved}
+use Rattle.wk_wiki_rules.specs.Soundness.{IsSound}
+use Rattle.wk_wiki_rules.specs.Verdicts.{verdict_in, journal_use}
+use Rattle.wk_wiki_rules.specs.Steps.{fan_pages}
+use Rattle.wk_wiki_laws.specs.WellFormed.{IsWellFormed}
+use Rattle.wk_wiki_laws.proofs.Saved.{IsSound-saved}
 use Rattle.wk_wiki_rules.specs.Calls.{IsMade, by_save}
 use Rattle.wk_wiki_rules.specs.SaveOutcomes.{SaveOutcome, deletion}
 use Rattle.wk_request_rules.specs.Requests.{Ask, edit, delete, parse, expand_text, backlinks, embedded, members, changes, revisions, tokens, site_info, ParsedRequest, valid, invalid}

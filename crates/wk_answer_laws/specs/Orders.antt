@@ -5,8 +5,8 @@ use Rattle.wk_page_rules.specs.History.{History, current_revision, page_exists, 
 use Rattle.wk_page_rules.specs.Kept.{kept}
 use Rattle.wk_page_rules.specs.Verdict.{EditAsked, MostHeld, body_bytes, max_text, is_conflict, is_journal_full}
 use Rattle.wk_page_rules.specs.declared.Limit.TheVariants.{Pages, Revisions, Text}
-use Rattle.wk_state_rules.specs.States.{State}
-use Rattle.wk_state_rules.specs.Verdicts.{journal_use}
+use Rattle.wk_wiki_rules.specs.States.{State}
+use Rattle.wk_wiki_rules.specs.Verdicts.{journal_use}
 use Rattle.wk_answer_rules.specs.ApiErrors.{ApiError, contenttoobig, articleexists, missingtitle, editconflict, wikifull, journalfull}
 
 -- the first whose condition holds

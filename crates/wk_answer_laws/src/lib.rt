@@ -1,4 +1,5 @@
-//! Laws of answers. Each is the contract of a function with an empty body.
+//! Laws of answers, and of the replies to requests and to the lines of a script: what is known of each, whatever it tells.
+//! Each is the contract of a function with an empty body.
 #![tactic(auto)]
 
 ghost use Rattle.std.specs.Prelude.{◌≡◌, ℕ, ◌+◌, nat_lt, true, false, List, length, IsSome, Option, Some, None, option_map};
@@ -7,19 +8,24 @@ ghost use Rattle.wk_text_rules.specs.Titles.{PageTitle};
 ghost use Rattle.wk_page_rules.specs.History.{current_text};
 ghost use Rattle.wk_page_rules.specs.Kept.{kept};
 ghost use Rattle.wk_page_rules.specs.Verdict.{EditAsked, MostHeld, real_title, is_same_text};
-ghost use Rattle.wk_state_rules.specs.States.{State};
-ghost use Rattle.wk_state_rules.specs.Events.{Event, Save, step};
-ghost use Rattle.wk_state_rules.specs.Soundness.{IsSound};
-ghost use Rattle.wk_state_rules.specs.Verdicts.{verdict_in};
-ghost use Rattle.wk_state_laws.specs.WellFormed.{IsWellFormed};
+ghost use Rattle.wk_wiki_rules.specs.States.{State};
+ghost use Rattle.wk_wiki_rules.specs.Events.{Event, Save, step};
+ghost use Rattle.wk_wiki_rules.specs.Soundness.{IsSound};
+ghost use Rattle.wk_wiki_rules.specs.Verdicts.{verdict_in};
+ghost use Rattle.wk_wiki_laws.specs.WellFormed.{IsWellFormed};
 ghost use Rattle.wk_wiki_rules.specs.Calls.{IsMade};
 ghost use Rattle.wk_wiki_rules.specs.SaveOutcomes.{SaveOutcome};
 ghost use Rattle.wk_request_rules.specs.Requests.{Request, ParsedRequest};
-ghost use Rattle.wk_answer_rules.specs.Values.{Entries};
+ghost use Rattle.wk_answer_rules.specs.Values.{Entries, ApiReply};
 ghost use Rattle.wk_answer_rules.specs.ApiErrors.{ApiError, futurepoint, invalidtitle};
 ghost use Rattle.wk_answer_rules.specs.Saves.{failed_at, save_answer};
 ghost use Rattle.wk_answer_rules.specs.Answers.{asks_to_save, answer_to_parsed, answer_to_request};
 ghost use Rattle.wk_answer_laws.specs.Orders.{first_error, errors_of_an_edit, errors_of_a_change};
+ghost use Rattle.serde_json.specs.Written.{has_float};
+ghost use Rattle.wk_script_rules.specs.ScriptLines.{ScriptLine};
+ghost use Rattle.wk_script_rules.specs.WikiScripts.{WikiScript, point_of};
+ghost use Rattle.wk_script_rules.specs.Runs.{HasNoFailure, LineRun};
+ghost use Rattle.wk_script_rules.specs.Steps.{line_step};
 
 /// A request that asks for no save makes no event.
 pub fn reads_make_no_event()
@@ -74,4 +80,24 @@ pub fn refusals_come_in_order()
         → first_error (errors_of_a_change most state journal edit title) ≡ None
         → (save_answer entries_of state journal moment (verdict_in most state journal edit)).event
         ≡ Some (Save title (option_map kept edit.body) moment) }
+{}
+
+/// No reply holds a float: so it is written as its compact text.
+pub fn replies_have_no_float()
+    ensures request { (most : MostHeld) (state : State) (journal moment : ℕ) (read : ParsedRequest)
+        → has_float (answer_to_parsed most state journal moment read).reply.value ≡ false }
+    ensures line { (most : MostHeld) (s t : WikiScript) (moment : ℕ) (line : ScriptLine) (reply : ApiReply)
+        → LineRun most s moment line (Some reply) t → has_float reply.value ≡ false }
+{}
+
+/// The reply to a line shows the journal's length behind the line.
+pub fn replies_show_the_point_behind_the_line()
+    ensures { (most : MostHeld) (s t : WikiScript) (moment : ℕ) (line : ScriptLine) (reply : ApiReply)
+        → LineRun most s moment line (Some reply) t → reply.point ≡ point_of t }
+{}
+
+/// Where nothing fails, the reply to a line tells neither of want of memory nor of a fault of the store.
+pub fn steps_tell_of_no_failure()
+    ensures { (most : MostHeld) (s : WikiScript) (moment : ℕ) (line : ScriptLine) (reply : ApiReply)
+        → (line_step most s moment line).reply ≡ Some reply → HasNoFailure reply }
 {}

@@ -1,7 +1,7 @@
 -- What each request is answered in a state, and the event that it makes (own, in the style of MediaWiki's API:Main page).
 use Rattle.std.specs.Prelude.{ℕ, Bool, true, false, nat_lt, List, if◌then◌else◌}
 use Rattle.wk_page_rules.specs.Verdict.{MostHeld}
-use Rattle.wk_state_rules.specs.States.{State}
+use Rattle.wk_wiki_rules.specs.States.{State}
 use Rattle.wk_request_rules.specs.Requests.{Ask, edit, delete, parse, expand_text, backlinks, embedded, members, changes, revisions, tokens, site_info, Request, ParsedRequest, valid, invalid}
 use Rattle.wk_request_rules.specs.Reading.{requested}
 use Rattle.wk_answer_rules.specs.ApiErrors.{futurepoint, request_error}

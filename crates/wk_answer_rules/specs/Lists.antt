@@ -8,12 +8,12 @@ use Rattle.std.specs.Ordering.{int_eq}
 use Rattle.serde_json.specs.Data.{boolean, string}
 use Rattle.wk_text_rules.specs.Titles.{PageTitle}
 use Rattle.wk_page_rules.specs.History.{History, Revision, next_revision, page_number}
-use Rattle.wk_row_rules.specs.declared.Reach.TheVariants.{Text}
-use Rattle.wk_job_rules.specs.Users.{users}
-use Rattle.wk_state_rules.specs.States.{State, title_at}
-use Rattle.wk_listing_rules.specs.Links.{linking_pages}
-use Rattle.wk_listing_rules.specs.Members.{MemberPage, members_behind}
-use Rattle.wk_listing_rules.specs.Revisions.{changes_below, page_revisions_below}
+use Rattle.wk_page_rules.specs.declared.Reach.TheVariants.{Text}
+use Rattle.wk_wiki_rules.specs.Users.{users}
+use Rattle.wk_wiki_rules.specs.States.{State, title_at}
+use Rattle.wk_wiki_rules.specs.Links.{linking_pages}
+use Rattle.wk_wiki_rules.specs.Members.{MemberPage, members_behind}
+use Rattle.wk_wiki_rules.specs.Revisions.{changes_below, page_revisions_below}
 use Rattle.wk_request_rules.specs.Requests.{Listing}
 use Rattle.wk_answer_rules.specs.Values.{whole, Entries, object_of, array_of, title_entries}
 use Rattle.wk_answer_rules.specs.ApiErrors.{invalidcategory, missingtitle}

@@ -8,12 +8,12 @@ use Rattle.wk_text_rules.specs.Marked.{text_of}
 use Rattle.wk_text_rules.specs.Titles.{PageTitle, namespace_name, normal, shown, with_spaces}
 use Rattle.wk_page_rules.specs.History.{current_revision, page_exists}
 use Rattle.wk_page_rules.specs.Verdict.{max_text, real_title}
-use Rattle.wk_row_rules.specs.PageRows.{Member, PageRows}
+use Rattle.wk_page_rules.specs.PageRows.{Member, PageRows}
 use Rattle.wk_view_rules.specs.Plans.{Outcome, done, need}
 use Rattle.wk_view_rules.specs.Rows.{rows}
 use Rattle.wk_view_rules.specs.Views.{Expanded}
-use Rattle.wk_state_rules.specs.States.{State, world_of}
-use Rattle.wk_listing_rules.specs.Revisions.{count_existing}
+use Rattle.wk_wiki_rules.specs.States.{State, world_of}
+use Rattle.wk_wiki_rules.specs.Revisions.{count_existing}
 use Rattle.wk_wiki_rules.specs.Passes.{drafted_in, shown_number}
 use Rattle.wk_request_rules.specs.Reading.{edit_token}
 use Rattle.wk_answer_rules.specs.Values.{whole, Entries, object_of, array_of, integer, title_entries, titles_value}

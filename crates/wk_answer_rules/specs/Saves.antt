@@ -3,9 +3,9 @@ use Rattle.std.specs.Prelude.{ℕ, ◌+◌, true, List, [], ◌∷◌, codes, Op
 use Rattle.serde_json.specs.Data.{boolean, string}
 use Rattle.wk_text_rules.specs.Titles.{PageTitle, shown}
 use Rattle.wk_page_rules.specs.Verdict.{EditAsked, MostHeld, Verdict, refuse, no_change, accept}
-use Rattle.wk_state_rules.specs.States.{State}
-use Rattle.wk_state_rules.specs.Events.{Event}
-use Rattle.wk_state_rules.specs.Verdicts.{verdict_in, event_of}
+use Rattle.wk_wiki_rules.specs.States.{State}
+use Rattle.wk_wiki_rules.specs.Events.{Event}
+use Rattle.wk_wiki_rules.specs.Verdicts.{verdict_in, event_of}
 use Rattle.wk_wiki_rules.specs.SaveOutcomes.{SaveNumbers, SaveOutcome, created, changed, unchanged, save_outcome, deletion}
 use Rattle.wk_answer_rules.specs.Values.{ApiReply, whole, Entries, object_of, reply_beside}
 use Rattle.wk_answer_rules.specs.ApiErrors.{ApiError, save_error, api_error}

@@ -12,7 +12,7 @@ use wk_memory::Memory;
 /// Names to values. The later of two values that are bound to one name counts (MediaWiki's Help:Templates).
 ///
 /// A name may be any text. Names are compared byte by byte.
-#[derive(Debug, Drop)]
+#[derive(Drop)]
 pub struct Args<V> {
     alloc: Global,
     values: BTreeMap<String, V>,

@@ -210,7 +210,7 @@ fn names_of(table: LinkTable) -> (&'static str, &'static str) {
     }
 }
 
-/// The table, and then each column of the key with its value. A text is written as `{:?}` does.
+/// The table, and then each column of the key with its value. A text is written as `{:?}` of a `str` does.
 impl fmt::Display for RowKey {
     fn fmt<W: fmt::Write>(&self, f: &mut fmt::Formatter<W>) -> fmt::Result {
         match self {
@@ -219,6 +219,7 @@ impl fmt::Display for RowKey {
                 namespace,
                 title,
             } => {
+                let title = title.as_str();
                 write!(
                     f,
                     "table page, page_id {id}, page_namespace {namespace}, page_title {title:?}"
@@ -232,15 +233,16 @@ impl fmt::Display for RowKey {
                 title,
             } => {
                 let (of, name) = names_of(*table);
+                let title = title.as_str();
                 write!(
                     f,
                     "table {name}, {of}_from {from}, {of}_namespace {namespace}, {of}_title {title:?}"
                 )
             }
-            RowKey::Category { from, to } => write!(
-                f,
-                "table categorylinks, cl_from {from}, cl_to {to:?}"
-            ),
+            RowKey::Category { from, to } => {
+                let to = to.as_str();
+                write!(f, "table categorylinks, cl_from {from}, cl_to {to:?}")
+            }
             RowKey::Redirect { from } => write!(f, "table redirect, rd_from {from}"),
             RowKey::Job { id } => write!(f, "table job, job_id {id}"),
             RowKey::Version { version } => write!(

@@ -12,7 +12,7 @@ use std::mem;
 use wk_memory::Memory;
 
 /// An answer of a [`LineCutter`].
-#[derive(Debug, PartialEq, Eq, Drop)]
+#[derive(PartialEq, Eq, Drop)]
 pub enum Line {
     /// A line, without its newline and without the one carriage return that may stand directly before that newline.
     Whole(Vec<u8>),
@@ -152,7 +152,7 @@ fn cut(
 ///
 /// Each line ends with a newline, the last also with the end of the stream. The lines don't depend on how the stream
 /// is cut into pieces. Of a line of more than `most` bytes at most `most + 1` are kept.
-#[derive(Debug, Drop)]
+#[derive(Drop)]
 pub struct LineCutter {
     most: usize,
     whole: VecDeque<Option<Vec<u8>>>,

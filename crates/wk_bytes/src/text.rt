@@ -10,7 +10,6 @@ ghost use Rattle.std.proofs.Common.{rules};
 
 use std::alloc::Global;
 use std::cmp::Ordering;
-use std::fmt;
 use std::hash::{Hash, Hasher};
 use std::marker::Model;
 use std::sync::Arc;
@@ -126,12 +125,5 @@ impl Hash for Text {
 
     fn hash<H: Hasher>(&self, state: &mut H) {
         self.as_str().hash(state);
-    }
-}
-
-/// Prints the text as `{:?}` of a `str` does.
-impl fmt::Debug for Text {
-    fn fmt<W: fmt::Write>(&self, f: &mut fmt::Formatter<W>) -> fmt::Result {
-        fmt::Debug::fmt(&self.as_str(), f)
     }
 }

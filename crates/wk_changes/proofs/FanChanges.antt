@@ -2,14 +2,14 @@
 use Rattle.std.proofs.Common.{◌≡◌, ℕ, zero, suc, ◌≤◌, ◌<◌, Bool, true, cond, eqb, List, [], ◌∷◌, ◌++◌, length, take, refl, sym, ap, ap₂, ◌∙◌, subst, arith}
 use Rattle.std.specs.Prelude.{AllPairs}
 use Rattle.wk_text_rules.specs.Titles.{PageTitle}
-use Rattle.wk_row_rules.specs.declared.Reach.{Reach}
-use Rattle.wk_row_rules.specs.PageRows.{PageRows}
+use Rattle.wk_page_rules.specs.declared.Reach.{Reach}
+use Rattle.wk_page_rules.specs.PageRows.{PageRows}
 use Rattle.wk_table_rules.specs.Changes.{TableEdit, drop_job, set_job}
-use Rattle.wk_job_rules.specs.Jobs.{FanEntry}
-use Rattle.wk_job_rules.specs.Steps.{cursor_behind, next_served}
-use Rattle.wk_job_rules.specs.Users.{users}
-use Rattle.wk_state_rules.specs.States.{State, title_at}
-use Rattle.wk_state_laws.proofs.FanServes.{users-rise}
+use Rattle.wk_wiki_rules.specs.Jobs.{FanEntry}
+use Rattle.wk_wiki_rules.specs.Steps.{cursor_behind, next_served}
+use Rattle.wk_wiki_rules.specs.Users.{users}
+use Rattle.wk_wiki_rules.specs.States.{State, title_at}
+use Rattle.wk_wiki_laws.proofs.FanServes.{users-rise}
 use Rattle.wk_wiki_rules.specs.TableChanges.{fan_change, refreshes_edits, row_of_fan, served_edit}
 use Rattle.wk_changes.specs.Parts.{are_last}
 

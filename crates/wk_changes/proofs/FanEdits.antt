@@ -8,16 +8,16 @@ use Rattle.std.proofs.lemmas.List.{append_assoc}
 use Rattle.std.proofs.lemmas.List.Folds.{list_any-append}
 use Rattle.wk_text_rules.specs.Titles.{PageTitle, title_eq}
 use Rattle.wk_page_rules.specs.History.{page_exists, page_number, page_to_save}
-use Rattle.wk_row_rules.specs.declared.Reach.{Reach}
-use Rattle.wk_row_rules.specs.declared.Reach.TheVariants.{Text, Both}
-use Rattle.wk_row_rules.specs.PageRows.{PageRows, no_rows, names}
+use Rattle.wk_page_rules.specs.declared.Reach.{Reach}
+use Rattle.wk_page_rules.specs.declared.Reach.TheVariants.{Text, Both}
+use Rattle.wk_page_rules.specs.PageRows.{PageRows, no_rows, names}
 use Rattle.wk_table_rules.specs.Changes.{TableEdit, add_job, add_revision, set_job, set_page}
 use Rattle.wk_table_laws.proofs.SavedPages.{find-passes}
-use Rattle.wk_job_rules.specs.Jobs.{FanEntry, JobLists, has_fan, has_refresh, refresh_queued, wider}
-use Rattle.wk_job_rules.specs.Steps.{reach_of_save}
-use Rattle.wk_job_rules.specs.Users.{some_page_names}
-use Rattle.wk_state_rules.specs.States.{State}
-use Rattle.wk_state_rules.specs.Events.{stored_with}
+use Rattle.wk_wiki_rules.specs.Jobs.{FanEntry, JobLists, has_fan, has_refresh, refresh_queued, wider}
+use Rattle.wk_wiki_rules.specs.Steps.{reach_of_save}
+use Rattle.wk_wiki_rules.specs.Users.{some_page_names}
+use Rattle.wk_wiki_rules.specs.States.{State}
+use Rattle.wk_wiki_rules.specs.Events.{stored_with}
 use Rattle.wk_wiki_rules.specs.TableChanges.{fan_edits, refresh_edits, row_of_fan, save_change, saved_page, saved_revision}
 use Rattle.wk_changes.specs.Parts.{is_fan_wanted}
 

@@ -3,7 +3,7 @@ use Rattle.std.proofs.Common.{◌≡◌, ℕ, true, false, eqb, List, [], ◌∷
 use Rattle.std.specs.Prelude.{Bool, find}
 use Rattle.std.specs.List.{AllByRecursion, IsDistinct, list_any}
 use Rattle.std.proofs.lemmas.Bool.{cases_Bool, eq-eqb}
-use Rattle.wk_job_rules.specs.Jobs.{RefreshEntry, JobLists, IsOneAPage, has_refresh, is_held_by}
+use Rattle.wk_wiki_rules.specs.Jobs.{RefreshEntry, JobLists, IsOneAPage, has_refresh, is_held_by}
 use Rattle.wk_jobs.specs.Entries.{job_of}
 use Rattle.wk_wiki_rules.specs.TableChanges.{job_held_by}
 

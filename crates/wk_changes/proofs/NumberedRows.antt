@@ -6,13 +6,13 @@ use Rattle.std.proofs.lemmas.List.{append-nil, append_assoc, take_more, length-t
 use Rattle.std.proofs.lemmas.Bool.{ne_eqb}
 use Rattle.std.proofs.lemmas.Option.{get_or_from_slice_get}
 use Rattle.wk_page_rules.specs.History.{History}
-use Rattle.wk_row_rules.specs.PageRows.{PageRows}
-use Rattle.wk_state_rules.specs.Tables.{link_rows, rows_of_pages}
+use Rattle.wk_page_rules.specs.PageRows.{PageRows}
+use Rattle.wk_wiki_rules.specs.Tables.{link_rows, rows_of_pages}
 use Rattle.wk_table_rules.specs.Changes.{category_row, redirect_row}
 use Rattle.std.specs.Option.{option_to_list}
-use Rattle.wk_state_laws.proofs.TableHistory.{map-push}
-use Rattle.wk_state_laws.proofs.TableJobs.{got}
-use Rattle.wk_state_rules.specs.States.{title_at}
+use Rattle.wk_wiki_laws.proofs.TableHistory.{map-push}
+use Rattle.wk_wiki_laws.proofs.TableJobs.{got}
+use Rattle.wk_wiki_rules.specs.States.{title_at}
 use Rattle.wk_tables.specs.LinkLists.{rows_of_lists}
 use Rattle.wk_changes.specs.PageLinks.{lists_of_pages, with_more}
 

@@ -9,12 +9,12 @@ use Rattle.wk_table_rules.specs.Rows.{StoreTables, newest_version}
 use Rattle.wk_table_rules.specs.Changes.{TableEdit, set_version}
 use Rattle.wk_table_rules.specs.GoodStore.{IsGood}
 use Rattle.wk_table_rules.specs.Stored.{history_of, page_of_row}
-use Rattle.wk_job_rules.specs.Jobs.{JobLists}
-use Rattle.wk_job_rules.specs.Steps.{jobs_of_tables, reopened_jobs}
+use Rattle.wk_wiki_rules.specs.Jobs.{JobLists}
+use Rattle.wk_wiki_rules.specs.Steps.{jobs_of_tables, reopened_jobs}
 use Rattle.wk_revs.proofs.RowLaws.{pages_few}
-use Rattle.wk_state_rules.specs.States.{State, title_at}
-use Rattle.wk_state_rules.specs.Tables.{state_of}
-use Rattle.wk_state_laws.proofs.ReadBack.{state-back as opened-back}
+use Rattle.wk_wiki_rules.specs.States.{State, title_at}
+use Rattle.wk_wiki_rules.specs.Tables.{state_of}
+use Rattle.wk_wiki_laws.proofs.ReadBack.{state-back as opened-back}
 use Rattle.wk_wiki_laws.proofs.StoresOpened.{state-back, kept-good}
 use Rattle.wk_wiki_rules.specs.TableChanges.{migration, refreshes_edits}
 

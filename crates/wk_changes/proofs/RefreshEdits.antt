@@ -8,9 +8,9 @@ use Rattle.std.proofs.lemmas.List.{append-nil, append_assoc, take_more}
 use Rattle.std.proofs.lemmas.List.FromFn.{get_or-range_with_len, length-range_with_len}
 use Rattle.std.proofs.lemmas.List.Sums.{fold-append}
 use Rattle.wk_text_rules.specs.Titles.{PageTitle}
-use Rattle.wk_job_rules.specs.Jobs.{JobLists, has_refresh, refresh_queued}
-use Rattle.wk_job_rules.specs.Steps.{all_queued}
-use Rattle.wk_job_rules.proofs.JobLemmas.{has_refresh-queued}
+use Rattle.wk_wiki_rules.specs.Jobs.{JobLists, has_refresh, refresh_queued}
+use Rattle.wk_wiki_rules.specs.Steps.{all_queued}
+use Rattle.wk_wiki_rules.proofs.JobLemmas.{has_refresh-queued}
 use Rattle.wk_wiki_rules.specs.TableChanges.{refresh_edits, refreshes_edits}
 
 -- ---- one page more

@@ -6,11 +6,11 @@ use Rattle.std.proofs.lemmas.List.Sorted.{IsPermutation-sym, IsPermutation-map, 
 use Rattle.std.proofs.lemmas.Map.Keys.{IsDistinct-IsPermutation}
 use Rattle.wk_text_rules.specs.Titles.{PageTitle}
 use Rattle.wk_table_rules.specs.Rows.{JobColumns}
-use Rattle.wk_job_rules.specs.Jobs.{JobLists, IsNumbered}
-use Rattle.wk_job_rules.specs.Steps.{by_number, rows_of_jobs}
-use Rattle.wk_job_rules.proofs.JobLemmas.{by_number-permutes}
-use Rattle.wk_job_rules.proofs.Lists.{eqb_flips}
-use Rattle.wk_job_laws.proofs.Order.{Sorted, Sorted-by_number}
+use Rattle.wk_wiki_rules.specs.Jobs.{JobLists, IsNumbered}
+use Rattle.wk_wiki_rules.specs.Steps.{by_number, rows_of_jobs}
+use Rattle.wk_wiki_rules.proofs.JobLemmas.{by_number-permutes}
+use Rattle.wk_wiki_rules.proofs.Lists.{eqb_flips}
+use Rattle.wk_table_laws.proofs.Order.{Sorted, Sorted-by_number}
 use Rattle.wk_jobs.proofs.Sorting.{one-sorted}
 use Rattle.wk_wiki_laws.proofs.JobChanges.{rows_in, ids-in}
 

@@ -1,4 +1,4 @@
 pub mod PageLinks
 pub mod Parts
 pub use Rattle.wk_wiki_rules.specs.TableChanges
-pub use Rattle.wk_state_rules.specs.Tables
+pub use Rattle.wk_wiki_rules.specs.Tables

@@ -2,10 +2,10 @@
 use Rattle.std.specs.Prelude.{List, ◌++◌, map}
 use Rattle.std.specs.Option.{option_to_list}
 use Rattle.wk_page_rules.specs.History.{History}
-use Rattle.wk_row_rules.specs.PageRows.{PageRows}
+use Rattle.wk_page_rules.specs.PageRows.{PageRows}
 use Rattle.wk_table_rules.specs.Changes.{category_row, redirect_row}
 use Rattle.wk_tables.specs.LinkLists.{LinkLists}
-use Rattle.wk_state_rules.specs.Tables.{link_rows, rows_of_pages}
+use Rattle.wk_wiki_rules.specs.Tables.{link_rows, rows_of_pages}
 
 -- the rows, and others behind them in each table
 abbrev pub with_more : LinkLists → LinkLists → LinkLists

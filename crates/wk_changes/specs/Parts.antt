@@ -2,11 +2,11 @@
 use Rattle.std.specs.Prelude.{ℕ, ◌==◌, ◌||◌, Bool, List, Option, length, is_some}
 use Rattle.wk_text_rules.specs.Titles.{PageTitle}
 use Rattle.wk_page_rules.specs.History.{page_exists}
-use Rattle.wk_row_rules.specs.PageRows.{PageRows}
-use Rattle.wk_job_rules.specs.Jobs.{FanEntry, has_fan}
-use Rattle.wk_job_rules.specs.Steps.{cursor_behind, next_served, reach_of_save}
-use Rattle.wk_job_rules.specs.Users.{some_page_names, users}
-use Rattle.wk_state_rules.specs.States.{State}
+use Rattle.wk_page_rules.specs.PageRows.{PageRows}
+use Rattle.wk_wiki_rules.specs.Jobs.{FanEntry, has_fan}
+use Rattle.wk_wiki_rules.specs.Steps.{cursor_behind, next_served, reach_of_save}
+use Rattle.wk_wiki_rules.specs.Users.{some_page_names, users}
+use Rattle.wk_wiki_rules.specs.States.{State}
 use Rattle.wk_revs.specs.Revs.{Stored}
 use Rattle.wk_jobs.specs.HeldJobs.{HeldJobs}
 use Rattle.wk_index.specs.Held.{Held}

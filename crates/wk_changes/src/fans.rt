@@ -1,8 +1,8 @@
 //! The change of a fan.
 ghost use Rattle.std.specs.Prelude.{◌≡◌, ◌<◌, ◌^◌, Some, IfOk, IsSome, if◌then◌else◌};
 ghost use Rattle.wk_table_rules.specs.Changes.{drop_job, set_job};
-ghost use Rattle.wk_job_rules.specs.Jobs.{FanEntry, first_fan};
-ghost use Rattle.wk_job_rules.specs.Steps.{cursor_behind, fan_pages, next_served};
+ghost use Rattle.wk_wiki_rules.specs.Jobs.{FanEntry, first_fan};
+ghost use Rattle.wk_wiki_rules.specs.Steps.{cursor_behind, fan_pages, next_served};
 ghost use Rattle.wk_wiki_rules.specs.TableChanges.{fan_change, row_of_fan};
 ghost use Rattle.wk_tables.specs.Edits.{edit_of};
 ghost use Rattle.wk_changes.specs.Parts.{are_last, parts};

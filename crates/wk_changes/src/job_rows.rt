@@ -2,8 +2,8 @@
 ghost use Rattle.std.specs.Prelude.{◌≡◌, ◌+◌, ◌<◌, ◌^◌, ◌++◌, length, map, IfOk, OnOk};
 ghost use Rattle.std.specs.List.{AllPairs};
 ghost use Rattle.wk_table_rules.specs.JobTable.{params_text, reach_word, refresh_row};
-ghost use Rattle.wk_state_rules.specs.States.{title_at};
-ghost use Rattle.wk_job_rules.specs.Jobs.{JobLists, has_refresh, refresh_queued};
+ghost use Rattle.wk_wiki_rules.specs.States.{title_at};
+ghost use Rattle.wk_wiki_rules.specs.Jobs.{JobLists, has_refresh, refresh_queued};
 ghost use Rattle.wk_wiki_rules.specs.TableChanges.{refresh_edits, refreshes_edits, row_of_fan};
 ghost use Rattle.wk_tables.specs.Edits.{edit_of};
 
@@ -11,8 +11,8 @@ use std::alloc::Global;
 use wk_bytes::Text;
 use wk_jobs::{FanJob, Jobs};
 use wk_memory::Memory;
+use wk_page_rules::Reach;
 use wk_revs::Revs;
-use wk_row_rules::Reach;
 use wk_tables::{JobRow, RowEdit};
 use wk_title::Title;
 

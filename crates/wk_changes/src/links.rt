@@ -5,7 +5,7 @@ ghost use Rattle.wk_page_rules.specs.Verdict.{max_pages};
 ghost use Rattle.wk_table_rules.specs.Changes.{category_row, link_row, redirect_row};
 ghost use Rattle.wk_table_rows.specs.Members.{member_of};
 ghost use Rattle.wk_tables.specs.LinkLists.{no_lists, rows_of_lists};
-ghost use Rattle.wk_state_rules.specs.States.{title_at};
+ghost use Rattle.wk_wiki_rules.specs.States.{title_at};
 ghost use Rattle.wk_changes.specs.PageLinks.{lists_of_pages, with_more};
 
 use std::alloc::Global;

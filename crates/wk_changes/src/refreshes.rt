@@ -1,6 +1,6 @@
 //! The change of a refresh that is done.
 ghost use Rattle.std.specs.Prelude.{◌≡◌, ℕ, true, Some, IfOk};
-ghost use Rattle.wk_job_rules.specs.Jobs.{RefreshEntry, IsOneAPage, has_refresh};
+ghost use Rattle.wk_wiki_rules.specs.Jobs.{RefreshEntry, IsOneAPage, has_refresh};
 ghost use Rattle.wk_wiki_rules.specs.TableChanges.{job_held_by, refresh_change, refresh_change_without_rows};
 
 use std::alloc::Global;

@@ -1,7 +1,7 @@
 //! The rows of revisions and pages.
 ghost use Rattle.std.specs.Prelude.{◌≡◌, [], length, unwrap_or, IfOk};
 ghost use Rattle.std.specs.Option.{option_copied};
-ghost use Rattle.wk_state_rules.specs.Tables.{revision_row};
+ghost use Rattle.wk_wiki_rules.specs.Tables.{revision_row};
 
 use std::alloc::Global;
 use wk_bytes::Text;

@@ -1,11 +1,11 @@
 //! The change of a save.
 ghost use Rattle.std.specs.Prelude.{◌≡◌, ◌+◌, ◌<◌, ◌^◌, ◌++◌, ◌∷◌, ◌||◌, [], map, List, IfOk, OnOk};
 ghost use Rattle.std.specs.Option.{option_copied, option_to_list};
-ghost use Rattle.wk_row_rules.specs.PageRows.{PageRows};
+ghost use Rattle.wk_page_rules.specs.PageRows.{PageRows};
 ghost use Rattle.wk_table_rules.specs.Changes.{add_revision, set_page};
-ghost use Rattle.wk_job_rules.specs.Jobs.{JobLists, has_fan, refresh_queued, wider};
-ghost use Rattle.wk_job_rules.specs.Steps.{reach_of_save};
-ghost use Rattle.wk_job_rules.specs.Users.{some_page_names};
+ghost use Rattle.wk_wiki_rules.specs.Jobs.{JobLists, has_fan, refresh_queued, wider};
+ghost use Rattle.wk_wiki_rules.specs.Steps.{reach_of_save};
+ghost use Rattle.wk_wiki_rules.specs.Users.{some_page_names};
 ghost use Rattle.wk_wiki_rules.specs.TableChanges.{fan_edits, refresh_edits, save_change, saved_page, saved_revision};
 ghost use Rattle.wk_tables.specs.Edits.{edit_of};
 ghost use Rattle.wk_changes.specs.Parts.{is_fan_wanted, parts};
@@ -17,8 +17,8 @@ use wk_bytes::Text;
 use wk_index::Index;
 use wk_jobs::{FanJob, Jobs};
 use wk_memory::Memory;
+use wk_page_rules::Reach;
 use wk_revs::Revs;
-use wk_row_rules::Reach;
 use wk_tables::{Change, PageRow, RevisionRow, RowEdit};
 use wk_title::Title;
 

@@ -4,7 +4,7 @@ use Rattle.wk_base.specs.Faults.{Rose}
 use Rattle.wk_page_rules.specs.Verdict.{MostHeld}
 use Rattle.wk_table_rules.specs.GoodStore.{first_broken}
 use Rattle.wk_table_rules.specs.Rows.{StoreTables}
-use Rattle.wk_state_rules.specs.Lives.{opened}
+use Rattle.wk_wiki_rules.specs.Lives.{opened}
 use Rattle.wk_commands.specs.Worked.{limits_with_journal}
 use Rattle.wk_core.specs.Limits.{AreWithinFull}
 use Rattle.wk_core.specs.Loads.{HasOpened, bad_store_of}

@@ -3,7 +3,7 @@ use Rattle.std.specs.Prelude.{◌≡◌, ◌≤◌, ℕ, Bool, true, [], Option,
 use Rattle.wk_base.specs.Faults.{Rose}
 use Rattle.wk_table_rules.specs.GoodStore.{first_broken}
 use Rattle.wk_table_rules.specs.Rows.{StoreTables}
-use Rattle.wk_state_rules.specs.Lives.{opened}
+use Rattle.wk_wiki_rules.specs.Lives.{opened}
 use Rattle.wk_core.specs.Loads.{HasOpened, bad_store_of}
 use Rattle.wk_core.specs.Seen.{WikiSeen}
 use Rattle.wk_core.specs.declared.outcomes.LoadCause.{LoadCause}

@@ -9,10 +9,9 @@ use crate::works::ended;
 use std::alloc::Global;
 use std::sync::Wait;
 use std::thread::Threads;
-use wk_base::{Clock, Sink};
+use wk_base::{Clock, Gate, Sink};
 use wk_commands::{Serving, serve_over};
 use wk_door::Door;
-use wk_gate::Gate;
 use wk_keeper::{OpenRefusal, Vault};
 
 /// Opens the store of a name and serves the connections that come in by the door over its wiki, whose journal takes at most so

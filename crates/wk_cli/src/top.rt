@@ -15,10 +15,9 @@ use crate::works::work;
 use std::alloc::Global;
 use std::sync::Wait;
 use std::thread::Threads;
-use wk_base::{Clock, Sink, Source};
+use wk_base::{Clock, Gate, Sink, Source};
 use wk_commands::{Hands, Serving, Work};
 use wk_door::Door;
-use wk_gate::Gate;
 use wk_keeper::Vault;
 use wk_words::{Command, CommandLine, Refusal, read};
 

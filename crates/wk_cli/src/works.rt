@@ -9,10 +9,9 @@ use crate::ends::{Finish, bad_of_cause, status_of_cause, unopened};
 use std::alloc::Global;
 use std::sync::Wait;
 use std::thread::Threads;
-use wk_base::{Clock, Sink};
+use wk_base::{Clock, Gate, Sink};
 use wk_commands::{CommandEnd, Hands, Work, Worked, work_over};
 use wk_core::{BadStore, LoadCause};
-use wk_gate::Gate;
 use wk_keeper::{OpenRefusal, Vault};
 
 /// The status with which a command over a wiki ends.

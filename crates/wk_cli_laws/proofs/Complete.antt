@@ -4,7 +4,7 @@ use Rattle.wk_base.specs.Faults.{Rose}
 use Rattle.wk_table_rules.specs.GoodStore.{first_broken}
 use Rattle.wk_table_rules.specs.Rows.{StoreTables}
 use Rattle.wk_page_rules.specs.Verdict.{EditAsked}
-use Rattle.wk_state_rules.specs.States.{State}
+use Rattle.wk_wiki_rules.specs.States.{State}
 use Rattle.wk_answer_rules.specs.Values.{ApiReply}
 use Rattle.wk_revs.specs.declared.verdict.SaveRefusal.{SaveRefusal}
 use Rattle.wk_revs.specs.declared.verdict.SaveRefusal.TheVariants as refusal

@@ -5,10 +5,10 @@ use Rattle.wk_page_rules.specs.Verdict.{EditAsked, MostHeld, Refusal, max_job, r
 use Rattle.wk_page_rules.specs.Verdict as judged
 use Rattle.wk_table_rules.specs.GoodStore.{first_broken}
 use Rattle.wk_table_rules.specs.Rows.{StoreTables}
-use Rattle.wk_state_rules.specs.States.{State}
-use Rattle.wk_state_rules.specs.Events.{Event}
-use Rattle.wk_state_rules.specs.Lives.{opened}
-use Rattle.wk_state_rules.specs.Verdicts.{verdict_in}
+use Rattle.wk_wiki_rules.specs.States.{State}
+use Rattle.wk_wiki_rules.specs.Events.{Event}
+use Rattle.wk_wiki_rules.specs.Lives.{opened}
+use Rattle.wk_wiki_rules.specs.Verdicts.{verdict_in}
 use Rattle.wk_wiki_rules.specs.Starts.{Start}
 use Rattle.wk_tool_rules.specs.Generator.{generated}
 use Rattle.wk_tool_rules.specs.Saving.{SavesMade, saves_made}
@@ -21,8 +21,8 @@ use Rattle.wk_core.specs.declared.outcomes.LoadCause.{LoadCause}
 use Rattle.wk_core.specs.declared.outcomes.LoadCause.TheVariants as cause
 use Rattle.wk_tools.specs.Drains.{CanBeFull}
 use Rattle.wk_tools.specs.Saves.{HasSaved, IsRefusedAt, made_of}
-use Rattle.wk_command_laws.proofs.Ahead.{pages-ahead}
-use Rattle.wk_command_laws.proofs.Fits.{edit-refused}
+use Rattle.wk_cli_laws.proofs.Ahead.{pages-ahead}
+use Rattle.wk_cli_laws.proofs.Fits.{edit-refused}
 use Rattle.wk_commands.specs.Generated.{IsGenerated, end_of_refusal}
 use Rattle.wk_commands.specs.Generated as made
 use Rattle.wk_commands.specs.Served.{HasServedAt}

@@ -1,13 +1,13 @@
 -- Why a command finds no room for what it has to do (own).
 use Rattle.std.specs.Prelude.{◌≡◌, ◌⊎◌, ◌+◌, ◌*◌, ◌<◌, ℕ, List, length, slice_get, take, None, Some, IfSome}
 use Rattle.wk_page_rules.specs.Verdict.{EditAsked, Refusal, max_job, refuse}
-use Rattle.wk_state_rules.specs.States.{State}
-use Rattle.wk_state_rules.specs.Lives.{opened}
-use Rattle.wk_state_rules.specs.Verdicts.{verdict_in}
+use Rattle.wk_wiki_rules.specs.States.{State}
+use Rattle.wk_wiki_rules.specs.Lives.{opened}
+use Rattle.wk_wiki_rules.specs.Verdicts.{verdict_in}
 use Rattle.wk_tool_rules.specs.Generator.{generated}
 use Rattle.wk_tool_rules.specs.Saving.{SavesMade, saves_made}
 use Rattle.wk_tools.specs.Drains.{HasNoJob}
-use Rattle.wk_command_laws.specs.Room.{IsForRoom}
+use Rattle.wk_cli_laws.specs.Room.{IsForRoom}
 use Rattle.wk_commands.specs.Worked.{limits_with_journal}
 use Rattle.wk_commands.specs.declared.works.Work.{Work}
 use Rattle.wk_commands.specs.declared.works.Work.TheVariants.{Check, Jobs, Generate}

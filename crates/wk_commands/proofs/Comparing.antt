@@ -2,7 +2,7 @@
 use Rattle.std.proofs.Common.{◌≡◌, ◌≢◌, ◌==◌, ℕ, Bool, true, false, eqb, List, [], ◌∷◌, length, Option, refl, sym, ap, ◌∙◌, subst, arith}
 use Rattle.std.proofs.KnownBytes.{Keeps-refl}
 use Rattle.std.proofs.lemmas.Bool.{false≢true, ne_eqb}
-use Rattle.wk_state_rules.specs.States.{State}
+use Rattle.wk_wiki_rules.specs.States.{State}
 use Rattle.wk_tool_rules.specs.Checks.{differing}
 use Rattle.wk_commands.specs.Checked.{IsCompared}
 use Rattle.wk_commands.specs.Written.{HasWritten, end_of_comparison}

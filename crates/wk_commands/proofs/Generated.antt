@@ -3,7 +3,7 @@ use Rattle.std.proofs.Common.{◌≡◌, ◌≢◌, ℕ, ◌≤◌, Bool, true, 
 use Rattle.std.specs.Io.KnownBytes.{Keeps}
 use Rattle.std.proofs.KnownBytes.{Keeps-refl}
 use Rattle.wk_page_rules.specs.Verdict.{EditAsked}
-use Rattle.wk_state_rules.specs.Soundness.{IsSound}
+use Rattle.wk_wiki_rules.specs.Soundness.{IsSound}
 use Rattle.wk_wiki_rules.specs.Starts.{Start}
 use Rattle.wk_tool_rules.specs.Checks.{gen_text}
 use Rattle.wk_tool_laws.proofs.Differing.{none-differs}

@@ -1,14 +1,14 @@
 -- Lives of a wiki that was opened.
 use Rattle.std.proofs.Common.{◌≡◌, List, [], ◌∷◌, ◌++◌, length, Some, refl, sym, ap, ◌∙◌, append_assoc, subst}
 use Rattle.std.specs.Prelude.{option_and_then}
-use Rattle.wk_job_rules.specs.Steps.{fan_pages}
-use Rattle.wk_state_rules.specs.States.{State}
-use Rattle.wk_state_rules.specs.Events.{Event}
-use Rattle.wk_state_rules.specs.Lives.{LivesOfStore, last_state, opened, replay, replay_from}
-use Rattle.wk_state_rules.specs.Soundness.{IsSound}
-use Rattle.wk_state_rules.specs.Tables.{tables_of}
-use Rattle.wk_state_laws.specs.WellFormed.{IsWellFormed}
-use Rattle.wk_state_laws.proofs.Always.{IsSound-lives_of_store}
+use Rattle.wk_wiki_rules.specs.Steps.{fan_pages}
+use Rattle.wk_wiki_rules.specs.States.{State}
+use Rattle.wk_wiki_rules.specs.Events.{Event}
+use Rattle.wk_wiki_rules.specs.Lives.{LivesOfStore, last_state, opened, replay, replay_from}
+use Rattle.wk_wiki_rules.specs.Soundness.{IsSound}
+use Rattle.wk_wiki_rules.specs.Tables.{tables_of}
+use Rattle.wk_wiki_laws.specs.WellFormed.{IsWellFormed}
+use Rattle.wk_wiki_laws.proofs.Always.{IsSound-lives_of_store}
 use Rattle.wk_wiki_rules.specs.Starts.{Start}
 use Rattle.wk_life_laws.specs.Runs.{IsRun}
 use Rattle.wk_life_laws.proofs.RunFacts.{run_kept, run_opened}

@@ -7,9 +7,9 @@ use Rattle.std.proofs.KnownBytes.{Appends-nil, Appends-trans}
 use mathlib.Core.List.{IsPrefix}
 use Rattle.wk_base.specs.Faults.{Rose}
 use Rattle.wk_base.specs.Writing.{AppendsPrefix}
-use Rattle.wk_state_rules.specs.States.{State}
-use Rattle.wk_state_rules.specs.Lives.{replay}
-use Rattle.wk_state_laws.specs.Saves.{Continues, saves}
+use Rattle.wk_wiki_rules.specs.States.{State}
+use Rattle.wk_wiki_rules.specs.Lives.{replay}
+use Rattle.wk_wiki_laws.specs.Saves.{Continues, saves}
 use Rattle.wk_wiki_rules.specs.Starts.{Start}
 use Rattle.wk_life_laws.specs.Runs.{IsRun}
 use Rattle.wk_life_laws.proofs.RunFacts.{run_replayed}

@@ -1,6 +1,6 @@
 -- What a check does (own).
 use Rattle.std.specs.Prelude.{◌≡◌, ◌≢◌, ℕ, List, [], Option}
-use Rattle.wk_state_rules.specs.States.{State}
+use Rattle.wk_wiki_rules.specs.States.{State}
 use Rattle.wk_tool_rules.specs.Checks.{differing}
 use Rattle.wk_commands.specs.Written.{HasWritten}
 use Rattle.wk_commands.specs.declared.ends.CommandEnd.{CommandEnd}

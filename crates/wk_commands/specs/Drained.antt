@@ -1,6 +1,6 @@
 -- What a drain does as a command (own).
 use Rattle.std.specs.Prelude.{◌≡◌, ◌≢◌, ◌⊎◌, ℕ, ◌≤◌, Bool, true, List, Option}
-use Rattle.wk_state_rules.specs.Soundness.{IsSound}
+use Rattle.wk_wiki_rules.specs.Soundness.{IsSound}
 use Rattle.wk_tool_rules.specs.Checks.{jobs_text}
 use Rattle.wk_core.specs.Seen.{WikiSeen}
 use Rattle.wk_tools.specs.Drains.{CanBeFull, HasNoJob}

@@ -3,7 +3,7 @@ use Rattle.std.specs.Prelude.{◌≡◌, ◌≢◌, ◌⊎◌, ℕ, ◌≤◌, B
 use Rattle.std.specs.Io.KnownBytes.{Keeps}
 use Rattle.wk_base.specs.Faults.{Rose}
 use Rattle.wk_page_rules.specs.Verdict.{EditAsked}
-use Rattle.wk_state_rules.specs.States.{State}
+use Rattle.wk_wiki_rules.specs.States.{State}
 use Rattle.wk_tool_rules.specs.Checks.{differing, gen_text}
 use Rattle.wk_core.specs.Seen.{WikiSeen}
 use Rattle.wk_revs.specs.declared.verdict.SaveRefusal.{SaveRefusal}

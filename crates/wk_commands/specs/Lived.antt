@@ -1,8 +1,8 @@
 -- Lives of a wiki that was opened (own).
 use Rattle.std.specs.Prelude.{◌≡◌, List, [], ◌∷◌, Some}
-use Rattle.wk_state_rules.specs.States.{State}
-use Rattle.wk_state_rules.specs.Events.{Event}
-use Rattle.wk_state_rules.specs.Lives.{Lives, replay}
+use Rattle.wk_wiki_rules.specs.States.{State}
+use Rattle.wk_wiki_rules.specs.Events.{Event}
+use Rattle.wk_wiki_rules.specs.Lives.{Lives, replay}
 
 -- The journals are lives from the state on, and end in the last one: the first goes on from the state as it is, and each
 -- later one begins with a restart.

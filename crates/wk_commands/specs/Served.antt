@@ -4,7 +4,7 @@ use Rattle.std.specs.Io.KnownBytes.{Appends}
 use mathlib.Core.List.{IsPrefix}
 use Rattle.wk_base.specs.Faults.{Rose}
 use Rattle.wk_base.specs.Writing.{AppendsPrefix}
-use Rattle.wk_state_rules.specs.Soundness.{IsSound}
+use Rattle.wk_wiki_rules.specs.Soundness.{IsSound}
 use Rattle.wk_core.specs.Seen.{WikiSeen}
 use Rattle.wk_door.specs.Entrances.{after_giving, is_emptied}
 use Rattle.wk_door.specs.Told.{DoorTold, counts_of, listening}

@@ -7,9 +7,8 @@ ghost use Rattle.wk_commands.specs.Drained.{EndsJobs, IsDrained};
 use crate::ends::{CommandEnd, write_text};
 use std::sync::Wait;
 use std::thread::Threads;
-use wk_base::Sink;
+use wk_base::{Gate, Sink};
 use wk_core::{Keeper, Wiki};
-use wk_gate::Gate;
 use wk_serving::{DrainEnd, drain_wiki};
 
 /// How `jobs` ends where its drain ended so: where no job is left, the line is written.

@@ -6,7 +6,7 @@ ghost use Rattle.wk_commands.specs.Written.{HasWritten, end_of_comparison};
 use wk_base::{Sink, write_all};
 
 /// How a command over a wiki ends.
-#[derive(Clone, Copy, Debug, PartialEq, Eq)]
+#[derive(Clone, Copy, PartialEq, Eq)]
 pub enum CommandEnd {
     /// All was done and written, and no page differs, where pages were compared.
     Done,

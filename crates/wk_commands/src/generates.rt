@@ -1,7 +1,7 @@
 //! The command `gen`.
 ghost use Rattle.std.specs.Prelude.{◌≡◌, ◌≢◌, ◌≤◌, ◌==◌, IfOk, None, length, string_bytes, true};
 ghost use Rattle.wk_base.specs.Faults.{Rose};
-ghost use Rattle.wk_state_rules.specs.Soundness.{IsSound};
+ghost use Rattle.wk_wiki_rules.specs.Soundness.{IsSound};
 ghost use Rattle.wk_core.specs.Loads.{HasOpened};
 ghost use Rattle.wk_tool_rules.specs.Checks.{differing, gen_text};
 ghost use Rattle.wk_tool_rules.specs.Generator.{generated};
@@ -13,9 +13,8 @@ use crate::ends::{CommandEnd, write_text};
 use crate::lines::gen_text;
 use std::sync::Wait;
 use std::thread::Threads;
-use wk_base::{Clock, Sink};
+use wk_base::{Clock, Gate, Sink};
 use wk_core::{Keeper, SaveRefusal, Wiki};
-use wk_gate::Gate;
 use wk_memory::Memory;
 use wk_serving::{DrainEnd, drain_wiki};
 use wk_tools::{check, generate};

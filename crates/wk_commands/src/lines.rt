@@ -1,6 +1,6 @@
 //! What commands print.
 ghost use Rattle.std.specs.Prelude.{◌≡◌, ◌++◌, IfOk, OnOk, flat_map, length, string_bytes};
-ghost use Rattle.wk_state_rules.specs.States.{State};
+ghost use Rattle.wk_wiki_rules.specs.States.{State};
 ghost use Rattle.wk_tool_rules.specs.Checks.{differing, differ_line};
 ghost use Rattle.wk_commands.specs.Texts.{check_counts, gen_counts};
 

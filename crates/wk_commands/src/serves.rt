@@ -10,15 +10,14 @@ use crate::ends::CommandEnd;
 use std::alloc::Global;
 use std::sync::Wait;
 use std::thread::Threads;
-use wk_base::{Clock, Sink, write_all};
+use wk_base::{Clock, Gate, Sink, write_all};
 use wk_core::{Keeper, Wiki};
 use wk_door::Door;
-use wk_gate::Gate;
 use wk_memory::Memory;
 use wk_serving::{Served, Shut, Taken, serve_wiki};
 
 /// What is asked of `serve`.
-#[derive(Clone, Copy, Debug, PartialEq, Eq)]
+#[derive(Clone, Copy, PartialEq, Eq)]
 pub struct Serving<'a> {
     /// The address at which connections come in.
     pub address: &'a str,

@@ -6,7 +6,7 @@ ghost use Rattle.wk_revs.specs.Edit.{most_held};
 ghost use Rattle.wk_core.specs.Limits.{AreWithinFull};
 ghost use Rattle.wk_core.specs.Loads.{HasOpened};
 ghost use Rattle.wk_core.specs.Seen.{IsTold, failed_where};
-ghost use Rattle.wk_state_rules.specs.Soundness.{IsSound};
+ghost use Rattle.wk_wiki_rules.specs.Soundness.{IsSound};
 ghost use Rattle.wk_commands.specs.Lived.{HasLivedOn};
 ghost use Rattle.wk_commands.specs.Worked.{IsServedOn, IsWorked, IsWorkedOn, limits_with_journal};
 
@@ -18,13 +18,12 @@ use crate::serves::{Serving, serve_links};
 use std::alloc::Global;
 use std::sync::Wait;
 use std::thread::Threads;
-use wk_base::{Clock, Sink};
+use wk_base::{Clock, Gate, Sink};
 use wk_core::{Keeper, Limits, LoadCause, LoadRefusal, Wiki};
 use wk_door::Door;
-use wk_gate::Gate;
 
 /// What is asked of a wiki.
-#[derive(Clone, Copy, Debug, PartialEq, Eq)]
+#[derive(Clone, Copy, PartialEq, Eq)]
 pub enum Work {
     /// The link rows of each page are compared with those of a new expansion ([`check_pages`](crate::check_pages)).
     Check,
@@ -49,7 +48,7 @@ pub struct Worked<K> {
 }
 
 /// The workers of a command: how many, and the gate of which each has a copy.
-#[derive(Clone, Copy, Debug, PartialEq, Eq)]
+#[derive(Clone, Copy, PartialEq, Eq)]
 pub struct Hands<G> {
     /// How many workers do the jobs.
     pub procs: u64,

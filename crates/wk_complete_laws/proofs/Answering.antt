@@ -9,8 +9,8 @@ use Rattle.wk_table_rules.specs.Rows.{StoreTables}
 use Rattle.wk_text_rules.specs.Titles.{PageTitle}
 use Rattle.wk_page_rules.specs.History.{page_exists}
 use Rattle.wk_page_rules.specs.Verdict.{MostHeld, real_title}
-use Rattle.wk_state_rules.specs.States.{State}
-use Rattle.wk_state_rules.specs.Events.{Event}
+use Rattle.wk_wiki_rules.specs.States.{State}
+use Rattle.wk_wiki_rules.specs.Events.{Event}
 use Rattle.wk_wiki_rules.specs.Passes.{PassSeen, state_seen}
 use Rattle.wk_request_rules.specs.Requests.{ParsedRequest, Request, parse, valid}
 use Rattle.wk_answer_rules.specs.ApiErrors.{futurepoint, invalidtitle, missingtitle}

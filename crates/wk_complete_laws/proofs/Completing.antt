@@ -9,9 +9,9 @@ use Rattle.wk_table_rules.specs.Rows.{StoreTables}
 use Rattle.wk_page_rules.specs.History.{History}
 use Rattle.wk_page_rules.specs.Verdict.{EditAsked, Refusal, Verdict, refuse, no_change, accept}
 use Rattle.wk_view_rules.specs.Worlds.{Read, World, mark}
-use Rattle.wk_state_rules.specs.States.{State, world_of}
-use Rattle.wk_state_rules.specs.Events.{Event, Back, Done}
-use Rattle.wk_state_rules.specs.Verdicts.{event_of, verdict_in}
+use Rattle.wk_wiki_rules.specs.States.{State, world_of}
+use Rattle.wk_wiki_rules.specs.Events.{Event, Back, Done}
+use Rattle.wk_wiki_rules.specs.Verdicts.{event_of, verdict_in}
 use Rattle.wk_wiki_rules.specs.SaveOutcomes.{SaveOutcome, save_outcome}
 use Rattle.wk_wiki_rules.specs.Staleness.{StaleRead, event_of_finish, first_stale, is_stale, present_mark, stale_read}
 use Rattle.wk_wiki_rules.specs.Starts.{Start}

@@ -1,8 +1,8 @@
 -- What requests are answered where no store fails and memory doesn't run out (own). A point is the length of a journal.
 use Rattle.std.specs.Prelude.{◌≡◌, ℕ, List, [], ◌∷◌, Option, Some, None, IfSome, slice_get}
 use Rattle.wk_text_rules.specs.Titles.{PageTitle}
-use Rattle.wk_state_rules.specs.States.{State}
-use Rattle.wk_state_rules.specs.Events.{Event}
+use Rattle.wk_wiki_rules.specs.States.{State}
+use Rattle.wk_wiki_rules.specs.Events.{Event}
 use Rattle.wk_wiki_rules.specs.Passes.{PassSeen}
 use Rattle.wk_request_rules.specs.Requests.{ParsedRequest}
 use Rattle.wk_answer_rules.specs.ApiErrors.{api_error, nomemory}

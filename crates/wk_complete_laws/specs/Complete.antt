@@ -3,9 +3,9 @@ use Rattle.std.specs.Prelude.{◌≡◌, ◌≢◌, ℕ, ◌-◌, ◌<◌, ◌^�
 use Rattle.wk_page_rules.specs.History.{History}
 use Rattle.wk_page_rules.specs.Verdict.{EditAsked, Verdict, refuse, no_change, accept}
 use Rattle.wk_view_rules.specs.Worlds.{Read, World, mark}
-use Rattle.wk_state_rules.specs.States.{State, world_of}
-use Rattle.wk_state_rules.specs.Events.{Event}
-use Rattle.wk_state_rules.specs.Verdicts.{event_of, verdict_in}
+use Rattle.wk_wiki_rules.specs.States.{State, world_of}
+use Rattle.wk_wiki_rules.specs.Events.{Event}
+use Rattle.wk_wiki_rules.specs.Verdicts.{event_of, verdict_in}
 use Rattle.wk_wiki_rules.specs.SaveOutcomes.{save_outcome}
 use Rattle.wk_wiki_rules.specs.Staleness.{event_of_finish, first_stale, present_mark}
 use Rattle.wk_wiki_rules.specs.Starts.{Start}

@@ -2,9 +2,9 @@
 use Rattle.std.specs.Prelude.{pos, true, false, [], ◌∷◌, codes, Some, None}
 use Rattle.wk_text_rules.specs.Titles.{PageTitle}
 use Rattle.wk_page_rules.specs.Verdict.{full_limits}
-use Rattle.wk_row_rules.specs.PageRows.{no_rows}
-use Rattle.wk_state_rules.specs.States.{State, no_state}
-use Rattle.wk_state_rules.specs.Events.{Event, Save}
+use Rattle.wk_page_rules.specs.PageRows.{no_rows}
+use Rattle.wk_wiki_rules.specs.States.{State, no_state}
+use Rattle.wk_wiki_rules.specs.Events.{Event, Save}
 use Rattle.wk_wiki_rules.specs.Passes.{PassSeen}
 use Rattle.wk_wiki_rules.specs.Starts.{Start}
 use Rattle.wk_request_rules.specs.Requests.{ParsedRequest, edit, parse, valid}

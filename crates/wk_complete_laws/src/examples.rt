@@ -3,7 +3,7 @@ ghost use Rattle.std.specs.Prelude.{◌≡◌, ◌≤◌, ◌∷◌, [], true, c
 ghost use Rattle.serde_json.specs.Written.{compact_text};
 ghost use Rattle.wk_page_rules.specs.History.{page_exists};
 ghost use Rattle.wk_page_rules.specs.Verdict.{real_title};
-ghost use Rattle.wk_state_rules.specs.States.{State};
+ghost use Rattle.wk_wiki_rules.specs.States.{State};
 ghost use Rattle.wk_wiki_rules.specs.Passes.{state_seen};
 ghost use Rattle.wk_shared.specs.Calls.{MayFail};
 ghost use Rattle.wk_session_rules.specs.Replies.{IsAnswered};

@@ -3,7 +3,7 @@ ghost use Rattle.std.specs.Prelude.{◌≡◌, ◌≤◌, ◌⊎◌, ℕ, Bool, 
 ghost use Rattle.wk_text_rules.specs.Titles.{PageTitle};
 ghost use Rattle.wk_page_rules.specs.History.{page_exists};
 ghost use Rattle.wk_page_rules.specs.Verdict.{real_title};
-ghost use Rattle.wk_state_rules.specs.States.{State};
+ghost use Rattle.wk_wiki_rules.specs.States.{State};
 ghost use Rattle.wk_wiki_rules.specs.Passes.{PassSeen, state_seen};
 ghost use Rattle.wk_wiki_rules.specs.Starts.{Start};
 ghost use Rattle.wk_shared.specs.Calls.{MayFail};

@@ -1,8 +1,8 @@
 //! Calls of a wiki over a whole store, which it is over behind each of them too.
 ghost use Rattle.std.specs.Prelude.{◌≡◌, ◌≢◌, Err, None};
-ghost use Rattle.wk_state_rules.specs.States.{world_of};
-ghost use Rattle.wk_state_rules.specs.Events.{Back};
-ghost use Rattle.wk_state_rules.specs.Verdicts.{event_of};
+ghost use Rattle.wk_wiki_rules.specs.States.{world_of};
+ghost use Rattle.wk_wiki_rules.specs.Events.{Back};
+ghost use Rattle.wk_wiki_rules.specs.Verdicts.{event_of};
 ghost use Rattle.wk_wiki_rules.specs.SaveOutcomes.{deletion};
 ghost use Rattle.wk_wiki_rules.specs.Staleness.{event_of_finish};
 ghost use Rattle.wk_revs.specs.Edit.{edit_asked};

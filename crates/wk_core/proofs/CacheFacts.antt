@@ -3,11 +3,11 @@ use Rattle.std.proofs.Common.{◌≡◌, ℕ, Result, Ok, Err, List, length, Opt
 use Rattle.std.specs.Prelude.{IfOk, IfSome, OnErr, OnOk}
 use Rattle.wk_text_rules.specs.Titles.{PageTitle}
 use Rattle.wk_table_rules.specs.Rows.{StoreTables}
-use Rattle.wk_job_rules.specs.Steps.{fan_pages}
-use Rattle.wk_state_rules.specs.States.{State}
-use Rattle.wk_state_rules.specs.Events.{Event, step}
-use Rattle.wk_call_laws.specs.Caches.{IsLastingEntry}
-use Rattle.wk_call_laws.proofs.LastingEntries.{lasting-stepped}
+use Rattle.wk_wiki_rules.specs.Steps.{fan_pages}
+use Rattle.wk_wiki_rules.specs.States.{State}
+use Rattle.wk_wiki_rules.specs.Events.{Event, step}
+use Rattle.wk_life_laws.specs.Caches.{IsLastingEntry}
+use Rattle.wk_life_laws.proofs.LastingEntries.{lasting-stepped}
 use Rattle.wk_life_laws.specs.Lives.{Life, journal_of}
 use Rattle.wk_life_laws.specs.Next.{IsNext}
 use Rattle.wk_cache.specs.Entries.{CacheShown, entry_kept, entry_of, kept_with, to_front}

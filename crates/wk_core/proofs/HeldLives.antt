@@ -5,11 +5,11 @@ use Rattle.std.specs.Prelude.{IsSome}
 use Rattle.wk_text_rules.specs.Titles.{PageTitle}
 use Rattle.wk_page_rules.specs.History.{Revision, next_revision}
 use Rattle.wk_page_rules.specs.Verdict.{accept, max_journal}
-use Rattle.wk_job_rules.specs.Jobs.{JobLists, claimed_by, first_queued, given_back, page_held_by}
-use Rattle.wk_job_rules.specs.Steps.{after_fan, fan_pages}
-use Rattle.wk_state_rules.specs.States.{State}
-use Rattle.wk_state_rules.specs.Events.{Event, Save, Claim, Done, Back, Fan, step, with_jobs, with_refreshed, with_saved}
-use Rattle.wk_state_laws.specs.Saves.{Continues, PageSave, save_of, saves}
+use Rattle.wk_wiki_rules.specs.Jobs.{JobLists, claimed_by, first_queued, given_back, page_held_by}
+use Rattle.wk_wiki_rules.specs.Steps.{after_fan, fan_pages}
+use Rattle.wk_wiki_rules.specs.States.{State}
+use Rattle.wk_wiki_rules.specs.Events.{Event, Save, Claim, Done, Back, Fan, step, with_jobs, with_refreshed, with_saved}
+use Rattle.wk_wiki_laws.specs.Saves.{Continues, PageSave, save_of, saves}
 use Rattle.wk_wiki_rules.specs.Entries.{entries_from}
 use Rattle.wk_wiki_rules.specs.Room.{is_claim_refused, is_fan_refused, tickets_out}
 use Rattle.wk_wiki_rules.specs.declared.Entry.{Entry}

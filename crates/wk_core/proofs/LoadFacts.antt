@@ -3,11 +3,11 @@ use Rattle.std.proofs.Common.{◌≡◌, ℕ, ◌+◌, ◌≤◌, Bool, true, fa
 use Rattle.wk_page_rules.specs.Verdict.{MostHeld, full_limits, max_journal}
 use Rattle.wk_table_rules.specs.Rows.{StoreTables, newest_version}
 use Rattle.wk_table_rules.specs.GoodStore.{IsGood, first_broken}
-use Rattle.wk_job_rules.specs.Steps.{reopened_jobs}
-use Rattle.wk_state_rules.specs.States.{State}
-use Rattle.wk_state_rules.specs.Lives.{all_refreshed, opened, reopened}
-use Rattle.wk_state_rules.specs.Tables.{state_of, tables_of}
-use Rattle.wk_state_laws.specs.Reached.{IsWithinFull}
+use Rattle.wk_wiki_rules.specs.Steps.{reopened_jobs}
+use Rattle.wk_wiki_rules.specs.States.{State}
+use Rattle.wk_wiki_rules.specs.Lives.{all_refreshed, opened, reopened}
+use Rattle.wk_wiki_rules.specs.Tables.{state_of, tables_of}
+use Rattle.wk_wiki_laws.specs.Reached.{IsWithinFull}
 use Rattle.wk_wiki_rules.specs.Room.{tickets_out}
 use Rattle.wk_wiki_rules.specs.Starts.{StartKept, kept_of}
 use Rattle.wk_wiki_laws.proofs.Room.{out-reopened}

@@ -7,19 +7,19 @@ use Rattle.std.proofs.lemmas.List.Elements.{All-from_recursion, recursion_from_A
 use Rattle.std.proofs.lemmas.List.Folds.{list_any-append}
 use Rattle.std.proofs.lemmas.Slice.Eq.{bytes_eq-Decides}
 use Rattle.wk_text_rules.specs.Titles.{PageTitle, title_eq}
-use Rattle.wk_row_rules.specs.PageRows.{Member, PageRows, no_rows}
+use Rattle.wk_page_rules.specs.PageRows.{Member, PageRows, no_rows}
 use Rattle.wk_view_laws.proofs.PlanLemmas.{title_eq-same}
 use Rattle.wk_view_rules.specs.Rows.{rows}
 use Rattle.wk_table_rules.specs.Changes.{TableEdit}
-use Rattle.wk_job_rules.specs.Jobs.{JobLists, RefreshEntry, IsOneAPage, first_queued, has_claimed, has_refresh, is_claimed, is_queued, page_held_by, refresh_dropped}
-use Rattle.wk_job_rules.specs.Steps.{fan_pages}
-use Rattle.wk_state_rules.specs.States.{State, page_at, stored_at, title_at, world_of}
-use Rattle.wk_state_rules.specs.Events.{Claim, Done, Back, with_jobs, with_refreshed}
-use Rattle.wk_state_rules.specs.Tables.{tables_of}
-use Rattle.wk_state_laws.specs.Kept.{IsKept}
-use Rattle.wk_state_laws.specs.WellFormed.{IsWellFormed}
+use Rattle.wk_wiki_rules.specs.Jobs.{JobLists, RefreshEntry, IsOneAPage, first_queued, has_claimed, has_refresh, is_claimed, is_queued, page_held_by, refresh_dropped}
+use Rattle.wk_wiki_rules.specs.Steps.{fan_pages}
+use Rattle.wk_wiki_rules.specs.States.{State, page_at, stored_at, title_at, world_of}
+use Rattle.wk_wiki_rules.specs.Events.{Claim, Done, Back, with_jobs, with_refreshed}
+use Rattle.wk_wiki_rules.specs.Tables.{tables_of}
+use Rattle.wk_wiki_laws.specs.Kept.{IsKept}
+use Rattle.wk_wiki_laws.specs.WellFormed.{IsWellFormed}
 use Rattle.wk_page_rules.specs.History.{Page}
-use Rattle.wk_state_laws.proofs.Refreshed.{held-within}
+use Rattle.wk_wiki_laws.proofs.Refreshed.{held-within}
 use Rattle.wk_wiki_rules.specs.TableChanges.{job_held_by, refresh_change, refresh_change_without_rows}
 use Rattle.wk_wiki_laws.specs.Makes.{Makes}
 use Rattle.wk_wiki_laws.proofs.ChangesMade.{back-step, claim-step, refresh-step, refresh-step-same}
@@ -28,7 +28,7 @@ use Rattle.wk_life_laws.specs.Lives.{Life, IsLife, journal_of, start_of}
 use Rattle.wk_life_laws.specs.Next.{IsNext}
 use Rattle.wk_life_laws.proofs.RunFacts.{run_kept}
 use Rattle.wk_wiki_laws.proofs.TwoHalves.{new-rows}
-use Rattle.wk_listing_rules.specs.Names.{admitted, joined, member_eq, AreAmong, with_rows_at}
+use Rattle.wk_wiki_rules.specs.Names.{admitted, joined, member_eq, AreAmong, with_rows_at}
 
 -- ---- the old rows are among those of both
 

@@ -6,19 +6,19 @@ use Rattle.std.proofs.lemmas.Bool.{cases_Bool}
 use Rattle.wk_text_rules.specs.Titles.{PageTitle, title_eq}
 use Rattle.wk_page_rules.specs.History.{History, Page, can_save, page_number}
 use Rattle.wk_page_rules.specs.Verdict.{EditAsked, Verdict, Refusal, accept, refuse, no_change, is_journal_full, judged, max_pages}
-use Rattle.wk_job_rules.specs.Jobs.{first_fan}
-use Rattle.wk_job_rules.specs.Steps.{fan_pages, reach_of_save}
-use Rattle.wk_state_rules.specs.States.{State}
-use Rattle.wk_state_rules.specs.Events.{Event, Save, step}
-use Rattle.wk_state_rules.specs.Tables.{tables_of}
-use Rattle.wk_state_rules.specs.Verdicts.{journal_use, verdict_in}
-use Rattle.wk_state_laws.proofs.Formed.{placed-in}
-use Rattle.wk_state_laws.proofs.Kept.{accepted, LeavesRoom}
+use Rattle.wk_wiki_rules.specs.Jobs.{first_fan}
+use Rattle.wk_wiki_rules.specs.Steps.{fan_pages, reach_of_save}
+use Rattle.wk_wiki_rules.specs.States.{State}
+use Rattle.wk_wiki_rules.specs.Events.{Event, Save, step}
+use Rattle.wk_wiki_rules.specs.Tables.{tables_of}
+use Rattle.wk_wiki_rules.specs.Verdicts.{journal_use, verdict_in}
+use Rattle.wk_wiki_laws.proofs.Formed.{placed-in}
+use Rattle.wk_wiki_laws.proofs.KeptStates.{accepted, LeavesRoom}
 use Rattle.wk_wiki_rules.specs.SaveOutcomes.{SaveOutcome, save_numbers}
 use Rattle.wk_wiki_rules.specs.TableChanges.{save_change}
 use Rattle.wk_wiki_laws.specs.Makes.{Makes}
 use Rattle.wk_wiki_laws.proofs.ChangesMade.{save-step}
-use Rattle.wk_call_laws.proofs.Accepted.{can_save-verdict}
+use Rattle.wk_life_laws.proofs.Accepted.{can_save-verdict}
 use Rattle.wk_life_laws.specs.Lives.{Life, IsLife, journal_of, start_of}
 use Rattle.wk_life_laws.specs.Next.{IsNext}
 use Rattle.wk_life_laws.proofs.RunFacts.{run_kept}

@@ -4,12 +4,12 @@ use Rattle.std.specs.Prelude.{option_map, pos, slice_get, is_some, unwrap_or, if
 use Rattle.std.proofs.lemmas.Bool.{cases_Bool, eqb-true}
 use Rattle.wk_text_rules.specs.Titles.{PageTitle, title_eq}
 use Rattle.wk_page_rules.specs.History.{History, Page, next_revision, saved, with_current}
-use Rattle.wk_job_rules.specs.Jobs.{claimed_by, first_queued, page_held_by}
-use Rattle.wk_state_rules.specs.States.{State, page_at, title_at}
-use Rattle.wk_state_rules.specs.Events.{Event, Save, Claim, Done, Back, Fan, step, with_jobs}
-use Rattle.wk_job_rules.specs.Steps.{fan_pages}
-use Rattle.wk_state_laws.proofs.Histories.{history-claimed, history-fanned, history-given_back, history-refreshed, history-saved}
-use Rattle.wk_state_laws.proofs.Refreshed.{held-within}
+use Rattle.wk_wiki_rules.specs.Jobs.{claimed_by, first_queued, page_held_by}
+use Rattle.wk_wiki_rules.specs.States.{State, page_at, title_at}
+use Rattle.wk_wiki_rules.specs.Events.{Event, Save, Claim, Done, Back, Fan, step, with_jobs}
+use Rattle.wk_wiki_rules.specs.Steps.{fan_pages}
+use Rattle.wk_wiki_laws.proofs.Histories.{history-claimed, history-fanned, history-given_back, history-refreshed, history-saved}
+use Rattle.wk_wiki_laws.proofs.Refreshed.{held-within}
 use Rattle.wk_wiki_rules.specs.Claims.{ClaimOutcome}
 use Rattle.wk_wiki_rules.specs.Starts.{Start}
 use Rattle.wk_life_laws.specs.Runs.{IsRun}

@@ -3,16 +3,16 @@ use Rattle.std.proofs.Common.{◌≡◌, Bool, ℕ, ◌+◌, ◌≤◌, true, fa
 use Rattle.std.specs.Prelude.{IfSome, is_some}
 use Rattle.wk_table_rules.specs.Rows.{StoreTables}
 use Rattle.wk_table_rules.specs.Changes.{TableEdit, applied, fits}
-use Rattle.wk_state_rules.specs.States.{State}
-use Rattle.wk_state_rules.specs.Events.{Event}
-use Rattle.wk_state_rules.specs.Tables.{tables_of}
+use Rattle.wk_wiki_rules.specs.States.{State}
+use Rattle.wk_wiki_rules.specs.Events.{Event}
+use Rattle.wk_wiki_rules.specs.Tables.{tables_of}
 use Rattle.wk_wiki_laws.specs.Makes.{Makes}
 use Rattle.wk_life_laws.specs.Lives.{Life, IsLife, journal_of, start_of}
 use Rattle.wk_life_laws.specs.Next.{IsNext}
 use Rattle.wk_life_laws.specs.Runs.{IsRun}
 use Rattle.wk_page_rules.specs.History.{next_revision}
 use Rattle.wk_page_rules.specs.Verdict.{MostHeld}
-use Rattle.wk_state_rules.specs.Lives.{reopened}
+use Rattle.wk_wiki_rules.specs.Lives.{reopened}
 use Rattle.wk_wiki_rules.specs.Starts.{Start}
 use Rattle.wk_wiki_rules.specs.Entries.{entries_from}
 use Rattle.wk_life_laws.specs.Next.{Begins, new_start, with_seal}

@@ -4,8 +4,8 @@ use Rattle.wk_text_rules.specs.Titles.{PageTitle}
 use Rattle.wk_wiki_rules.specs.SaveOutcomes.{SaveNumbers, SaveOutcome, created, changed, unchanged}
 use Rattle.wk_wiki_rules.specs.Fans.{FanOutcome}
 use Rattle.wk_wiki_rules.specs.Staleness.{StaleRead}
-use Rattle.wk_state_rules.specs.Events as event
-use Rattle.wk_state_rules.specs.Events.{Event}
+use Rattle.wk_wiki_rules.specs.Events as event
+use Rattle.wk_wiki_rules.specs.Events.{Event}
 use Rattle.wk_keeper.specs.declared.keeper.KeeperRefusal.{KeeperRefusal}
 use Rattle.wk_keeper.specs.declared.keeper.KeeperRefusal.TheVariants as keeper
 use Rattle.wk_core.specs.declared.outcomes.Saved.{Saved}

@@ -1,8 +1,8 @@
 -- What a wiki keeps of drafts (own).
 use Rattle.std.specs.Prelude.{List, Contains, Option}
 use Rattle.wk_table_rules.specs.Rows.{StoreTables}
-use Rattle.wk_state_rules.specs.States.{State}
-use Rattle.wk_call_laws.specs.Caches.{IsLastingEntry}
+use Rattle.wk_wiki_rules.specs.States.{State}
+use Rattle.wk_life_laws.specs.Caches.{IsLastingEntry}
 use Rattle.wk_cache.specs.Entries.{entry_kept}
 use Rattle.wk_cache.specs.declared.kept.Kept.{Kept}
 use Rattle.wk_core.specs.Seen.{IsTold}

@@ -1,6 +1,6 @@
 -- What the parts of a life stand for together.
 use Rattle.std.specs.Prelude.{ℕ, false, List, Option, vec_capacity}
-use Rattle.wk_job_rules.specs.Steps.{reopened_jobs}
+use Rattle.wk_wiki_rules.specs.Steps.{reopened_jobs}
 use Rattle.wk_wiki_rules.specs.Starts.{StartKept}
 use Rattle.wk_revs.specs.Edit.{most_held}
 use Rattle.wk_core.specs.LifeHeld.{LifeHeld, KeepsLife}

@@ -2,7 +2,7 @@
 use Rattle.std.specs.Prelude.{◌≡◌, [], None, Some, Option}
 use Rattle.wk_page_rules.specs.Verdict.{MostHeld}
 use Rattle.wk_table_rules.specs.declared.BadStore.{BadStore}
-use Rattle.wk_state_rules.specs.Lives.{reopened}
+use Rattle.wk_wiki_rules.specs.Lives.{reopened}
 use Rattle.wk_core.specs.Seen.{WikiSeen}
 use Rattle.wk_core.specs.declared.outcomes.LoadCause.{LoadCause}
 use Rattle.wk_core.specs.declared.outcomes.LoadCause.TheVariants as cause

@@ -2,10 +2,10 @@
 use Rattle.std.specs.Prelude.{◌≡◌, ℕ, Bool, true, false, List, Option, None, Some, IfSome, is_some, length}
 use Rattle.wk_page_rules.specs.Verdict.{EditAsked, Verdict}
 use Rattle.wk_table_rules.specs.Rows.{StoreTables}
-use Rattle.wk_state_rules.specs.States.{State}
-use Rattle.wk_state_rules.specs.Events.{Event}
-use Rattle.wk_state_rules.specs.Tables.{tables_of}
-use Rattle.wk_state_rules.specs.Verdicts.{verdict_in}
+use Rattle.wk_wiki_rules.specs.States.{State}
+use Rattle.wk_wiki_rules.specs.Events.{Event}
+use Rattle.wk_wiki_rules.specs.Tables.{tables_of}
+use Rattle.wk_wiki_rules.specs.Verdicts.{verdict_in}
 use Rattle.wk_wiki_rules.specs.Room.{is_claim_refused, is_fan_refused}
 use Rattle.wk_wiki_rules.specs.Starts.{Start}
 use Rattle.wk_life_laws.specs.Lives.{Life, start_of, journal_of}

@@ -1,7 +1,7 @@
 -- What a call of a wiki leaves: one event more or none, and a keeper that goes on as it did (own).
 use Rattle.std.specs.Prelude.{◌≡◌, ℕ, ◌≤◌, Bool, true, List, [], ◌∷◌, ◌++◌, length, Option, Some, None, is_some}
 use Rattle.wk_table_rules.specs.Rows.{StoreTables}
-use Rattle.wk_state_rules.specs.Events.{Event, step}
+use Rattle.wk_wiki_rules.specs.Events.{Event, step}
 use Rattle.wk_core.specs.Seen.{WikiSeen}
 
 -- One event was made: the wiki began as before, its journal is longer by the event, and its state is the one behind it.

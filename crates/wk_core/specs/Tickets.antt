@@ -2,8 +2,8 @@
 use Rattle.std.specs.Prelude.{◌≡◌, ℕ, None, Some}
 use Rattle.wk_page_rules.specs.History.{text_of_revision}
 use Rattle.wk_view_rules.specs.Worlds.{IsHonest}
-use Rattle.wk_job_rules.specs.Jobs.{page_held_by}
-use Rattle.wk_state_rules.specs.States.{State, title_at}
+use Rattle.wk_wiki_rules.specs.Jobs.{page_held_by}
+use Rattle.wk_wiki_rules.specs.States.{State, title_at}
 use Rattle.wk_wiki_rules.specs.Claims.{ClaimOutcome}
 use Rattle.wk_expand.specs.Drafts.{DraftShown}
 

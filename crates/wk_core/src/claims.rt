@@ -1,9 +1,9 @@
 //! Claims of refresh jobs, and tickets that are given back.
 ghost use Rattle.std.specs.Prelude.{◌≡◌, ◌+◌, ◌≤◌, None, Some, IsSome, length, true, false, IfOk, IfErr, IfSome, IfNone, OnErr, OnOk};
-ghost use Rattle.wk_job_rules.specs.Jobs.{first_queued, page_held_by};
+ghost use Rattle.wk_wiki_rules.specs.Jobs.{first_queued, page_held_by};
 ghost use Rattle.std.specs.Option.{option_map};
-ghost use Rattle.wk_state_rules.specs.States.{title_at};
-ghost use Rattle.wk_state_rules.specs.Events.{Back, Claim};
+ghost use Rattle.wk_wiki_rules.specs.States.{title_at};
+ghost use Rattle.wk_wiki_rules.specs.Events.{Back, Claim};
 ghost use Rattle.wk_wiki_rules.specs.Claims.{claim_outcome};
 ghost use Rattle.wk_wiki_rules.specs.Room.{is_claim_refused};
 ghost use Rattle.wk_life_laws.specs.Lives.{journal_of};

@@ -2,9 +2,9 @@
 ghost use Rattle.std.specs.Prelude.{◌≡◌, ◌≢◌, ◌≤◌, ◌<◌, ◌^◌, not, count_by, None, Some, IsSome, length, true, false, IfOk, IfSome, IfNone, OnErr, OnOk};
 ghost use Rattle.std.specs.Option.{option_map};
 ghost use Rattle.wk_base.specs.Faults.{Rose};
-ghost use Rattle.wk_job_rules.specs.Jobs.{FanEntry, first_fan, has_refresh};
-ghost use Rattle.wk_job_rules.specs.Steps.{fan_pages};
-ghost use Rattle.wk_state_rules.specs.Events.{Fan};
+ghost use Rattle.wk_wiki_rules.specs.Jobs.{FanEntry, first_fan, has_refresh};
+ghost use Rattle.wk_wiki_rules.specs.Steps.{fan_pages};
+ghost use Rattle.wk_wiki_rules.specs.Events.{Fan};
 ghost use Rattle.wk_wiki_rules.specs.Fans.{next_fan_outcome};
 ghost use Rattle.wk_wiki_rules.specs.Room.{is_fan_refused};
 ghost use Rattle.wk_wiki_rules.specs.TableChanges.{fan_change};

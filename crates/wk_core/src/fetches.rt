@@ -30,9 +30,9 @@ impl Life {
 }
 
 impl<K: Keeper> Wiki<K> {
-    ghost use Rattle.wk_job_rules.specs.Jobs.{left};
+    ghost use Rattle.wk_wiki_rules.specs.Jobs.{left};
     ghost use Rattle.wk_view_rules.specs.Worlds.{answer_in};
-    ghost use Rattle.wk_state_rules.specs.States.{world_of};
+    ghost use Rattle.wk_wiki_rules.specs.States.{world_of};
     ghost use Rattle.wk_expand.specs.Answers.{answer_of};
     ghost use Rattle.wk_core.specs.Entries.{entry_at, entries_seen};
 

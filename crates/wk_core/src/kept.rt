@@ -1,6 +1,6 @@
 //! The drafts that a wiki keeps for whoever reads its pages.
 ghost use Rattle.std.specs.Prelude.{◌≡◌, [], IfErr, IfOk, IfSome};
-ghost use Rattle.wk_call_laws.specs.Caches.{IsLastingEntry};
+ghost use Rattle.wk_life_laws.specs.Caches.{IsLastingEntry};
 ghost use Rattle.wk_cache.specs.Entries.{entry_kept, entry_of, to_front};
 
 use crate::wiki::Wiki;

@@ -1,8 +1,8 @@
 //! Laws of tickets, for whoever holds one over other calls. Each is the contract of a function that does nothing.
 ghost use Rattle.std.specs.Prelude.{◌≡◌, ◌≢◌, ℕ, List, None, Some, length};
 ghost use Rattle.wk_view_rules.specs.Worlds.{Agrees, of_world};
-ghost use Rattle.wk_state_rules.specs.States.{State, world_of};
-ghost use Rattle.wk_state_rules.specs.Events.{Event, Done, Back, step};
+ghost use Rattle.wk_wiki_rules.specs.States.{State, world_of};
+ghost use Rattle.wk_wiki_rules.specs.Events.{Event, Done, Back, step};
 ghost use Rattle.wk_wiki_rules.specs.Claims.{ClaimOutcome};
 ghost use Rattle.wk_wiki_rules.specs.Starts.{Start};
 ghost use Rattle.wk_life_laws.specs.Runs.{IsRun};

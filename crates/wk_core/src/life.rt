@@ -2,7 +2,7 @@
 ghost use Rattle.std.specs.Prelude.{◌≡◌, ℕ, ◌+◌, ◌≤◌, ◌<◌, [], ◌∷◌, ◌++◌, None, Some, length, IfOk, IfSome, OnErr, OnOk};
 ghost use Rattle.std.specs.Option.{option_copied};
 ghost use Rattle.wk_page_rules.specs.Verdict.{is_journal_full};
-ghost use Rattle.wk_state_rules.specs.Verdicts.{journal_use};
+ghost use Rattle.wk_wiki_rules.specs.Verdicts.{journal_use};
 ghost use Rattle.wk_wiki_rules.specs.Entries.{event_of_entry};
 ghost use Rattle.wk_wiki_rules.specs.Room.{is_claim_refused, tickets_out};
 ghost use Rattle.wk_life_laws.specs.Lives.{IsLife, journal_of};

@@ -2,11 +2,11 @@
 ghost use Rattle.std.specs.Prelude.{◌≡◌, length, IfOk, Some, None};
 ghost use Rattle.std.specs.Option.{option_copied, option_map};
 ghost use Rattle.wk_page_rules.specs.History.{current_revision, page_number};
-ghost use Rattle.wk_job_rules.specs.Users.{users};
-ghost use Rattle.wk_listing_rules.specs.Links.{linking_pages};
-ghost use Rattle.wk_listing_rules.specs.Members.{members_behind};
-ghost use Rattle.wk_listing_rules.specs.Revisions.{count_existing, newest_below};
-ghost use Rattle.wk_state_rules.specs.States.{page_at};
+ghost use Rattle.wk_wiki_rules.specs.Users.{users};
+ghost use Rattle.wk_wiki_rules.specs.Links.{linking_pages};
+ghost use Rattle.wk_wiki_rules.specs.Members.{members_behind};
+ghost use Rattle.wk_wiki_rules.specs.Revisions.{count_existing, newest_below};
+ghost use Rattle.wk_wiki_rules.specs.States.{page_at};
 ghost use Rattle.wk_wiki_rules.specs.Entries.{revision_at};
 ghost use Rattle.wk_index.specs.Named.{rows_at};
 
@@ -14,8 +14,8 @@ use crate::wiki::Wiki;
 use wk_index::MemberPage;
 use wk_keeper::Keeper;
 use wk_memory::Memory;
+use wk_page_rules::Reach;
 use wk_revs::Revision;
-use wk_row_rules::Reach;
 use wk_table_rows::PageRows;
 use wk_title::Title;
 

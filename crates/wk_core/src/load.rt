@@ -2,7 +2,7 @@
 ghost use Rattle.std.specs.Prelude.{◌≡◌, ◌≤◌, None, Some, false, true, is_some, IfOk, IfErr, IfSome, OnErr, OnOk};
 ghost use Rattle.wk_base.specs.Faults.{Rose};
 ghost use Rattle.wk_table_rules.specs.GoodStore.{IsGood, first_broken};
-ghost use Rattle.wk_state_rules.specs.Lives.{opened, reopened};
+ghost use Rattle.wk_wiki_rules.specs.Lives.{opened, reopened};
 ghost use Rattle.wk_revs.specs.Edit.{most_held};
 ghost use Rattle.wk_life_laws.specs.Next.{Begins, new_start};
 ghost use Rattle.wk_core.specs.Limits.{AreWithinFull};

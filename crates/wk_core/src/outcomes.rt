@@ -12,7 +12,7 @@ use wk_tables::BadStore;
 use wk_title::Title;
 
 /// What became of a save that wasn't refused (MediaWiki's API:Edit tells the same).
-#[derive(Debug, Drop)]
+#[derive(Drop)]
 pub enum Saved {
     /// The page was missing, and exists now.
     New {
@@ -121,7 +121,7 @@ pub enum FanRefusal {
 }
 
 /// What a step of a fan job did.
-#[derive(Debug, Drop)]
+#[derive(Drop)]
 pub struct Fanned {
     /// The title whose users it serves.
     pub title: Title,
@@ -132,7 +132,7 @@ pub struct Fanned {
 }
 
 /// How a refresh came in.
-#[derive(Debug, Drop)]
+#[derive(Drop)]
 pub enum Finished {
     /// The page's link rows are those that it has in the present world, and its job is gone.
     Done,

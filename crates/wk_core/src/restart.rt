@@ -1,7 +1,7 @@
 //! What a wiki leaves behind, restarts, and seals.
 ghost use Rattle.std.specs.Prelude.{◌≡◌, None, Some, [], length, is_some, unwrap_or, IfOk, OnErr, OnOk};
-ghost use Rattle.wk_state_rules.specs.Lives.{reopened};
-ghost use Rattle.wk_state_rules.specs.Tables.{tables_of};
+ghost use Rattle.wk_wiki_rules.specs.Lives.{reopened};
+ghost use Rattle.wk_wiki_rules.specs.Tables.{tables_of};
 ghost use Rattle.wk_life_laws.specs.Lives.{journal_of};
 ghost use Rattle.wk_life_laws.specs.Next.{Begins, new_start, with_seal};
 ghost use Rattle.wk_core.specs.Seen.{IsTold};

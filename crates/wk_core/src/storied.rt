@@ -16,7 +16,7 @@ pub struct WikiStart {
 impl Model for WikiStart {
     ghost use Rattle.std.specs.Prelude.{false, None};
     ghost use Rattle.wk_page_rules.specs.Verdict.{full_limits};
-    ghost use Rattle.wk_state_rules.specs.States.{no_state};
+    ghost use Rattle.wk_wiki_rules.specs.States.{no_state};
     ghost use Rattle.wk_wiki_rules.specs.Starts.{Start};
 
     ghost Value = { Start };
@@ -31,7 +31,7 @@ pub struct JournalEvent {
 }
 
 impl Model for JournalEvent {
-    ghost use Rattle.wk_state_rules.specs.Events.{Event, Claim};
+    ghost use Rattle.wk_wiki_rules.specs.Events.{Event, Claim};
 
     ghost Value = { Event };
 

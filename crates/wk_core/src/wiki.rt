@@ -1,7 +1,7 @@
 //! The wiki.
 ghost use Rattle.std.specs.Prelude.{◌≡◌, is_some, length};
-ghost use Rattle.wk_state_laws.specs.Saves.{Continues, saves};
-ghost use Rattle.wk_call_laws.specs.Sound.{IsSoundSince};
+ghost use Rattle.wk_wiki_laws.specs.Saves.{Continues, saves};
+ghost use Rattle.wk_life_laws.specs.Sound.{IsSoundSince};
 ghost use Rattle.wk_life_laws.specs.Runs.{IsRun};
 ghost use Rattle.wk_revs.specs.Edit.{most_held};
 ghost use Rattle.wk_core.specs.Seen.{IsTold, failed_where};

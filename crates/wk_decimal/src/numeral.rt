@@ -11,7 +11,7 @@ use crate::parts::{is_mantissa, power, split_at_letter, split_at_point, split_si
 
 /// A numeral: its digits without zeros in front, in two parts, times ten to the power `up`, over ten to the power
 /// `down`.
-#[derive(Debug, Clone, Copy)]
+#[derive(Clone, Copy)]
 pub struct Numeral<'a> {
     pub minus: bool,
     pub front: &'a [u8],

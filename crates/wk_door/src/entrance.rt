@@ -1,5 +1,5 @@
 // Links that many threads take of one door.
-ghost use Rattle.std.specs.Prelude.{◌≡◌, ◌≤◌, ◌<◌, ℕ, IfNone, IsTrue, None, Option, Some, false, true};
+ghost use Rattle.std.specs.Prelude.{◌≡◌, ◌+◌, ◌≤◌, ◌<◌, ℕ, IfNone, IfSome, IsTrue, None, Option, Some, false, true};
 ghost use Rattle.std.proofs.Props.{props};
 ghost use base.Fml.{GName};
 ghost use Rattle.wk_base.specs.Faults.{Rose};
@@ -37,7 +37,7 @@ impl Entry for Brand {
 }
 
 /// Why a door gives no more links.
-#[derive(Clone, Copy, Debug, PartialEq, Eq)]
+#[derive(Clone, Copy, PartialEq, Eq)]
 pub enum Shut {
     /// None is left.
     Empty,
@@ -66,7 +66,7 @@ pub struct Entrance<'a, D: Door, E: Entry> {
 }
 
 /// How many links were taken of a door, and why it gives no more, where it is shut.
-#[derive(Clone, Copy, Debug, PartialEq, Eq)]
+#[derive(Clone, Copy, PartialEq, Eq)]
 pub struct Taken {
     /// How many links were taken.
     pub count: u64,
@@ -110,7 +110,8 @@ impl<'a, D: Door, E: Entry> Entrance<'a, D, E> {
 
     /// The next link, if more are taken. It may wait for a peer.
     pub fn next_link(&mut self) -> Option<D::Link>
-        ensures { IfNone result (IsOver self.new.most self.new.taken self.new.shut) }
+        ensures over { IfNone result (IsOver self.new.most self.new.taken self.new.shut) }
+        ensures taken { IfSome result (λ link. (self.new.taken ≡ self.old.taken + 1) × (self.new.shut ≡ None)) }
     {
         if self.is_over() {
             return None;

@@ -6,7 +6,7 @@ use Rattle.wk_view_rules.specs.Expansions.{no_counters}
 use Rattle.wk_view_rules.specs.Plans.{done, need}
 use Rattle.wk_view_rules.specs.Views.{Expanded, reads, view}
 use Rattle.wk_view_rules.specs.Worlds.{World, of_world}
-use Rattle.wk_state_rules.specs.States.{no_state, world_of}
+use Rattle.wk_wiki_rules.specs.States.{no_state, world_of}
 use Rattle.wk_wiki_rules.specs.Passes.{CacheEntry, PassSeen}
 use Rattle.wk_examples.specs.Wikis.{title_p, race, race_6}
 

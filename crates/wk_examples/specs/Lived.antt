@@ -1,7 +1,7 @@
 -- What a small wiki keeps from its opening on, each after one event more: a save, a claim, and a refresh that is done.
 use Rattle.std.specs.Prelude.{true, [], ◌∷◌, Some}
-use Rattle.wk_state_rules.specs.States.{no_state}
-use Rattle.wk_state_rules.specs.Events.{Event, Save}
+use Rattle.wk_wiki_rules.specs.States.{no_state}
+use Rattle.wk_wiki_rules.specs.Events.{Event, Save}
 use Rattle.wk_wiki_rules.specs.Starts.{Start}
 use Rattle.wk_wiki_rules.specs.declared.Entry.TheVariants as entry
 use Rattle.wk_life_laws.specs.Lives.{Life}

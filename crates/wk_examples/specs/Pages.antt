@@ -4,7 +4,7 @@ use Rattle.wk_text_rules.specs.Marked.{text_of}
 use Rattle.wk_text_rules.specs.Titles.{PageTitle, shown, title_eq}
 use Rattle.wk_view_rules.specs.Expansions.{Counters, no_counters}
 use Rattle.wk_view_rules.specs.Plans.{Outcome, done, need, reads_of}
-use Rattle.wk_row_rules.specs.PageRows.{Member, PageRows}
+use Rattle.wk_page_rules.specs.PageRows.{Member, PageRows}
 use Rattle.wk_view_rules.specs.Rows.{rows}
 use Rattle.wk_view_rules.specs.Views.{Expanded, view, shown_text}
 use Rattle.wk_view_rules.specs.Worlds.{World, Read, of_world, mark}

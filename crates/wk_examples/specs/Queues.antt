@@ -1,10 +1,10 @@
 -- The jobs and the link rows of the worked examples on jobs.
 use Rattle.std.specs.Prelude.{ℕ, ◌==◌, List, [], ◌∷◌, Some, None, if◌then◌else◌}
 use Rattle.wk_text_rules.specs.Titles.{PageTitle}
-use Rattle.wk_row_rules.specs.declared.Reach.{Reach}
-use Rattle.wk_row_rules.specs.declared.Reach.TheVariants.{Text, Both}
-use Rattle.wk_row_rules.specs.PageRows.{PageRows, no_rows}
-use Rattle.wk_job_rules.specs.Jobs.{RefreshEntry, FanEntry, JobLists}
+use Rattle.wk_page_rules.specs.declared.Reach.{Reach}
+use Rattle.wk_page_rules.specs.declared.Reach.TheVariants.{Text, Both}
+use Rattle.wk_page_rules.specs.PageRows.{PageRows, no_rows}
+use Rattle.wk_wiki_rules.specs.Jobs.{RefreshEntry, FanEntry, JobLists}
 use Rattle.wk_examples.specs.Stores.{title_a, title_b, title_t}
 
 -- a queued job with this number, of this page

@@ -5,8 +5,8 @@ use Rattle.serde_json.specs.Written.{compact_text}
 use Rattle.wk_text_rules.specs.Lines.{lines}
 use Rattle.wk_page_rules.specs.Verdict.{MostHeld, full_limits}
 use Rattle.wk_table_rules.specs.Rows.{StoreTables, no_tables}
-use Rattle.wk_state_rules.specs.States.{no_state}
-use Rattle.wk_state_rules.specs.Lives.{opened}
+use Rattle.wk_wiki_rules.specs.States.{no_state}
+use Rattle.wk_wiki_rules.specs.Lives.{opened}
 use Rattle.wk_answer_rules.specs.Values.{ApiReply}
 use Rattle.wk_answer_rules.specs.ApiErrors.{storefault, api_error}
 use Rattle.wk_script_rules.specs.WikiScripts.{WikiScript, script_from}

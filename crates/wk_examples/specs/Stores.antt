@@ -2,9 +2,9 @@
 use Rattle.std.specs.Prelude.{ℕ, pos, negsuc, true, false, List, [], ◌∷◌, codes, length, Option, Some}
 use Rattle.wk_text_rules.specs.Titles.{PageTitle}
 use Rattle.wk_table_rules.specs.declared.BadStore.{BadStore}
-use Rattle.wk_row_rules.specs.declared.Reach.TheVariants.{Text}
+use Rattle.wk_page_rules.specs.declared.Reach.TheVariants.{Text}
 use Rattle.wk_table_rules.specs.Rows.{category_title, PageColumns, RevisionColumns, LinkColumns, CategoryColumns, RedirectColumns, JobColumns, StoreTables}
-use Rattle.wk_row_rules.specs.PageRows.{Member}
+use Rattle.wk_page_rules.specs.PageRows.{Member}
 use Rattle.wk_table_rules.specs.JobTable.{fan_row, refresh_row}
 use Rattle.wk_table_rules.specs.GoodStore.{first_broken}
 

@@ -3,12 +3,12 @@ use Rattle.std.specs.Prelude.{ℕ, List, [], ◌∷◌, ◌++◌, codes, false, 
 use Rattle.wk_text_rules.specs.Titles.{PageTitle}
 use Rattle.wk_page_rules.specs.History.{Revision, Page, History}
 use Rattle.wk_page_rules.specs.Verdict.{EditAsked, MostHeld}
-use Rattle.wk_row_rules.specs.declared.Reach.TheVariants.{Both}
+use Rattle.wk_page_rules.specs.declared.Reach.TheVariants.{Both}
 use Rattle.wk_table_rules.specs.Rows.{StoreTables, category_title, no_tables}
-use Rattle.wk_row_rules.specs.PageRows.{PageRows, no_rows}
-use Rattle.wk_job_rules.specs.Jobs.{RefreshEntry, FanEntry, JobLists}
-use Rattle.wk_state_rules.specs.States.{State}
-use Rattle.wk_state_rules.specs.Events.{Event, Save, Claim, Done, Back}
+use Rattle.wk_page_rules.specs.PageRows.{PageRows, no_rows}
+use Rattle.wk_wiki_rules.specs.Jobs.{RefreshEntry, FanEntry, JobLists}
+use Rattle.wk_wiki_rules.specs.States.{State}
+use Rattle.wk_wiki_rules.specs.Events.{Event, Save, Claim, Done, Back}
 use Rattle.wk_examples.specs.Stores.{main, template, title_a, title_b, title_t, page, revision, link, member}
 use Rattle.wk_examples.specs.Queues.{waiting, held, fan}
 

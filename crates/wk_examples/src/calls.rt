@@ -2,19 +2,19 @@
 //! meet the premises of their laws.
 ghost use Rattle.std.specs.Prelude.{◌≡◌, codes, true, false, List, ◌∷◌, [], Some, None, take};
 ghost use Rattle.wk_page_rules.specs.Verdict.{accept, no_change};
-ghost use Rattle.wk_row_rules.specs.declared.Reach.TheVariants.{Both};
+ghost use Rattle.wk_page_rules.specs.declared.Reach.TheVariants.{Both};
 ghost use Rattle.wk_table_rules.specs.Changes.{add_revision, set_page, add_job};
 ghost use Rattle.wk_table_rules.specs.JobTable.{refresh_row};
-ghost use Rattle.wk_job_rules.specs.Jobs.{IsOneAPage, page_held_by};
-ghost use Rattle.wk_job_rules.specs.Steps.{fan_pages};
+ghost use Rattle.wk_wiki_rules.specs.Jobs.{IsOneAPage, page_held_by};
+ghost use Rattle.wk_wiki_rules.specs.Steps.{fan_pages};
 ghost use Rattle.wk_view_rules.specs.Views.{reads};
 ghost use Rattle.wk_view_rules.specs.Worlds.{of_world};
 ghost use Rattle.wk_view_rules.specs.declared.Kind.TheVariants.{Include, Exists};
-ghost use Rattle.wk_state_rules.specs.States.{no_state, world_of};
-ghost use Rattle.wk_state_rules.specs.Events.{Save, Claim, Done, Back, Fan};
-ghost use Rattle.wk_state_rules.specs.Lives.{replay_by};
-ghost use Rattle.wk_state_rules.specs.Tables.{tables_of};
-ghost use Rattle.wk_state_laws.specs.Kept.{IsKept};
+ghost use Rattle.wk_wiki_rules.specs.States.{no_state, world_of};
+ghost use Rattle.wk_wiki_rules.specs.Events.{Save, Claim, Done, Back, Fan};
+ghost use Rattle.wk_wiki_rules.specs.Lives.{replay_by};
+ghost use Rattle.wk_wiki_rules.specs.Tables.{tables_of};
+ghost use Rattle.wk_wiki_laws.specs.Kept.{IsKept};
 ghost use Rattle.wk_wiki_rules.specs.Calls.{CallsMake};
 ghost use Rattle.wk_wiki_rules.specs.Claims.{claim_outcome};
 ghost use Rattle.wk_wiki_rules.specs.Entries.{closes, entries_from, events_of, KeepsSeal};

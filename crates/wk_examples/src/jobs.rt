@@ -1,14 +1,14 @@
 //! The lists of jobs: what each call, a save, a fan and a restart do to them.
 ghost use Rattle.std.specs.Prelude.{◌≡◌, true, false, codes, List, ◌∷◌, [], Some, None};
-ghost use Rattle.wk_row_rules.specs.declared.Reach.TheVariants.{Text, Both};
+ghost use Rattle.wk_page_rules.specs.declared.Reach.TheVariants.{Text, Both};
 ghost use Rattle.wk_table_rules.specs.Rows.{no_tables};
-ghost use Rattle.wk_row_rules.specs.PageRows.{no_rows};
+ghost use Rattle.wk_page_rules.specs.PageRows.{no_rows};
 ghost use Rattle.wk_table_rules.specs.JobTable.{refresh_row};
-ghost use Rattle.wk_job_rules.specs.Users.{users};
-ghost use Rattle.wk_job_rules.specs.Jobs.{IsNumbered, no_jobs, first_queued, page_held_by, first_fan, left, refresh_queued, claimed_by, given_back, refresh_dropped, fan_set, fan_moved, fan_dropped};
-ghost use Rattle.wk_job_rules.specs.Steps.{after_save, after_fan, reach_of_save, reopened_jobs, rows_of_jobs, jobs_of_tables};
-ghost use Rattle.wk_job_rules.specs.Covers.{is_covered};
-ghost use Rattle.wk_job_laws.specs.InOrder.{CanStand, IsInOrder};
+ghost use Rattle.wk_wiki_rules.specs.Users.{users};
+ghost use Rattle.wk_wiki_rules.specs.Jobs.{IsNumbered, no_jobs, first_queued, page_held_by, first_fan, left, refresh_queued, claimed_by, given_back, refresh_dropped, fan_set, fan_moved, fan_dropped};
+ghost use Rattle.wk_wiki_rules.specs.Steps.{after_save, after_fan, reach_of_save, reopened_jobs, rows_of_jobs, jobs_of_tables};
+ghost use Rattle.wk_wiki_rules.specs.Covers.{is_covered};
+ghost use Rattle.wk_table_laws.specs.InOrder.{CanStand, IsInOrder};
 ghost use Rattle.wk_examples.specs.Stores.{good, title_a, title_b, title_t, fan_job};
 ghost use Rattle.wk_examples.specs.Queues.{waiting, held, fan, mixed, three, title_of_page, two_fans, stored, users_of_t, includes, tests};
 

@@ -1,8 +1,8 @@
 //! Worlds and reads that meet the premises of the laws of views.
 ghost use Rattle.std.specs.Prelude.{◌≡◌, ◌≢◌, codes, ◌∷◌, [], pos, true, false, is_some, Some};
 ghost use Rattle.wk_text_rules.specs.Titles.{PageTitle};
-ghost use Rattle.wk_row_rules.specs.PageRows.{names};
-ghost use Rattle.wk_row_rules.specs.declared.Reach.TheVariants.{Text, Both};
+ghost use Rattle.wk_page_rules.specs.PageRows.{names};
+ghost use Rattle.wk_page_rules.specs.declared.Reach.TheVariants.{Text, Both};
 ghost use Rattle.wk_tree_rules.specs.Tree.{tree};
 ghost use Rattle.wk_tree_rules.specs.declared.Mode.TheVariants as mode;
 ghost use Rattle.wk_view_rules.specs.Expand.{expand};

@@ -1,12 +1,12 @@
 //! Worked examples of listings: pages and revisions, links, members of a category, and names in two halves.
 ghost use Rattle.std.specs.Prelude.{◌≡◌, codes, true, false, map, ◌∷◌, [], Some, None};
-ghost use Rattle.wk_row_rules.specs.PageRows.{names, no_rows};
-ghost use Rattle.wk_row_rules.specs.declared.Reach.TheVariants.{Text};
+ghost use Rattle.wk_page_rules.specs.PageRows.{names, no_rows};
+ghost use Rattle.wk_page_rules.specs.declared.Reach.TheVariants.{Text};
 ghost use Rattle.wk_table_rules.specs.Rows.{category_title};
-ghost use Rattle.wk_listing_rules.specs.Links.{linking_pages};
-ghost use Rattle.wk_listing_rules.specs.Members.{category_members, members_behind};
-ghost use Rattle.wk_listing_rules.specs.Names.{admitted};
-ghost use Rattle.wk_listing_rules.specs.Revisions.{count_existing, changes_below, newest_below, page_revisions_below};
+ghost use Rattle.wk_wiki_rules.specs.Links.{linking_pages};
+ghost use Rattle.wk_wiki_rules.specs.Members.{category_members, members_behind};
+ghost use Rattle.wk_wiki_rules.specs.Names.{admitted};
+ghost use Rattle.wk_wiki_rules.specs.Revisions.{count_existing, changes_below, newest_below, page_revisions_below};
 ghost use Rattle.wk_examples.specs.Listings.{in_x};
 ghost use Rattle.wk_examples.specs.Queues.{includes};
 ghost use Rattle.wk_examples.specs.Stores.{title_a, title_t};

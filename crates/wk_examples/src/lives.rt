@@ -1,7 +1,7 @@
 //! A run that meets the premises of the laws of what a wiki keeps: an empty wiki, a save, a claim, and a refresh that is
 //! done.
 ghost use Rattle.std.specs.Prelude.{◌≡◌, ◌∷◌, [], Some};
-ghost use Rattle.wk_state_rules.specs.Events.{Claim, Done};
+ghost use Rattle.wk_wiki_rules.specs.Events.{Claim, Done};
 ghost use Rattle.wk_life_laws.specs.Lives.{IsLife, journal_of, start_of};
 ghost use Rattle.wk_life_laws.specs.Next.{Begins, IsNext, with_seal};
 ghost use Rattle.wk_examples.specs.Lived.{first_save, life_0, life_1, life_2, life_3, small_start};

@@ -1,7 +1,7 @@
 //! Refreshes, fans and restarts as a script answers them.
 ghost use Rattle.std.specs.Prelude.{◌≡◌, codes, ◌∷◌, [], Some, None};
 ghost use Rattle.wk_page_rules.specs.Verdict.{full_limits};
-ghost use Rattle.wk_state_rules.specs.Events.{Save, Claim, Back};
+ghost use Rattle.wk_wiki_rules.specs.Events.{Save, Claim, Back};
 ghost use Rattle.wk_script_rules.specs.Runs.{script_end, replies_text, wiki_script_replies};
 ghost use Rattle.wk_examples.specs.Stores.{title_a, title_b};
 ghost use Rattle.wk_examples.specs.Scripts.{save_a, save_b, journal_of_four, first_output, first_replies, replies_to, nothing_saved, first_version, journal_of_three};

@@ -1,7 +1,7 @@
 //! Which rows a page has. Worlds are written as `specs/Pages.antt` says, and rows with shown titles.
 ghost use Rattle.std.specs.Prelude.{◌≡◌, codes, ◌∷◌, [], pos, true, false};
-ghost use Rattle.wk_row_rules.specs.PageRows.{no_rows, names};
-ghost use Rattle.wk_row_rules.specs.declared.Reach.TheVariants.{Text, Both};
+ghost use Rattle.wk_page_rules.specs.PageRows.{no_rows, names};
+ghost use Rattle.wk_page_rules.specs.declared.Reach.TheVariants.{Text, Both};
 ghost use Rattle.wk_view_rules.specs.Rows.{rows};
 ghost use Rattle.wk_examples.specs.Pages.{pages, only, page_rows, titled};
 

@@ -1,8 +1,8 @@
 //! The tables of a store: which rule they break and in which row, and what a change does to them.
 ghost use Rattle.std.specs.Prelude.{◌≡◌, ◌+◌, ◌-◌, ◌^◌, pos, true, false, codes, List, ◌∷◌, [], ◌++◌, Some, None};
-ghost use Rattle.wk_row_rules.specs.declared.Reach.TheVariants.{Text, Both};
+ghost use Rattle.wk_page_rules.specs.declared.Reach.TheVariants.{Text, Both};
 ghost use Rattle.wk_table_rules.specs.Rows.{category_title, no_tables};
-ghost use Rattle.wk_row_rules.specs.PageRows.{no_rows};
+ghost use Rattle.wk_page_rules.specs.PageRows.{no_rows};
 ghost use Rattle.wk_table_rules.specs.Changes.{add_revision, set_page, set_rows, add_job, set_job, drop_job, set_version, applied, fits, with_rows_of};
 ghost use Rattle.wk_table_rules.specs.Stored.{stored_rows};
 ghost use Rattle.wk_table_rules.specs.JobTable.{fan_params, fan_row, params_text, refresh_row};

@@ -2,9 +2,9 @@
 ghost use Rattle.std.specs.Prelude.{◌≡◌, codes, map, unwrap_or, ◌∷◌, [], Some, None};
 ghost use Rattle.wk_page_rules.specs.Verdict.{wiki_full};
 ghost use Rattle.wk_page_rules.specs.declared.Limit.TheVariants.{Pages};
-ghost use Rattle.wk_state_rules.specs.States.{no_state};
-ghost use Rattle.wk_state_rules.specs.Events.{Save};
-ghost use Rattle.wk_state_rules.specs.Lives.{opened};
+ghost use Rattle.wk_wiki_rules.specs.States.{no_state};
+ghost use Rattle.wk_wiki_rules.specs.Events.{Save};
+ghost use Rattle.wk_wiki_rules.specs.Lives.{opened};
 ghost use Rattle.wk_tool_rules.specs.Checks.{check_text, gen_text};
 ghost use Rattle.wk_tool_rules.specs.Generator.{draw, next_seed, generated, plain_save};
 ghost use Rattle.wk_tool_rules.specs.Saving.{saves_made};

@@ -9,8 +9,8 @@ use Rattle.wk_tree_rules.specs.Trees.{Item}
 use Rattle.wk_view_rules.specs.Expand.{argument_output, argument_value, argument_default, whole_part}
 use Rattle.wk_view_rules.specs.Expansions.{Expansion, Output, give}
 use Rattle.wk_view_rules.specs.Frames.{Frame, Binding, bound_to}
-use Rattle.wk_expand.specs.State.{IsBinding, IsBindingIn}
-use Rattle.wk_expand.specs.declared.levels.Bound.{Bound}
+use Rattle.wk_frames.specs.Frames.{IsBinding, IsBindingIn}
+use Rattle.wk_frames.specs.declared.levels.Bound.{Bound}
 
 -- what is bound by the code is bound by the rules
 pub binding-some : (caller : ParsedText) (found : Option Bound) (b : Option Binding) (v : Bound) → found ≡ Some v → IsBindingIn caller found b → (x : Binding) × (b ≡ Some x) × IsBinding caller v x

@@ -2,7 +2,7 @@
 use Rattle.std.proofs.Common.{◌≤◌, None}
 use Rattle.wk_tree.specs.declared.item.NodeId.{NodeId}
 use Rattle.wk_view_rules.specs.Expansions.{Expansion, Output}
-use Rattle.wk_expand.specs.Levels.{HasLists}
+use Rattle.wk_frames.specs.Levels.{HasLists}
 use Rattle.wk_expand.specs.Stack.{IsBinds, IsBoundNext, IsHere, Place}
 use Rattle.wk_expand.specs.State.{current}
 use Rattle.wk_expand.specs.declared.stack.Binder.{Binder}

@@ -19,11 +19,12 @@ use Rattle.wk_view_rules.specs.declared.Kind.TheVariants.{View}
 use Rattle.wk_expand.specs.Answers.{read_with, text_in}
 use Rattle.wk_expand.specs.Drafts.{drafted}
 use Rattle.wk_expand.specs.Kept.{expanded_with}
-use Rattle.wk_expand.specs.Levels.{LevelsShown, tree_in}
+use Rattle.wk_frames.specs.Levels.{LevelsShown, tree_in}
 use Rattle.wk_expand.specs.Machines.{IsLeft}
 use Rattle.wk_expand.specs.Nodes.{rest_list}
 use Rattle.wk_expand.specs.Running.{goes, needed, Passes, StopsAt}
-use Rattle.wk_expand.specs.State.{IsBegun, ShowsFrame, progress_of}
+use Rattle.wk_frames.specs.Frames.{ShowsFrame}
+use Rattle.wk_expand.specs.State.{IsBegun, progress_of}
 use Rattle.wk_expand.specs.Steps.{given_text}
 use Rattle.wk_expand.specs.Work.{Continues, IsNow, IsTurn}
 use Rattle.wk_expand.specs.declared.drafts.Root.{Root}

@@ -12,10 +12,11 @@ use Rattle.wk_tree_rules.specs.Trees.{Item}
 use Rattle.wk_view_rules.specs.Expand.{whole_part, trimmed_items}
 use Rattle.wk_view_rules.specs.Expansions.{Expansion, Output, give, ◌>>=◌}
 use Rattle.wk_view_rules.specs.Worlds.{Seen}
-use Rattle.wk_expand.specs.Levels.{LevelsShown, tree_in}
+use Rattle.wk_frames.specs.Levels.{LevelsShown, tree_in}
 use Rattle.wk_expand.specs.Running.{ComesTo, IsSame, StopsAt}
 use Rattle.wk_expand.specs.Stack.{AreWithin, IsHere, IsPending, IsRest, LeadsOn, LeadsTo, Place, Waits, parts_at, text_at}
-use Rattle.wk_expand.specs.State.{IsFrame, ShowsFrame, current}
+use Rattle.wk_frames.specs.Frames.{ShowsFrame}
+use Rattle.wk_expand.specs.State.{IsFrame, current}
 use Rattle.wk_expand.specs.declared.stack.Next.{Next}
 use Rattle.wk_expand.specs.declared.stack.Next.TheVariants.{Gives, Expands, Goes}
 use Rattle.wk_expand.specs.declared.stack.Waiting.{Waiting}

@@ -5,10 +5,8 @@ pub mod BlankLaws
 pub mod DecideLaws
 pub mod DraftLaws
 pub mod ExistsLaws
-pub mod FrameLaws
 pub mod InclusionLaws
 pub mod LeadLaws
-pub mod LevelLaws
 pub mod ListLaws
 pub mod NamedLaws
 pub mod NodeLaws

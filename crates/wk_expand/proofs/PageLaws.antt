@@ -12,10 +12,11 @@ use Rattle.wk_view_rules.specs.Expand.{argument_value, included, with_bindings}
 use Rattle.wk_view_rules.specs.Expansions.{Expansion, Output, charged, argument_within_limit, inclusion_within_limit, ◌>>=◌}
 use Rattle.wk_view_rules.specs.Frames.{Frame, Binding, binding_length, caller}
 use Rattle.wk_view_rules.specs.Worlds.{Seen}
-use Rattle.wk_expand.specs.Levels.{LevelsShown, tree_in}
+use Rattle.wk_frames.specs.Levels.{LevelsShown, tree_in}
 use Rattle.wk_expand.specs.Running.{IsSame, ComesTo}
-use Rattle.wk_expand.specs.State.{IsFrame, ShowsBindings, ShowsFrame, caller_tree, current}
-use Rattle.wk_expand.specs.declared.levels.Level.{Level}
+use Rattle.wk_frames.specs.Frames.{ShowsBindings, ShowsFrame}
+use Rattle.wk_expand.specs.State.{IsFrame, caller_tree, current}
+use Rattle.wk_frames.specs.declared.levels.Level.{Level}
 use Rattle.wk_expand.specs.declared.state.Expander.{Expander}
 use Rattle.wk_expand.proofs.PartLaws.{some_of, some_part}
 

@@ -15,7 +15,7 @@ use Rattle.wk_view_rules.specs.Frames.{Frame}
 use Rattle.wk_expand.specs.Running.{IsSame}
 use Rattle.wk_expand.specs.State.{current}
 use Rattle.wk_expand.specs.declared.state.Expander.{Expander}
-use Rattle.wk_expand.specs.Levels.{LevelsShown, tree_in}
+use Rattle.wk_frames.specs.Levels.{LevelsShown, tree_in}
 
 pub current-same : (s t : Expander) → IsSame s t → current t ≡ current s
 current-same s t same =

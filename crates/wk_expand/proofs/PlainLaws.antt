@@ -21,9 +21,10 @@ use Rattle.wk_view_rules.specs.Frames.{Binding, Frame, bound, caller}
 use Rattle.wk_view_rules.specs.Plans.{gives}
 use Rattle.wk_view_rules.specs.Worlds.{Seen}
 use Rattle.wk_expand.specs.Running.{ComesTo}
-use Rattle.wk_expand.specs.State.{IsBinding, progress_with}
+use Rattle.wk_frames.specs.Frames.{IsBinding}
+use Rattle.wk_expand.specs.State.{progress_with}
 use Rattle.wk_expand.specs.declared.answer.Counts.{Counts}
-use Rattle.wk_expand.specs.declared.levels.Bound.{Bound}
+use Rattle.wk_frames.specs.declared.levels.Bound.{Bound}
 use Rattle.wk_expand.specs.declared.state.Expander.{Expander}
 use Rattle.wk_expand.proofs.ArgumentLaws.{argument-bound}
 use Rattle.wk_expand.specs.Items.{item_with, text_at, IsItem, IsPlainName, IsPlainText, IsTextAt}

@@ -7,9 +7,10 @@ use Rattle.wk_view_rules.specs.Worlds.{Seen, Agrees, of_seen}
 use Rattle.wk_view_rules.specs.declared.Kind.{Kind}
 use Rattle.wk_view_laws.specs.Plans.{goes_on}
 use Rattle.wk_view_laws.proofs.PlanLemmas.{run-and_then}
-use Rattle.wk_expand.specs.Levels.{LevelsShown}
+use Rattle.wk_frames.specs.Levels.{LevelsShown}
 use Rattle.wk_view_rules.specs.Frames.{Frame}
-use Rattle.wk_expand.specs.State.{progress_of, ShowsFrame, IsFrame}
+use Rattle.wk_frames.specs.Frames.{ShowsFrame}
+use Rattle.wk_expand.specs.State.{progress_of, IsFrame}
 use Rattle.wk_expand.specs.Running.{goes, needed, Stops, StopsAt, IsSame, Passes, ComesTo, Leads}
 use Rattle.wk_expand.specs.declared.state.Expander.{Expander}
 use Rattle.wk_expand.specs.declared.state.Stop.{Stop}

@@ -13,14 +13,15 @@ use Rattle.wk_view_rules.specs.Expand.{argument_value, expand, items_output, kin
 use Rattle.wk_view_rules.specs.Expansions.{Expansion, Output, give, ◌>>=◌}
 use Rattle.wk_view_rules.specs.Frames.{Binding, Frame}
 use Rattle.wk_view_rules.specs.Worlds.{Seen}
-use Rattle.wk_expand.specs.Levels.{LevelsShown, tree_in}
+use Rattle.wk_frames.specs.Levels.{LevelsShown, tree_in}
 use Rattle.wk_expand.specs.Nodes.{charged_node, opened, rest_list}
 use Rattle.wk_expand.specs.Running.{ComesTo, Passes, StopsAt}
 use Rattle.wk_view_rules.specs.declared.Kind.{Kind}
 use Rattle.wk_expand.specs.Stack.{AreWithin, IsBoundTitle, IsHere, IsNext, IsPlace, IsValueNext, IsValued, LeadsTo, Place, Waits, parts_at}
-use Rattle.wk_expand.specs.State.{IsBinding, ShowsFrame, caller_tree, current}
+use Rattle.wk_frames.specs.Frames.{IsBinding, ShowsFrame}
+use Rattle.wk_expand.specs.State.{caller_tree, current}
 use Rattle.wk_expand.specs.Work.{Continues, IsAtNode, IsEnded, IsFilled, IsGoing, IsListBehind, IsListing, IsNow, IsOpened, IsPassed, IsTurn, HasOpened, Spot, place_of}
-use Rattle.wk_expand.specs.declared.levels.Bound.{Bound}
+use Rattle.wk_frames.specs.declared.levels.Bound.{Bound}
 use Rattle.wk_expand.specs.declared.stack.Listing.{Listing}
 use Rattle.wk_expand.specs.declared.stack.Next.{Next}
 use Rattle.wk_expand.specs.declared.stack.Next.TheVariants.{Gives, Expands, Goes}

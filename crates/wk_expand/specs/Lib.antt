@@ -1,15 +1,11 @@
 pub mod Answers
-pub mod Bindings
-pub mod Codes
 pub mod Decisions
 pub mod Drafts
 pub mod Entries
 pub mod Inclusions
 pub mod Items
 pub mod Kept
-pub mod Levels
 pub mod Machines
-pub mod Marks
 pub mod Nodes
 pub mod PageParts
 pub mod Resumed

@@ -13,14 +13,15 @@ use Rattle.wk_view_rules.specs.Expansions.{Expansion, Output, give, ◌>>=◌, a
 use Rattle.wk_view_rules.specs.Frames.{Frame, Binding}
 use Rattle.wk_view_rules.specs.Words.{named_item}
 use Rattle.wk_view_rules.specs.Worlds.{Seen}
-use Rattle.wk_expand.specs.Levels.{HasLists, LevelsShown, tree_in}
+use Rattle.wk_frames.specs.Levels.{HasLists, LevelsShown, tree_in}
 use Rattle.wk_expand.specs.Nodes.{rest_written}
-use Rattle.wk_expand.specs.Bindings.{named_binding}
+use Rattle.wk_frames.specs.Bindings.{named_binding}
 use Rattle.wk_expand.specs.Running.{ComesTo, Passes, StopsAt}
 use Rattle.wk_expand.specs.Searches.{HasDefault, behind_turned, search_of}
-use Rattle.wk_expand.specs.State.{IsBinding, ShowsBindings, ShowsFrame, caller_tree, current}
-use Rattle.wk_expand.specs.declared.levels.Bound.{Bound}
-use Rattle.wk_expand.specs.declared.levels.Level.{Level}
+use Rattle.wk_frames.specs.Frames.{IsBinding, ShowsBindings, ShowsFrame}
+use Rattle.wk_expand.specs.State.{caller_tree, current}
+use Rattle.wk_frames.specs.declared.levels.Bound.{Bound}
+use Rattle.wk_frames.specs.declared.levels.Level.{Level}
 use Rattle.wk_expand.specs.declared.search.Search.{Search}
 use Rattle.wk_expand.specs.declared.stack.Binder.{Binder}
 use Rattle.wk_expand.specs.declared.stack.Inclusion.{Inclusion}

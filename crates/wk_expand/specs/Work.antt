@@ -9,11 +9,12 @@ use Rattle.wk_view_rules.specs.Expand.{expand}
 use Rattle.wk_view_rules.specs.Expansions.{Expansion, Output, give, ◌>>=◌, most_open}
 use Rattle.wk_view_rules.specs.Frames.{Frame}
 use Rattle.wk_view_rules.specs.Worlds.{Seen}
-use Rattle.wk_expand.specs.Levels.{LevelsShown}
+use Rattle.wk_frames.specs.Levels.{LevelsShown}
 use Rattle.wk_expand.specs.Nodes.{charged_node, rest_list}
 use Rattle.wk_expand.specs.Running.{Passes, StopsAt}
 use Rattle.wk_expand.specs.Stack.{AreWithin, IsNext, IsPlace, IsRest, Place, text_at}
-use Rattle.wk_expand.specs.State.{ShowsFrame, current}
+use Rattle.wk_frames.specs.Frames.{ShowsFrame}
+use Rattle.wk_expand.specs.State.{current}
 use Rattle.wk_expand.specs.declared.stack.Listing.{Listing}
 use Rattle.wk_expand.specs.declared.stack.Next.TheVariants.{Goes}
 use Rattle.wk_expand.specs.declared.stack.Now.{Now}

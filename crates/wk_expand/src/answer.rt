@@ -10,7 +10,7 @@ use wk_title::Title;
 use wk_view_rules::Kind;
 
 /// An answer about a title (own).
-#[derive(Debug, Drop)]
+#[derive(Drop)]
 pub enum Answer {
     /// Asked for its text: the number of the page's current revision and its text, or `None` where it is missing.
     Page(Option<(u64, Text)>),
@@ -58,7 +58,7 @@ impl Answer {
 }
 
 /// A title that a draft has read, with the mark of the answer.
-#[derive(Debug, Drop)]
+#[derive(Drop)]
 pub struct Read {
     /// The title.
     pub title: Title,
@@ -69,7 +69,7 @@ pub struct Read {
 }
 
 /// What an expansion cost (MediaWiki's Manual:Template limits; the numbers are own).
-#[derive(Clone, Copy, Debug, PartialEq, Eq)]
+#[derive(Clone, Copy, PartialEq, Eq)]
 pub struct Counts {
     /// The nodes, with what was charged for texts, values and redirects. At most 1,000,000.
     pub nodes: u64,

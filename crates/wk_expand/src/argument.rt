@@ -8,14 +8,15 @@ ghost use Rattle.wk_view_rules.specs.Worlds.{Seen as Answers};
 ghost use Rattle.wk_tree.specs.Parsed.{list_with, node_with};
 ghost use Rattle.wk_tree.specs.declared.item.NodeId.{NodeId as NodeName};
 ghost use Rattle.wk_expand.specs.Stack.{IsBoundTitle, IsHere, IsValued, LeadsTo, Place, parts_at};
-ghost use Rattle.wk_expand.specs.State.{IsBinding, caller_tree, current};
+ghost use Rattle.wk_frames.specs.Frames.{IsBinding};
+ghost use Rattle.wk_expand.specs.State.{caller_tree, current};
 
 use crate::items::{plain_text, trimmed_text};
-use crate::levels::Bound;
 use crate::stack::{Next, Use, Waiting};
 use crate::state::Expander;
-use crate::texts::{argument_error, made_or, node_error, plain, trimmed, trimmed_copy};
+use crate::texts::{argument_error, node_error, plain};
 use std::alloc::Global;
+use wk_frames::{Bound, made_or, trimmed, trimmed_copy};
 use wk_memory::Memory;
 use wk_out::Out;
 use wk_tree::{ListId, NodeId};
@@ -29,7 +30,7 @@ impl Expander {
             self.old next self.new) }
     {
         let made = trimmed_copy(self.alloc, name)?;
-        if let Some(bound) = self.look(made_or(&made, name)) {
+        if let Some(bound) = self.levels.look(made_or(&made, name)) {
             return Ok(self.value(bound)?);
         }
         if self.tree().parts(node) == 0 {
@@ -51,7 +52,7 @@ impl Expander {
             return None;
         }
         let name = self.plain_name(title)?;
-        self.levels.look(name)
+        self.levels.look_text(name)
     }
 
     /// The value of an argument is expanded, in the frame of the caller.

@@ -16,7 +16,7 @@ use wk_title::Title;
 use wk_view_rules::Kind;
 
 /// What is expanded.
-#[derive(Debug, Drop)]
+#[derive(Drop)]
 pub enum Root {
     /// The page's own text.
     Page,

@@ -4,9 +4,9 @@ ghost use Rattle.wk_view_rules.specs.Worlds.{Seen as Answers};
 ghost use Rattle.wk_expand.specs.Stack.{LeadsTo, Waits};
 
 use crate::argument::trimmed_if;
-use crate::bind::bind_name;
 use crate::stack::{Binder, Next, Pending, Waiting};
 use crate::state::Expander;
+use wk_frames::bind_name;
 use wk_memory::Memory;
 use wk_out::Out;
 use wk_tree::NodeId;

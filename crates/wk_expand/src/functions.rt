@@ -14,7 +14,7 @@ ghost use Rattle.wk_expand.specs.State.{current};
 use crate::search::{Search, Searching};
 use crate::stack::{Next, Use, Waiting};
 use crate::state::Expander;
-use crate::texts::trimmed;
+use wk_frames::trimmed;
 use wk_memory::Memory;
 use wk_out::Out;
 use wk_tree::{ListId, NodeId};

@@ -39,10 +39,10 @@ impl Expander {
         if title.is_virtual() {
             return Ok(Found::Gives(link_text(self.alloc, title)?));
         }
-        if self.is_within(title) {
+        if self.levels.is_within(title) {
             return Ok(Found::Gives(loop_error(self.alloc, title)?));
         }
-        if self.is_deep() {
+        if self.levels.is_deep() {
             return Ok(Found::Gives(depth_error(self.alloc, title)?));
         }
         match self.answer(seen, title, Kind::Include)? {
@@ -75,7 +75,7 @@ impl Expander {
         ensures finds { Finds seen.now (λ inner viewed frame parts.
             redirected inner viewed frame title.now target.now parts) title.now self.old result self.new }
     {
-        if self.is_within(target) {
+        if self.levels.is_within(target) {
             return Ok(Found::Gives(loop_error(self.alloc, target)?));
         }
         match self.answer(seen, target, Kind::Include)? {

@@ -3,19 +3,16 @@
 
 mod answer;
 mod argument;
-mod bind;
 mod decide;
 mod drafting;
 mod drafts;
 mod exists;
 mod finished;
-mod frames;
 mod functions;
 mod hash;
 mod inclusion;
 mod items;
 mod laws;
-mod levels;
 mod limits;
 mod machine;
 mod names;
@@ -29,7 +26,6 @@ mod stack;
 mod state;
 mod template;
 mod texts;
-mod tree;
 mod trees;
 mod words;
 mod work;

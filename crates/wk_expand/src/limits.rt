@@ -17,7 +17,7 @@ use wk_out::Out;
 use wk_title::Title;
 
 /// The bytes of arguments, and of included texts, at most (own).
-const MOST_BYTES: u64 = 2_097_152;
+const MOST_BYTES_IN_ALL: u64 = 2_097_152;
 
 impl Counts {
     /// Counts so many bytes of an argument, unless arguments would have too many bytes in all.
@@ -28,7 +28,7 @@ impl Counts {
             → argument_within_limit out (progress_with self.old tested) ≡ gives (argument_error, progress_with self.new tested)) }
     {
         match self.argument.checked_add(len as u64) {
-            Some(sum) if sum <= MOST_BYTES => {
+            Some(sum) if sum <= MOST_BYTES_IN_ALL => {
                 self.argument = sum;
                 true
             }
@@ -55,7 +55,7 @@ impl Expander {
         ensures { IfOk result (λ given. (seen : Seen) → ComesTo seen (inclusion_within_limit title.now out) self.old (give given) self.new) }
     {
         match self.counts.include.checked_add(out.len() as u64) {
-            Some(sum) if sum <= MOST_BYTES => {
+            Some(sum) if sum <= MOST_BYTES_IN_ALL => {
                 self.counts.include = sum;
                 Ok(out)
             }

@@ -6,16 +6,13 @@ use crate::hash::hashed;
 use std::alloc::Global;
 use std::marker::Model;
 use wk_memory::Memory;
-use wk_title::{Title, named};
+use wk_title::{TEMPLATE, Title, named};
 
 /// How many names have a place at most.
 const MOST_NAMES: usize = 1024;
 
 /// How many bytes a name has at most that is kept.
-const MOST_BYTES: usize = 256;
-
-/// The number of the namespace Template.
-const TEMPLATE: i8 = 10;
+const MOST_NAME_BYTES: usize = 256;
 
 /// A name that calls a page, a template where it names no namespace, and the page's title.
 #[derive(Drop)]
@@ -108,7 +105,7 @@ impl Names {
         ensures { IfOk result (λ found. found ≡ normal name.now (pos 10)) }
     {
         let count = self.places.as_slice().len();
-        if count == 0 || MOST_BYTES < name.len() {
+        if count == 0 || MOST_NAME_BYTES < name.len() {
             return named(alloc, name, TEMPLATE);
         }
         let place = place_of(name, count);

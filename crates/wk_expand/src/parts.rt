@@ -13,7 +13,8 @@ ghost use Rattle.wk_expand.specs.State.{current};
 
 use crate::stack::{Next, Use, Waiting};
 use crate::state::Expander;
-use crate::texts::{plain, trimmed};
+use crate::texts::plain;
+use wk_frames::trimmed;
 use wk_func::equal;
 use wk_memory::Memory;
 use wk_out::Out;

@@ -17,7 +17,7 @@ use wk_title::Title;
 use wk_view_rules::Kind;
 
 /// A title, and what is asked of it.
-#[derive(Debug, Drop, PartialEq, Eq)]
+#[derive(Drop, PartialEq, Eq)]
 #[derive_where(Hash)]
 struct Asked {
     title: Title,

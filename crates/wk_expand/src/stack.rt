@@ -1,12 +1,12 @@
 //! What an expansion has begun and not ended: the nodes that are open within each other, and the list that is expanded.
 ghost use Rattle.std.specs.Prelude.{◌≡◌, IfOk};
 
-use crate::levels::{Bound, Level};
 use crate::search::Searching;
 use std::alloc::Global;
 use std::marker::Model;
 use wk_args::Args;
 use wk_bytes::Text;
+use wk_frames::{Bound, Level};
 use wk_memory::Memory;
 use wk_out::Out;
 use wk_title::Title;

@@ -9,9 +9,9 @@ ghost use Rattle.wk_expand.specs.Running.{ComesTo};
 ghost use Rattle.wk_expand.specs.declared.state.Stop.TheVariants.{Memory as NoMemory};
 
 use crate::answer::Counts;
-use crate::levels::Levels;
 use crate::seen::Seen;
 use std::alloc::{AllocError, AllocFailed, Global};
+use wk_frames::Levels;
 use wk_memory::Memory;
 use wk_title::Title;
 use wk_tree::Parsed;
@@ -21,7 +21,7 @@ use wk_view_rules::Kind;
 const MOST_NODES: u64 = 1_000_000;
 
 /// Why an expansion stops.
-#[derive(Debug, Drop)]
+#[derive(Drop)]
 pub enum Stop {
     /// This title was not seen with this kind.
     Needs(Title, Kind),

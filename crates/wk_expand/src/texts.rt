@@ -1,12 +1,10 @@
 //! The texts that an expansion gives where it doesn't go on.
-ghost use Rattle.std.specs.Prelude.{◌≡◌, ◌++◌, codes, unwrap_or, IfOk};
-ghost use Rattle.std.specs.Bool.{OnTrue};
-ghost use Rattle.wk_text_rules.specs.Marked.{all_plain, trimmed_output};
+ghost use Rattle.std.specs.Prelude.{◌≡◌, ◌++◌, codes, IfOk};
+ghost use Rattle.wk_text_rules.specs.Marked.{all_plain};
 ghost use Rattle.wk_text_rules.specs.Titles.{shown};
 ghost use Rattle.wk_view_rules.specs.Texts.{argument_error, depth_error, error_text, link_text, loop_error, nesting_error, node_error};
 
 use std::alloc::Global;
-use wk_bytes::trim;
 use wk_memory::Memory;
 use wk_out::Out;
 use wk_title::{Title, shown};
@@ -18,44 +16,6 @@ pub fn plain(alloc: Global, text: &str) -> Result<Out, Memory>
     let mut out = Out::new(alloc);
     out.push_plain(text)?;
     Ok(out)
-}
-
-/// Whether an output has no blank byte at its ends, plain or sealed.
-fn is_trimmed(out: &Out) -> bool
-    ensures { OnTrue result (trimmed_output out.now ≡ out.now) }
-{
-    let text = out.text().as_bytes();
-    trim(text).len() == text.len()
-}
-
-/// The output without the plain blank bytes at both ends: the same one where it has none.
-pub fn trimmed(alloc: Global, out: Out) -> Result<Out, Memory>
-    ensures { IfOk result (λ given. given ≡ trimmed_output out) }
-{
-    if is_trimmed(&out) {
-        return Ok(out);
-    }
-    out.trimmed(alloc)
-}
-
-/// The output without the plain blank bytes at both ends, where it has any.
-pub fn trimmed_copy(alloc: Global, out: &Out) -> Result<Option<Out>, Memory>
-    ensures { IfOk result (λ made. unwrap_or made out.now ≡ trimmed_output out.now) }
-{
-    if is_trimmed(out) {
-        return Ok(None);
-    }
-    Ok(Some(out.trimmed(alloc)?))
-}
-
-/// What was made of an output, or the output itself.
-pub fn made_or<'a>(made: &'a Option<Out>, out: &'a Out) -> &'a Out
-    ensures { result.now ≡ unwrap_or made.now out.now }
-{
-    match made {
-        Some(made) => made,
-        None => out,
-    }
 }
 
 /// An error with these words about a title.

@@ -6,25 +6,25 @@ ghost use Rattle.wk_expand.specs.Trees.{AreKept, IsKeyOf, most_bytes, parsed_tex
 
 use crate::hash::hashed;
 use crate::names::Names;
-use crate::tree::Tree;
 use lru::LruCache;
 use std::alloc::Global;
 use std::marker::Model;
 use std::num::NonZeroUsize;
 use wk_bytes::Text;
+use wk_frames::Tree;
 use wk_memory::Memory;
 use wk_title::Title;
 use wk_tree::parse;
 use wk_tree_rules::Mode;
 
 /// How many bytes a text has at most whose tree is kept.
-const MOST_BYTES: usize = 65_536;
+const MOST_TEXT_BYTES: usize = 65_536;
 
 /// How many bytes at the start of a text, and how many at its end, are looked at to find it.
 const FEW_BYTES: usize = 16;
 
 /// A text, and how it is read. It is found by the code alone, and is the same where all are.
-#[derive(Debug, Drop, PartialEq, Eq)]
+#[derive(Drop, PartialEq, Eq)]
 #[derive_where(Hash)]
 pub struct Reading {
     /// What the text is found by.
@@ -166,7 +166,7 @@ impl Trees {
         ensures same { self.new ≡ self.old }
     {
         match &mut self.kept {
-            Some(kept) if text.len() <= MOST_BYTES => kept_tree(alloc, kept, text, mode),
+            Some(kept) if text.len() <= MOST_TEXT_BYTES => kept_tree(alloc, kept, text, mode),
             _ => made(alloc, text, mode),
         }
     }

@@ -7,10 +7,11 @@ ghost use Rattle.wk_view_rules.specs.Expand.{tested_title};
 ghost use Rattle.wk_view_rules.specs.Texts.{variable_text};
 ghost use Rattle.wk_view_rules.specs.Words.{function_called};
 
-use crate::texts::{plain, trimmed};
+use crate::texts::plain;
 use crate::trees::Trees;
 use std::alloc::Global;
 use wk_bytes::is_blank;
+use wk_frames::trimmed;
 use wk_memory::Memory;
 use wk_out::Out;
 use wk_title::{Title, TitleRefusal, namespace_name, normalize, shown};

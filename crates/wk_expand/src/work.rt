@@ -13,13 +13,13 @@ ghost use Rattle.wk_expand.specs.declared.stack.Pending.TheVariants.{Named as Na
 ghost use Rattle.wk_expand.specs.declared.stack.Waiting.TheVariants.{Title as TitleWaiting};
 
 use crate::items::fill;
-use crate::levels::Bound;
 use crate::seen::Seen;
 use crate::stack::{Listing, Next, Now, Opened, Pending, Turn, Waiting};
 use crate::state::{Expander, Stop};
 use crate::texts::{nesting_error, node_error};
 use crate::trees::Trees;
 use std::mem;
+use wk_frames::Bound;
 use wk_memory::Memory;
 use wk_out::Out;
 use wk_title::Title;

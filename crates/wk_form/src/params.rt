@@ -30,7 +30,7 @@ fn find_pair<'a>(pairs: &'a [(String, String)], name: &str) -> Option<&'a (Strin
 /// The parameters of a request, in order: those of the query, then those of the body (own).
 ///
 /// They are read as the URL Standard reads forms, section 5.1. What isn't UTF-8 becomes U+FFFD.
-#[derive(Debug, Drop)]
+#[derive(Drop)]
 pub struct Params {
     pairs: Vec<(String, String)>,
 }

@@ -22,7 +22,7 @@ fn is_default(out: &Out) -> bool
 /// The search of a `#switch` for its result, item by item (MediaWiki's Help:Extension:ParserFunctions). It ends at the
 /// first item that is the result. Contracts see the subject, and whether a bare `#default` stands before the next item
 /// with no item with an equals sign between (own).
-#[derive(Debug, Drop)]
+#[derive(Drop)]
 pub struct Switch {
     subject: Out,
     default_before: bool,

@@ -9,7 +9,7 @@ use wk_memory::Memory;
 use wk_table_rows::{PageRow, RevisionRow, TableRows};
 
 /// What a page's last revision leaves.
-#[derive(Clone, Copy, Debug)]
+#[derive(Clone, Copy)]
 struct LastRevision {
     /// Its number, 0 where it is a deletion.
     current: u64,

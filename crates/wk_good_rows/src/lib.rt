@@ -15,3 +15,4 @@ mod titles;
 
 pub use broken::broken_rows;
 pub use normal::shown_form;
+pub use revisions::MAX_TEXT;

@@ -11,9 +11,7 @@ use crate::order::is_behind;
 use std::alloc::Global;
 use wk_memory::Memory;
 use wk_table_rows::{CategoryRow, LinkRow, RedirectRow, TableRows};
-
-/// The number of the namespace Category.
-const CATEGORY: i64 = 14;
+use wk_title::CATEGORY;
 
 /// Whether the row is of a page, whose namespace it has.
 fn is_from_page(tables: &TableRows, row: &LinkRow) -> bool
@@ -65,7 +63,7 @@ fn is_good_category(
     if !has_page(&tables.pages, row.cl_from) || !is_behind(rows, place) {
         return Ok(false);
     }
-    normals.is_normal(alloc, CATEGORY, &row.cl_to)
+    normals.is_normal(alloc, i64::from(CATEGORY), &row.cl_to)
 }
 
 /// Whether the row at this place is of a page that is above those of all rows before it, and its target is a title that

@@ -10,7 +10,7 @@ use wk_bytes::Text;
 use wk_memory::Memory;
 
 /// The titles that were found normal so far. Contracts see them as a list.
-#[derive(Debug, Drop)]
+#[derive(Drop)]
 pub struct Normals {
     titles: TitleSet,
 }

@@ -6,8 +6,8 @@ ghost use Rattle.wk_table_rules.specs.GoodStore.{first_bad, has_good_id, is_good
 use crate::number::{has_page, row_number};
 use wk_table_rows::{RevisionRow, TableRows};
 
-/// The most bytes of a text.
-const MAX_TEXT: u64 = 2_097_152;
+/// The most bytes of a page's text, and of a text that is expanded (own; MediaWiki's `$wgMaxArticleSize` of 2048 KiB).
+pub const MAX_TEXT: usize = 2_097_152;
 
 /// The most bytes of the texts of all revisions.
 const MAX_TEXTS: u64 = 1_073_741_824;
@@ -19,7 +19,7 @@ fn is_good_revision(tables: &TableRows, revision: &RevisionRow, number: u64, tex
 {
     let len = revision.rev_text.len() as u64;
     let is_of_page = revision.rev_id == number && has_page(&tables.pages, revision.rev_page);
-    let is_short = revision.rev_len == len && revision.rev_len <= MAX_TEXT;
+    let is_short = revision.rev_len == len && revision.rev_len <= MAX_TEXT as u64;
     if !is_of_page || !is_short {
         return false;
     }

@@ -10,7 +10,7 @@ use wk_bytes::Text;
 use wk_memory::Memory;
 
 /// The title of a row, which need not be one that a text can name. In order as titles are.
-#[derive(Debug, Drop, PartialEq, Eq, PartialOrd, Ord)]
+#[derive(Drop, PartialEq, Eq, PartialOrd, Ord)]
 struct RowTitle {
     ns: i64,
     key: Text,
@@ -27,7 +27,7 @@ impl Model for RowTitle {
 }
 
 /// A set of titles. Contracts see them as a list.
-#[derive(Debug, Drop)]
+#[derive(Drop)]
 pub struct TitleSet {
     titles: BTreeSet<RowTitle>,
 }

@@ -17,7 +17,7 @@ use std::str;
 use wk_memory::Memory;
 
 /// What is known of the bytes that are left.
-#[derive(Clone, Copy, Debug)]
+#[derive(Clone, Copy)]
 enum Known {
     /// Fewer bytes than these hold no whole message and no bad place.
     OpenBelow(usize),
@@ -185,7 +185,7 @@ fn known_step(known: Known, left: &[u8]) -> Option<Step>
 /// bytes that are left: those that were pushed and don't belong to a message that was given. What it
 /// answers depends on these alone, so the requests are the same however the stream is cut into pieces. Of the messages
 /// that were given it keeps at most as many bytes as are left.
-#[derive(Debug, Drop)]
+#[derive(Drop)]
 pub struct Feed {
     buffer: Vec<u8>,
     start: usize,

@@ -10,7 +10,7 @@ use std::alloc::Global;
 use wk_memory::Memory;
 
 /// Where bytes end with which a head can begin.
-#[derive(Clone, Copy, Debug)]
+#[derive(Clone, Copy)]
 pub(crate) enum Place {
     /// Behind empty lines, or where no byte is.
     Empty,

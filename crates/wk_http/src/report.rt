@@ -41,7 +41,7 @@ pub enum Refresh {
 }
 
 /// What a session did.
-#[derive(Debug, PartialEq, Eq, Drop)]
+#[derive(PartialEq, Eq, Drop)]
 pub struct SessionReport {
     /// How it ended.
     pub end: SessionEnd,

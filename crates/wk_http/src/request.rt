@@ -2,7 +2,7 @@
 use wk_wire_rules::Method;
 
 /// A whole message of a connection, with the parts of its head that the program looks at.
-#[derive(Debug, PartialEq, Eq, Drop)]
+#[derive(PartialEq, Eq, Drop)]
 pub struct HttpRequest {
     /// The method (RFC 9110 section 9).
     pub method: Method,
@@ -19,7 +19,7 @@ pub struct HttpRequest {
 }
 
 /// An answer of [`Feed::next`](crate::Feed::next).
-#[derive(Debug, PartialEq, Eq, Drop)]
+#[derive(PartialEq, Eq, Drop)]
 pub enum Next {
     /// The next whole message.
     Whole(HttpRequest),

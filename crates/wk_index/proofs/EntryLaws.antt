@@ -9,7 +9,7 @@ use Rattle.std.proofs.lemmas.Bool.Decides.{same_from_decides}
 use Rattle.std.proofs.lemmas.Map.Text.{is_eq-slice_cmp}
 use Rattle.std.proofs.lemmas.Slice.Eq.{bytes_eq-Decides}
 use Rattle.wk_text_rules.specs.Titles.{PageTitle, title_cmp, title_eq}
-use Rattle.wk_row_rules.specs.PageRows.{PageRows}
+use Rattle.wk_page_rules.specs.PageRows.{PageRows}
 use Rattle.wk_table_rows.specs.Members.{member_of}
 use Rattle.wk_good_rows.proofs.Sets.{same-title}
 use Rattle.wk_index.specs.Entries.{Entry, KeptEntries, SparesEntries, entry_cmp, has_entry, lists_entry}

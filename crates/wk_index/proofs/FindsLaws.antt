@@ -7,8 +7,8 @@ use Rattle.std.proofs.lemmas.Bool.{cases_Bool, eqb-true, eqb-false, false≢true
 use Rattle.std.proofs.lemmas.List.Elements.{recursion_from_All}
 use Rattle.std.proofs.lemmas.List.Folds.{list_any-append}
 use Rattle.wk_text_rules.specs.Titles.{PageTitle, title_eq}
-use Rattle.wk_row_rules.specs.PageRows.{Member, PageRows, no_rows}
-use Rattle.wk_listing_rules.specs.Names.{AreAmong, admitted, joined, member_eq, with_rows_at}
+use Rattle.wk_page_rules.specs.PageRows.{Member, PageRows, no_rows}
+use Rattle.wk_wiki_rules.specs.Names.{AreAmong, admitted, joined, member_eq, with_rows_at}
 use Rattle.wk_index.specs.declared.named.Kind.{Kind}
 use Rattle.wk_index.specs.declared.named.Kind.TheVariants.{Included, Mentioned, Linked}
 use Rattle.wk_index.specs.Entries.{has_entry, lists_entry}

@@ -16,10 +16,10 @@ use Rattle.std.proofs.lemmas.List.{append-nil, append_assoc, drop_all, length-ap
 use Rattle.std.proofs.lemmas.List.Kept.{IsStrictlySortedBy-filter}
 use Rattle.std.proofs.lemmas.Slice.Eq.{bytes_eq-Decides}
 use Rattle.wk_text_rules.specs.Titles.{PageTitle, title_cmp, title_eq}
-use Rattle.wk_row_rules.specs.PageRows.{Member, PageRows}
+use Rattle.wk_page_rules.specs.PageRows.{Member, PageRows}
 use Rattle.wk_table_rows.specs.Members.{member_of}
 use Rattle.wk_good_rows.proofs.Sets.{same-title}
-use Rattle.wk_listing_rules.specs.Members.{MemberPage, category_members, member_lt, member_placed, members_on}
+use Rattle.wk_wiki_rules.specs.Members.{MemberPage, category_members, member_lt, member_placed, members_on}
 use Rattle.wk_index.specs.Entries.{Entry, FindsEntries, entry_cmp, has_entry, lists_entry}
 use Rattle.wk_index.specs.Listing.{members_from, own_members, page_members}
 use Rattle.wk_index.specs.Named.{rows_at}

@@ -11,7 +11,7 @@ use Rattle.std.proofs.lemmas.Cmp.{nat_list_cmp_total, int_cmp_total, on_total, t
 use Rattle.std.proofs.lemmas.List.{get_or-map, length-map, length-take-le, get_or-take}
 use Rattle.wk_good_rows.proofs.Sets.{same-title, title_eq_comm}
 use Rattle.wk_text_rules.specs.Titles.{PageTitle, title_cmp, title_eq}
-use Rattle.wk_row_rules.specs.PageRows.{Member}
+use Rattle.wk_page_rules.specs.PageRows.{Member}
 use Rattle.wk_table_rows.specs.Members.{member_of}
 use Rattle.wk_index.specs.InOrder.{IsInOrder, IsOnlyPlace}
 use Rattle.wk_index.proofs.TitleLaws.{title_eq-true}

@@ -13,7 +13,7 @@ use Rattle.std.proofs.lemmas.Cmp.{nat_cmp_total}
 use Rattle.std.proofs.lemmas.List.Kept.{IsStrictlySortedBy-filter}
 use Rattle.std.proofs.lemmas.Map.Lookups.{btree_set_from_contains}
 use Rattle.wk_text_rules.specs.Titles.{PageTitle, title_cmp}
-use Rattle.wk_row_rules.specs.PageRows.{PageRows}
+use Rattle.wk_page_rules.specs.PageRows.{PageRows}
 use Rattle.wk_index.specs.declared.named.Kind.{Kind}
 use Rattle.wk_index.specs.Named.{Finds, Sets, has, is_above, is_in, is_in_found, listed, lists, page_lists}
 use Rattle.wk_index.proofs.PlaceLaws.{lists-at}

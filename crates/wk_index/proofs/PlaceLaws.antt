@@ -3,7 +3,7 @@ use Rattle.std.proofs.Common.{◌≡◌, ℕ, zero, suc, ◌-◌, ◌<◌, Bool,
 use Rattle.std.specs.Prelude.{slice_get}
 use Rattle.std.proofs.lemmas.Bool.{ne_eqb}
 use Rattle.wk_text_rules.specs.Titles.{PageTitle}
-use Rattle.wk_row_rules.specs.PageRows.{PageRows}
+use Rattle.wk_page_rules.specs.PageRows.{PageRows}
 use Rattle.wk_index.specs.declared.named.Kind.{Kind}
 use Rattle.wk_index.specs.Named.{lists, page_lists, rows_at}
 

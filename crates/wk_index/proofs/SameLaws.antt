@@ -6,9 +6,9 @@ use Rattle.std.specs.Option.{option_eq}
 use Rattle.std.proofs.lemmas.Bool.{and_parts, false≢true}
 use Rattle.std.proofs.lemmas.Slice.Eq.{bytes_eq-Decides}
 use Rattle.wk_text_rules.specs.Titles.{PageTitle, title_eq}
-use Rattle.wk_row_rules.specs.PageRows.{Member}
+use Rattle.wk_page_rules.specs.PageRows.{Member}
 use Rattle.wk_table_rows.specs.Members.{member_of}
-use Rattle.wk_listing_rules.specs.Names.{member_eq}
+use Rattle.wk_wiki_rules.specs.Names.{member_eq}
 use Rattle.wk_index.proofs.TitleLaws.{title_eq-true, title_eq-same}
 
 pub Decides-title_eq : (a b : PageTitle) → Decides (title_eq a b) (a ≡ b)

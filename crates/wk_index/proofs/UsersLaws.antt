@@ -3,11 +3,11 @@ use Rattle.std.proofs.Common.{◌≡◌, ℕ, ◌+◌, ◌<◌, Bool, true, ltb,
 use Rattle.std.specs.List.{enumerate_from, filter, list_any}
 use Rattle.std.proofs.lemmas.Bool.{cases_Bool, lt-ltb}
 use Rattle.wk_text_rules.specs.Titles.{PageTitle}
-use Rattle.wk_row_rules.specs.PageRows.{PageRows, names}
-use Rattle.wk_row_rules.specs.declared.Reach.{Reach}
-use Rattle.wk_row_rules.specs.declared.Reach.TheVariants.{Text, Both}
-use Rattle.wk_job_rules.specs.Users.{some_page_names, users}
-use Rattle.wk_listing_rules.specs.Links.{linking_pages}
+use Rattle.wk_page_rules.specs.PageRows.{PageRows, names}
+use Rattle.wk_page_rules.specs.declared.Reach.{Reach}
+use Rattle.wk_page_rules.specs.declared.Reach.TheVariants.{Text, Both}
+use Rattle.wk_wiki_rules.specs.Users.{some_page_names, users}
+use Rattle.wk_wiki_rules.specs.Links.{linking_pages}
 use Rattle.wk_index.specs.declared.named.Kind.TheVariants.{Linked}
 use Rattle.wk_index.specs.Named.{kind_of, listed}
 

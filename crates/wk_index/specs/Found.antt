@@ -1,6 +1,6 @@
 -- The sets by which the pages of an index are found.
 use Rattle.std.specs.Prelude.{ℕ, List}
-use Rattle.wk_row_rules.specs.PageRows.{PageRows}
+use Rattle.wk_page_rules.specs.PageRows.{PageRows}
 use Rattle.wk_index.specs.declared.found.Found.{Found}
 use Rattle.wk_index.specs.declared.named.Kind.TheVariants.{Included, Mentioned, Linked}
 use Rattle.wk_index.specs.Entries.{FindsEntries, FindsRowsEntries, KeptEntries, SparesEntries}

@@ -2,7 +2,7 @@
 use Rattle.std.specs.Prelude.{ℕ, Bool, List}
 use Rattle.std.specs.List.{list_any}
 use Rattle.wk_text_rules.specs.Titles.{PageTitle, title_eq}
-use Rattle.wk_row_rules.specs.PageRows.{PageRows}
+use Rattle.wk_page_rules.specs.PageRows.{PageRows}
 use Rattle.wk_index.specs.declared.found.Found.{Found}
 use Rattle.wk_index.specs.declared.gathered.Gathered.{Gathered}
 use Rattle.wk_index.specs.declared.named.Kind.TheVariants.{Included, Linked}

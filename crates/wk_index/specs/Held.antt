@@ -1,6 +1,6 @@
 -- What an index stands for.
 use Rattle.std.specs.Prelude.{ℕ, List, unwrap_or}
-use Rattle.wk_row_rules.specs.PageRows.{PageRows, no_rows}
+use Rattle.wk_page_rules.specs.PageRows.{PageRows, no_rows}
 use Rattle.wk_index.specs.Named.{rows_at}
 
 -- the rows of each page, in the order of the pages, and for how many pages more there is room

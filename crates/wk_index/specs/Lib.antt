@@ -8,10 +8,10 @@ pub mod Listing
 pub mod Named
 pub mod Places
 pub mod TitleMap
-pub use Rattle.wk_row_rules.specs.PageRows
+pub use Rattle.wk_page_rules.specs.PageRows
 pub use Rattle.wk_table_rules.specs.GoodStore
 pub use Rattle.wk_table_rules.specs.Stored
-pub use Rattle.wk_job_rules.specs.Users
-pub use Rattle.wk_listing_rules.specs.Links
-pub use Rattle.wk_listing_rules.specs.Members
-pub use Rattle.wk_listing_rules.specs.Names
+pub use Rattle.wk_wiki_rules.specs.Users
+pub use Rattle.wk_wiki_rules.specs.Links
+pub use Rattle.wk_wiki_rules.specs.Members
+pub use Rattle.wk_wiki_rules.specs.Names

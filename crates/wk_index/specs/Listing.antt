@@ -1,8 +1,8 @@
 -- The members of a category in the order of the entries by which they are found.
 use Rattle.std.specs.Prelude.{ℕ, ◌-◌, ◌&&◌, ◌++◌, List, [], map, filter, take, drop, length, None, Some, bytes_eq}
 use Rattle.wk_text_rules.specs.Titles.{PageTitle, title_eq}
-use Rattle.wk_row_rules.specs.PageRows.{PageRows}
-use Rattle.wk_listing_rules.specs.Members.{MemberPage}
+use Rattle.wk_page_rules.specs.PageRows.{PageRows}
+use Rattle.wk_wiki_rules.specs.Members.{MemberPage}
 use Rattle.wk_index.specs.Entries.{Entry}
 use Rattle.wk_index.specs.Named.{rows_at}
 

@@ -8,10 +8,10 @@ use Rattle.std.specs.Ordering.{is_eq, nat_cmp}
 use Rattle.std.specs.declared.cmp.Ordering.{Ordering}
 use Rattle.std.specs.declared.ops.Bound.TheVariants.{Excluded as Behind, Unbounded}
 use Rattle.wk_text_rules.specs.Titles.{PageTitle, title_cmp, title_eq}
-use Rattle.wk_row_rules.specs.PageRows.{PageRows, names}
-use Rattle.wk_row_rules.specs.declared.Reach.{Reach}
-use Rattle.wk_row_rules.specs.declared.Reach.TheVariants.{Text, Both}
-use Rattle.wk_listing_rules.specs.Links.{links_to}
+use Rattle.wk_page_rules.specs.PageRows.{PageRows, names}
+use Rattle.wk_page_rules.specs.declared.Reach.{Reach}
+use Rattle.wk_page_rules.specs.declared.Reach.TheVariants.{Text, Both}
+use Rattle.wk_wiki_rules.specs.Links.{links_to}
 use Rattle.wk_index.specs.declared.named.Kind.{Kind}
 use Rattle.wk_index.specs.declared.named.Kind.TheVariants.{Included, Mentioned, Linked}
 

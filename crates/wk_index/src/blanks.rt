@@ -1,7 +1,7 @@
 //! Lists without rows, for pages to come.
 ghost use Rattle.std.specs.Prelude.{◌≡◌, ◌+◌, ◌<◌, ◌≤◌, IfOk, OnOk, vec_len};
 ghost use Rattle.std.specs.List.{All};
-ghost use Rattle.wk_row_rules.specs.PageRows.{no_rows};
+ghost use Rattle.wk_page_rules.specs.PageRows.{no_rows};
 
 use crate::shared_rows::SharedRows;
 use std::alloc::Global;
@@ -10,7 +10,7 @@ use wk_memory::Memory;
 use wk_table_rows::PageRows;
 
 /// Lists without rows, for pages to come, shared: each costs a pointer. Contracts see how many there are.
-#[derive(Debug, Drop)]
+#[derive(Drop)]
 pub struct Blanks {
     rows: Vec<SharedRows>,
 }
@@ -18,7 +18,7 @@ pub struct Blanks {
 impl Model for Blanks {
     ghost use Rattle.std.specs.Prelude.{◌≡◌, ℕ, vec_len};
     ghost use Rattle.std.specs.List.{All};
-    ghost use Rattle.wk_row_rules.specs.PageRows.{no_rows};
+    ghost use Rattle.wk_page_rules.specs.PageRows.{no_rows};
 
     ghost Value = { ℕ };
 

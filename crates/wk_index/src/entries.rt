@@ -15,7 +15,7 @@ use wk_title::Title;
 
 /// A category, a sort key in it, and a page that is found by the two. In order by the category, then by the sort key,
 /// and then by the page.
-#[derive(Debug, Drop, PartialEq, Eq, PartialOrd, Ord)]
+#[derive(Drop, PartialEq, Eq, PartialOrd, Ord)]
 pub struct Entry {
     pub category: Title,
     pub sortkey: Text,

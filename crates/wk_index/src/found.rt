@@ -17,7 +17,7 @@ use wk_table_rows::PageRows;
 use wk_title::Title;
 
 /// The pages by the titles of each kind, and by their categories and the sort keys in them.
-#[derive(Debug, Drop)]
+#[derive(Drop)]
 pub struct Found {
     pub included: Named,
     pub mentioned: Named,

@@ -20,7 +20,7 @@ use wk_title::Title;
 
 /// The pages by the titles that they include, by those whose existence they test, by those that they link to, and by
 /// their categories and the sort keys in them.
-#[derive(Debug, Drop)]
+#[derive(Drop)]
 pub struct Gathered {
     pub included: PagesByTitle,
     pub tested: PagesByTitle,

@@ -2,13 +2,13 @@
 ghost use Rattle.std.specs.Prelude.{◌≡◌, ◌+◌, ◌≤◌, ◌<◌, ◌++◌, ◌∷◌, [], IfOk, IsSome, OnErr, OnOk, length};
 ghost use Rattle.std.specs.Option.{option_copied};
 ghost use Rattle.wk_page_rules.specs.Verdict.{max_pages};
-ghost use Rattle.wk_row_rules.specs.PageRows.{no_rows};
+ghost use Rattle.wk_page_rules.specs.PageRows.{no_rows};
 ghost use Rattle.wk_table_rules.specs.GoodStore.{IsGood};
 ghost use Rattle.wk_table_rules.specs.Stored.{stored_rows};
-ghost use Rattle.wk_job_rules.specs.Users.{some_page_names, users};
-ghost use Rattle.wk_listing_rules.specs.Links.{linking_pages};
-ghost use Rattle.wk_listing_rules.specs.Members.{members_behind};
-ghost use Rattle.wk_listing_rules.specs.Names.{AreAmong, admitted, with_rows_at};
+ghost use Rattle.wk_wiki_rules.specs.Users.{some_page_names, users};
+ghost use Rattle.wk_wiki_rules.specs.Links.{linking_pages};
+ghost use Rattle.wk_wiki_rules.specs.Members.{members_behind};
+ghost use Rattle.wk_wiki_rules.specs.Names.{AreAmong, admitted, with_rows_at};
 ghost use Rattle.wk_index.specs.Found.{FindsAll};
 ghost use Rattle.wk_index.specs.Held.{rows_of};
 ghost use Rattle.wk_index.specs.Named.{listed, rows_at};
@@ -23,7 +23,7 @@ use crate::shared_rows::SharedRows;
 use std::alloc::Global;
 use std::marker::Model;
 use wk_memory::Memory;
-use wk_row_rules::Reach;
+use wk_page_rules::Reach;
 use wk_table_rows::{PageRows, share_all};
 use wk_tables::Tables;
 use wk_title::Title;
@@ -36,7 +36,7 @@ use wk_title::Title;
 /// passed over, with the rows of these pages, and with the logarithm of all. A change of a page's rows takes a time that
 /// grows with the rows that it has and those that it gets, times a logarithm, where these are in the order of their
 /// titles, as those of a draft and of a good store are.
-#[derive(Debug, Drop)]
+#[derive(Drop)]
 pub struct Index {
     rows: Vec<SharedRows>,
     /// Each page is found by all that its rows have, and may be found by more, so what is found is looked up in the rows.

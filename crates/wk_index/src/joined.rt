@@ -2,7 +2,7 @@
 ghost use Rattle.std.specs.Prelude.{◌≡◌, IfOk, map, is_some, if◌then◌else◌};
 ghost use Rattle.wk_text_rules.specs.Titles.{title_eq};
 ghost use Rattle.wk_table_rows.specs.Members.{member_of};
-ghost use Rattle.wk_listing_rules.specs.Names.{admitted, joined, member_eq};
+ghost use Rattle.wk_wiki_rules.specs.Names.{admitted, joined, member_eq};
 
 use crate::lookup::{has_member, has_title};
 use crate::order::is_in_order;

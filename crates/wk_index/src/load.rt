@@ -18,10 +18,7 @@ use std::alloc::Global;
 use wk_bytes::Text;
 use wk_memory::Memory;
 use wk_table_rows::{CategoryRow, LinkRow, Numbered, PageRows, RedirectRow, Share, TableRows};
-use wk_title::Title;
-
-/// The number of the namespace Category.
-const CATEGORY: i64 = 14;
+use wk_title::{CATEGORY, Title};
 
 /// The rows of the page, among rows in the order of their pages.
 fn own_rows<T: Numbered>(rows: &[T], page: u64) -> &[T]
@@ -73,7 +70,7 @@ fn member(
     requires { is_normal (category_title row.now.cl_to) ≡ true }
     ensures { IfOk result (λ member. member_of_triple member ≡ member_of row.now) }
 {
-    let category = made.title(alloc, CATEGORY, &row.cl_to)?;
+    let category = made.title(alloc, i64::from(CATEGORY), &row.cl_to)?;
     let sortkey = row.cl_sortkey.share()?;
     let prefix = row.cl_sortkey_prefix.share()?;
     Ok((category, sortkey, prefix))

@@ -15,7 +15,7 @@ use wk_memory::Memory;
 use wk_table_rows::TableRows;
 
 /// The rows of the pages that were walked over, and what the pages are found by. Contracts see the rows page by page.
-#[derive(Debug, Drop)]
+#[derive(Drop)]
 struct Loading {
     rows: Vec<SharedRows>,
     gathered: Gathered,
@@ -24,7 +24,7 @@ struct Loading {
 impl Model for Loading {
     ghost use Rattle.std.specs.Prelude.{◌≤◌, List, vec_len};
     ghost use Rattle.wk_page_rules.specs.Verdict.{max_pages};
-    ghost use Rattle.wk_row_rules.specs.PageRows.{PageRows};
+    ghost use Rattle.wk_page_rules.specs.PageRows.{PageRows};
     ghost use Rattle.wk_index.specs.Gathered.{GathersAll};
 
     ghost Value = { List PageRows };

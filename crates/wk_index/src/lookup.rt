@@ -3,8 +3,8 @@ ghost use Rattle.std.specs.Prelude.{◌≡◌, true, ◌&&◌, bytes_eq, map};
 ghost use Rattle.std.specs.List.{list_any};
 ghost use Rattle.wk_text_rules.specs.Titles.{title_eq};
 ghost use Rattle.wk_table_rows.specs.Members.{member_of};
-ghost use Rattle.wk_listing_rules.specs.Links.{links_to};
-ghost use Rattle.wk_listing_rules.specs.Names.{member_eq};
+ghost use Rattle.wk_wiki_rules.specs.Links.{links_to};
+ghost use Rattle.wk_wiki_rules.specs.Names.{member_eq};
 ghost use Rattle.wk_index.specs.Entries.{lists_entry};
 ghost use Rattle.wk_index.specs.InOrder.{IsInOrder};
 ghost use Rattle.wk_index.specs.Named.{lists};
@@ -112,7 +112,7 @@ pub struct Lookup<'a> {
 
 impl<'a> Model for Lookup<'a> {
     ghost use Rattle.std.specs.Prelude.{◌≡◌, true};
-    ghost use Rattle.wk_row_rules.specs.PageRows.{PageRows as Rows};
+    ghost use Rattle.wk_page_rules.specs.PageRows.{PageRows as Rows};
     ghost use Rattle.wk_index.specs.InOrder.{AreInOrder};
 
     ghost Value = { Rows };

@@ -1,7 +1,7 @@
 //! The members of a category.
 ghost use Rattle.std.specs.Prelude.{◌≡◌, ◌&&◌, ◌++◌, ◌∷◌, [], List, bytes_eq, length, IfOk};
 ghost use Rattle.wk_text_rules.specs.Titles.{title_eq};
-ghost use Rattle.wk_listing_rules.specs.Members.{MemberPage as Listed, members_behind};
+ghost use Rattle.wk_wiki_rules.specs.Members.{MemberPage as Listed, members_behind};
 ghost use Rattle.wk_index.specs.Entries.{FindsEntries};
 ghost use Rattle.wk_index.specs.Listing.{members_from, own_members, page_members};
 
@@ -16,7 +16,7 @@ use wk_memory::Memory;
 use wk_title::Title;
 
 /// A page in a category.
-#[derive(Debug, Drop, PartialEq, Eq)]
+#[derive(Drop, PartialEq, Eq)]
 pub struct MemberPage {
     /// What the page is sorted by in the category.
     pub sortkey: Text,
@@ -27,7 +27,7 @@ pub struct MemberPage {
 }
 
 impl Model for MemberPage {
-    ghost use Rattle.wk_listing_rules.specs.Members.{MemberPage as Listed};
+    ghost use Rattle.wk_wiki_rules.specs.Members.{MemberPage as Listed};
 
     ghost Value = { Listed };
 

@@ -14,12 +14,12 @@ use std::alloc::Global;
 use std::collections::{BTreeMap, BTreeSet};
 use std::ops::Bound;
 use wk_memory::Memory;
-use wk_row_rules::Reach;
+use wk_page_rules::Reach;
 use wk_table_rows::PageRows;
 use wk_title::Title;
 
 /// Which rows a page is found by.
-#[derive(Clone, Copy, Debug, PartialEq, Eq)]
+#[derive(Clone, Copy, PartialEq, Eq)]
 pub enum Kind {
     /// The titles that it includes.
     Included,

@@ -1,7 +1,7 @@
 //! The rows of one page among those of all pages, which are numbered from 1.
 ghost use Rattle.std.specs.Prelude.{◌≡◌, IfOk, IsSome, vec_len, vec_capacity};
 ghost use Rattle.std.specs.Option.{option_copied};
-ghost use Rattle.wk_listing_rules.specs.Names.{admitted, with_rows_at};
+ghost use Rattle.wk_wiki_rules.specs.Names.{admitted, with_rows_at};
 ghost use Rattle.wk_index.specs.Held.{rows_of};
 ghost use Rattle.wk_index.specs.Named.{rows_at};
 

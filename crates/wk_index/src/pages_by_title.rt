@@ -15,7 +15,7 @@ use wk_memory::Memory;
 use wk_title::Title;
 
 /// A title, and the pages that are found by it, in the order in which they came.
-#[derive(Debug, Drop)]
+#[derive(Drop)]
 pub struct TitlePages {
     pub title: Title,
     pub pages: Vec<u32>,

@@ -9,13 +9,13 @@ use wk_table_rows::{PageRows, Share};
 /// The link rows of one page, shared: a further owner costs a pointer. Contracts see the rows. They don't change.
 ///
 /// They may be sent to other threads and shared between them.
-#[derive(Debug, Drop)]
+#[derive(Drop)]
 pub struct SharedRows {
     rows: Arc<PageRows>,
 }
 
 impl Model for SharedRows {
-    ghost use Rattle.wk_row_rules.specs.PageRows.{PageRows as Rows};
+    ghost use Rattle.wk_page_rules.specs.PageRows.{PageRows as Rows};
     ghost use Rattle.std.specs.Arc.{arc_value};
 
     ghost Value = { Rows };

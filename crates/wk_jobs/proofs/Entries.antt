@@ -8,9 +8,9 @@ use Rattle.std.proofs.lemmas.List.{append_assoc, map-append, take_more}
 use Rattle.std.proofs.lemmas.List.Elements.{filter-append}
 use Rattle.std.proofs.lemmas.List.Folds.{list_any-append}
 use Rattle.std.proofs.lemmas.List.Sums.{sum_by-append}
-use Rattle.wk_job_rules.specs.Jobs.{RefreshEntry, JobLists, is_queued, is_claimed, is_held_by, first_claimed, jobs_of, jobs_of_others, queued_again}
-use Rattle.wk_job_rules.proofs.Lists.{eqb_flips, IsDistinct-push, list_any-map}
-use Rattle.wk_job_rules.proofs.JobLemmas.{IsOneAPage-claimed, IsOneAPage-given_back, IsOneAPage-dropped}
+use Rattle.wk_wiki_rules.specs.Jobs.{RefreshEntry, JobLists, is_queued, is_claimed, is_held_by, first_claimed, jobs_of, jobs_of_others, queued_again}
+use Rattle.wk_wiki_rules.proofs.Lists.{eqb_flips, IsDistinct-push, list_any-map}
+use Rattle.wk_wiki_rules.proofs.JobLemmas.{IsOneAPage-claimed, IsOneAPage-given_back, IsOneAPage-dropped}
 use Rattle.wk_jobs.specs.Entries.{claimed_entry, queued_entry, entries, job_of, number_of}
 use Rattle.wk_jobs.specs.declared.refreshes.ClaimedJob.{ClaimedJob}
 use Rattle.wk_jobs.specs.declared.refreshes.QueuedJob.{QueuedJob}

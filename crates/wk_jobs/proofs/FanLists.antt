@@ -8,10 +8,10 @@ use Rattle.std.proofs.lemmas.List.{map-append}
 use Rattle.std.proofs.lemmas.Slice.Eq.{bytes_eq-Decides}
 use Rattle.std.proofs.lemmas.Bool.Decides.{Decides-int_eq}
 use Rattle.wk_text_rules.specs.Titles.{PageTitle, title_eq}
-use Rattle.wk_row_rules.specs.declared.Reach.{Reach}
-use Rattle.wk_job_rules.proofs.JobLemmas.{IsOneATitle-set, IsOneATitle-moved, IsOneATitle-dropped}
-use Rattle.wk_job_rules.proofs.Lists.{IsDistinct-push, list_any-map}
-use Rattle.wk_job_rules.specs.Jobs.{FanEntry, JobLists, set_anew, wider, with_first_cursor}
+use Rattle.wk_page_rules.specs.declared.Reach.{Reach}
+use Rattle.wk_wiki_rules.proofs.JobLemmas.{IsOneATitle-set, IsOneATitle-moved, IsOneATitle-dropped}
+use Rattle.wk_wiki_rules.proofs.Lists.{IsDistinct-push, list_any-map}
+use Rattle.wk_wiki_rules.specs.Jobs.{FanEntry, JobLists, set_anew, wider, with_first_cursor}
 
 abbrev pub TitlesApart : List FanEntry → Type 0
 TitlesApart jobs = IsDistinct title_eq (map (λ (job : FanEntry). job.title) jobs)

@@ -22,9 +22,9 @@ use Rattle.wk_table_laws.proofs.FirstBad.{KeepsRules-from_good}
 use Rattle.wk_table_laws.proofs.GoodChanges.{EachGood-at}
 use Rattle.wk_table_laws.proofs.JobRows.{slice_get-within}
 use Rattle.wk_table_rows.proofs.FirstPlace.{position-here, position-later}
-use Rattle.wk_job_rules.specs.Jobs.{RefreshEntry, FanEntry, JobLists}
-use Rattle.wk_job_rules.specs.Steps.{next_above, refresh_of_row, fan_of_row, jobs_of_tables}
-use Rattle.wk_job_rules.proofs.Lists.{list_any-map}
+use Rattle.wk_wiki_rules.specs.Jobs.{RefreshEntry, FanEntry, JobLists}
+use Rattle.wk_wiki_rules.specs.Steps.{next_above, refresh_of_row, fan_of_row, jobs_of_tables}
+use Rattle.wk_wiki_rules.proofs.Lists.{list_any-map}
 use Rattle.wk_jobs.specs.Loaded.{CanBeFan, CanBeRefresh, jobs_so_far, number_in, with_row}
 use Rattle.wk_jobs.proofs.FanLists.{title_eq-true}
 use Rattle.wk_jobs.proofs.Numbered.{lists_with, refresh_queued-new}

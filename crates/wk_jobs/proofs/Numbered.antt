@@ -5,14 +5,14 @@ use Rattle.std.proofs.lemmas.List.{map-append, take_more}
 use Rattle.std.proofs.lemmas.List.Elements.{All-weaker, recursion_from_All}
 use Rattle.std.proofs.lemmas.List.Sums.{fold-append}
 use Rattle.wk_text_rules.specs.Titles.{PageTitle}
-use Rattle.wk_row_rules.specs.declared.Reach.{Reach}
-use Rattle.wk_job_rules.specs.Jobs.{RefreshEntry, FanEntry, JobLists, IsNumbered, numbers_of, has_fan, has_refresh, fan_set, refresh_queued, set_anew}
-use Rattle.wk_job_rules.proofs.JobLemmas.{IsNumbered-fan_set}
-use Rattle.wk_job_rules.proofs.Lists.{map-map}
+use Rattle.wk_page_rules.specs.declared.Reach.{Reach}
+use Rattle.wk_wiki_rules.specs.Jobs.{RefreshEntry, FanEntry, JobLists, IsNumbered, numbers_of, has_fan, has_refresh, fan_set, refresh_queued, set_anew}
+use Rattle.wk_wiki_rules.proofs.JobLemmas.{IsNumbered-fan_set}
+use Rattle.wk_wiki_rules.proofs.Lists.{map-map}
 use Rattle.wk_jobs.specs.Entries.{claimed_entry, queued_entry, entries}
 use Rattle.wk_jobs.specs.declared.refreshes.ClaimedJob.{ClaimedJob}
 use Rattle.wk_jobs.specs.declared.refreshes.QueuedJob.{QueuedJob}
-use Rattle.wk_job_rules.specs.Steps.{next_above}
+use Rattle.wk_wiki_rules.specs.Steps.{next_above}
 
 abbrev pub lists_with : List RefreshEntry → List FanEntry → ℕ → JobLists
 lists_with refreshes fans next = record { refreshes = refreshes; fans = fans; next = next }

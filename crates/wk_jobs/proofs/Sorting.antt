@@ -6,11 +6,11 @@ use Rattle.std.proofs.lemmas.Bool.{cases_Bool, both_ways, eqb-true, eq-eqb, or_p
 use Rattle.std.proofs.lemmas.List.Elements.{All-from_recursion, recursion_from_All}
 use Rattle.std.proofs.lemmas.List.Sorted.{All-permutation, IsPermutation-sym, IsPermutation-map, IsPermutation-append_comm, IsPermutation-trans, list_any-IsPermutation}
 use Rattle.std.proofs.lemmas.Map.Keys.{IsDistinct-IsPermutation}
-use Rattle.wk_job_rules.specs.Jobs.{RefreshEntry, queued_again}
-use Rattle.wk_job_rules.specs.Steps.{by_number}
-use Rattle.wk_job_rules.proofs.JobLemmas.{IsOneAPage-reopened, by_number-permutes}
-use Rattle.wk_job_rules.proofs.Lists.{eqb_flips, map-map}
-use Rattle.wk_job_laws.proofs.Order.{Sorted, Sorted-by_number, by_number-map, each-weaker}
+use Rattle.wk_wiki_rules.specs.Jobs.{RefreshEntry, queued_again}
+use Rattle.wk_wiki_rules.specs.Steps.{by_number}
+use Rattle.wk_wiki_rules.proofs.JobLemmas.{IsOneAPage-reopened, by_number-permutes}
+use Rattle.wk_wiki_rules.proofs.Lists.{eqb_flips, map-map}
+use Rattle.wk_table_laws.proofs.Order.{Sorted, Sorted-by_number, by_number-map, each-weaker}
 use Rattle.wk_jobs.specs.Entries.{queued_entry, entries, number_of}
 use Rattle.wk_jobs.specs.Unclaimed.{unclaimed}
 use Rattle.wk_jobs.specs.declared.refreshes.ClaimedJob.{ClaimedJob}

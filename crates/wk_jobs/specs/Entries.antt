@@ -1,6 +1,6 @@
 -- What the claimed and the queued refresh jobs stand for, and what is found of a page.
 use Rattle.std.specs.Prelude.{ℕ, ◌==◌, List, ◌++◌, map, find, Option, Some, None, option_map}
-use Rattle.wk_job_rules.specs.Jobs.{RefreshEntry}
+use Rattle.wk_wiki_rules.specs.Jobs.{RefreshEntry}
 use Rattle.wk_jobs.specs.declared.refreshes.ClaimedJob.{ClaimedJob}
 use Rattle.wk_jobs.specs.declared.refreshes.QueuedJob.{QueuedJob}
 

@@ -2,7 +2,7 @@
 use Rattle.std.specs.Prelude.{◌+◌, ◌≤◌, List, map, find, Option, vec_len, vec_capacity}
 use Rattle.std.specs.List.{IsDistinct}
 use Rattle.wk_text_rules.specs.Titles.{PageTitle, title_eq}
-use Rattle.wk_job_rules.specs.Jobs.{FanEntry}
+use Rattle.wk_wiki_rules.specs.Jobs.{FanEntry}
 use Rattle.wk_jobs.specs.HeldFans.{HeldFans}
 use Rattle.wk_jobs.specs.declared.fans.Fans.TheInside.{Inside}
 

@@ -1,6 +1,6 @@
 -- The fan jobs as contracts see them.
 use Rattle.std.specs.Prelude.{ℕ, List}
-use Rattle.wk_job_rules.specs.Jobs.{FanEntry}
+use Rattle.wk_wiki_rules.specs.Jobs.{FanEntry}
 
 pub record HeldFans : Type 0 where
   -- in their order

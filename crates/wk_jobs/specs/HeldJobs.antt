@@ -1,6 +1,6 @@
 -- The job lists, and for how many jobs more there is room.
 use Rattle.std.specs.Prelude.{ℕ}
-use Rattle.wk_job_rules.specs.Jobs.{JobLists}
+use Rattle.wk_wiki_rules.specs.Jobs.{JobLists}
 
 pub record HeldJobs : Type 0 where
   pub lists : JobLists

@@ -1,6 +1,6 @@
 -- The refresh jobs as contracts see them.
 use Rattle.std.specs.Prelude.{ℕ, List}
-use Rattle.wk_job_rules.specs.Jobs.{RefreshEntry}
+use Rattle.wk_wiki_rules.specs.Jobs.{RefreshEntry}
 
 pub record HeldRefreshes : Type 0 where
   -- in their order

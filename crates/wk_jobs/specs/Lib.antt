@@ -7,5 +7,5 @@ pub mod HeldRefreshes
 pub mod Loaded
 pub mod Refreshes
 pub mod Unclaimed
-pub use Rattle.wk_job_rules.specs.Jobs
-pub use Rattle.wk_job_rules.specs.Steps
+pub use Rattle.wk_wiki_rules.specs.Jobs
+pub use Rattle.wk_wiki_rules.specs.Steps

@@ -8,8 +8,8 @@ use Rattle.wk_table_rules.specs.GoodStore.{is_fan_params}
 use Rattle.wk_table_rules.specs.JobTable.{fan_cmd, refresh_cmd}
 use Rattle.wk_table_rules.specs.Rows.{JobColumns, PageColumns, StoreTables}
 use Rattle.wk_table_rules.specs.Stored.{page_of_row}
-use Rattle.wk_job_rules.specs.Jobs.{JobLists, has_fan, has_refresh, refresh_queued}
-use Rattle.wk_job_rules.specs.Steps.{fan_of_row, jobs_of_tables}
+use Rattle.wk_wiki_rules.specs.Jobs.{JobLists, has_fan, has_refresh, refresh_queued}
+use Rattle.wk_wiki_rules.specs.Steps.{fan_of_row, jobs_of_tables}
 
 -- the number of the page with this title, among the pages of these rows
 abbrev pub number_in : List PageColumns → PageTitle → Option ℕ

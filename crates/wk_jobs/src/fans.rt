@@ -3,19 +3,19 @@ ghost use Rattle.std.specs.Prelude.{◌≡◌, ◌+◌, ◌-◌, ◌≤◌, ◌<
 ghost use Rattle.std.specs.List.{IsDistinct, list_any};
 ghost use Rattle.std.specs.Option.{option_copied};
 ghost use Rattle.wk_text_rules.specs.Titles.{title_eq};
-ghost use Rattle.wk_job_rules.specs.Jobs.{set_anew, wider, with_first_cursor};
+ghost use Rattle.wk_wiki_rules.specs.Jobs.{set_anew, wider, with_first_cursor};
 ghost use Rattle.wk_jobs.specs.Fans.{fan_of};
 
 use crate::numbers::{Numbered, greatest};
 use std::alloc::Global;
 use std::marker::Model;
 use wk_memory::Memory;
-use wk_row_rules::Reach;
+use wk_page_rules::Reach;
 use wk_table_rows::{Share, share_all};
 use wk_title::Title;
 
 /// A job that queues a refresh of each page whose link rows name a title. Contracts see its fields.
-#[derive(Debug, Drop, PartialEq, Eq)]
+#[derive(Drop, PartialEq, Eq)]
 pub struct FanJob {
     /// The number of the job.
     pub number: u64,
@@ -27,7 +27,7 @@ pub struct FanJob {
 }
 
 impl Model for FanJob {
-    ghost use Rattle.wk_job_rules.specs.Jobs.{FanEntry};
+    ghost use Rattle.wk_wiki_rules.specs.Jobs.{FanEntry};
 
     ghost Value = { FanEntry };
 
@@ -58,7 +58,7 @@ impl Share for FanJob {
 /// The fan jobs, at most one a title. Contracts see them in their order, and for how many more there is room.
 ///
 /// A title's job is looked for among them from the front.
-#[derive(Debug, Drop)]
+#[derive(Drop)]
 pub struct Fans {
     jobs: Vec<FanJob>,
     spare: usize,

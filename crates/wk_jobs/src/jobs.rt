@@ -1,8 +1,8 @@
 //! The job lists of a wiki.
 ghost use Rattle.std.specs.Prelude.{◌≡◌, ◌+◌, ◌^◌, ◌≤◌, ◌<◌, ◌++◌, ◌∷◌, [], true, false, None, not, length, IsOk, IfOk, OnOk, OnErr};
 ghost use Rattle.std.specs.Option.{option_copied};
-ghost use Rattle.wk_job_rules.specs.Jobs.{IsNumbered, no_jobs, claimed_by, fan_dropped, fan_moved, fan_set, first_fan, first_queued, given_back, has_claimed, has_fan, has_refresh, left, page_held_by, refresh_dropped, refresh_queued};
-ghost use Rattle.wk_job_rules.specs.Steps.{reopened_jobs};
+ghost use Rattle.wk_wiki_rules.specs.Jobs.{IsNumbered, no_jobs, claimed_by, fan_dropped, fan_moved, fan_set, first_fan, first_queued, given_back, has_claimed, has_fan, has_refresh, left, page_held_by, refresh_dropped, refresh_queued};
+ghost use Rattle.wk_wiki_rules.specs.Steps.{reopened_jobs};
 ghost use Rattle.wk_jobs.specs.Entries.{job_of};
 ghost use Rattle.wk_jobs.specs.Fans.{fan_of};
 
@@ -11,10 +11,10 @@ use crate::listed::ListedJobs;
 use crate::refreshes::{RefreshJob, Refreshes};
 use std::alloc::Global;
 use std::marker::Model;
-use wk_job_rules::Left;
 use wk_memory::Memory;
-use wk_row_rules::Reach;
+use wk_page_rules::Reach;
 use wk_title::Title;
+use wk_wiki_rules::Left;
 
 /// The jobs of a wiki, in order: the refresh jobs, at most one a page, and the fan jobs, at most one a title. Each has
 /// a number of its own, from 1 on. Contracts see the lists, and for how many jobs more of each kind there is room.
@@ -22,7 +22,7 @@ use wk_title::Title;
 /// The claimed refresh jobs stand before the queued ones, in the order of their claims. The time of a call doesn't grow
 /// with the jobs that are queued; that of `back` and `drop_refresh` grows with the tickets that are out, and that of
 /// `set_fan` and `drop_fan` with the fan jobs.
-#[derive(Debug, Drop)]
+#[derive(Drop)]
 pub struct Jobs {
     refreshes: Refreshes,
     fans: Fans,
@@ -30,7 +30,7 @@ pub struct Jobs {
 }
 
 impl Model for Jobs {
-    ghost use Rattle.wk_job_rules.specs.Jobs.{IsNumbered};
+    ghost use Rattle.wk_wiki_rules.specs.Jobs.{IsNumbered};
     ghost use Rattle.wk_jobs.specs.HeldJobs.{HeldJobs};
 
     ghost Value = { HeldJobs };

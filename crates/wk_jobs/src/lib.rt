@@ -13,4 +13,4 @@ pub use fans::FanJob;
 pub use jobs::Jobs;
 pub use listed::ListedJobs;
 pub use refreshes::RefreshJob;
-pub use wk_job_rules::Left;
+pub use wk_wiki_rules::Left;

@@ -4,7 +4,7 @@ use crate::refreshes::RefreshJob;
 use std::marker::Model;
 
 /// The job lists of one moment, in their order, and the number of the next new job. Contracts see the lists.
-#[derive(Debug, Drop)]
+#[derive(Drop)]
 pub struct ListedJobs {
     /// The refresh jobs: those that are claimed, in the order of their claims, and behind them those that are queued.
     pub refreshes: Vec<RefreshJob>,
@@ -15,7 +15,7 @@ pub struct ListedJobs {
 }
 
 impl Model for ListedJobs {
-    ghost use Rattle.wk_job_rules.specs.Jobs.{JobLists};
+    ghost use Rattle.wk_wiki_rules.specs.Jobs.{JobLists};
 
     ghost Value = { JobLists };
 

@@ -5,8 +5,8 @@ ghost use Rattle.std.specs.Option.{IsSomeAnd};
 ghost use Rattle.wk_text_rules.specs.Titles.{is_normal, title_eq};
 ghost use Rattle.wk_table_rules.specs.GoodStore.{IsGood, is_fan_params};
 ghost use Rattle.wk_table_rules.specs.JobTable.{fan_cmd, refresh_cmd};
-ghost use Rattle.wk_job_rules.specs.Jobs.{has_fan, has_refresh};
-ghost use Rattle.wk_job_rules.specs.Steps.{jobs_of_tables, reopened_jobs};
+ghost use Rattle.wk_wiki_rules.specs.Jobs.{has_fan, has_refresh};
+ghost use Rattle.wk_wiki_rules.specs.Steps.{jobs_of_tables, reopened_jobs};
 ghost use Rattle.wk_jobs.specs.Loaded.{CanBeFan, CanBeRefresh, with_row};
 
 use crate::jobs::Jobs;

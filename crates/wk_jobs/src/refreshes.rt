@@ -2,8 +2,8 @@
 ghost use Rattle.std.specs.Prelude.{◌≡◌, ◌+◌, ◌≤◌, ◌<◌, ◌++◌, ◌∷◌, ◌==◌, [], true, false, None, ◌&&◌, map, fold, max, position, find, length, count_by, is_some, IfOk, IsOk, OnOk, OnErr, vec_len, vec_capacity, nat_eq, option_map};
 ghost use Rattle.std.specs.List.{IsDistinct, list_any};
 ghost use Rattle.std.specs.VecDeque.{deque_len, deque_capacity};
-ghost use Rattle.wk_job_rules.specs.Steps.{by_number};
-ghost use Rattle.wk_job_rules.specs.Jobs.{first_claimed, is_claimed, is_held_by, is_queued, jobs_of, jobs_of_others, queued_again};
+ghost use Rattle.wk_wiki_rules.specs.Steps.{by_number};
+ghost use Rattle.wk_wiki_rules.specs.Jobs.{first_claimed, is_claimed, is_held_by, is_queued, jobs_of, jobs_of_others, queued_again};
 ghost use Rattle.wk_jobs.specs.Entries.{claimed_entry, entries, job_of, queued_entry};
 
 use crate::numbers::{Numbered, greatest};
@@ -14,7 +14,7 @@ use std::mem;
 use wk_memory::Memory;
 
 /// A refresh job of a page. Contracts see its fields.
-#[derive(Clone, Copy, Debug, PartialEq, Eq)]
+#[derive(Clone, Copy, PartialEq, Eq)]
 pub struct RefreshJob {
     /// The number of the job.
     pub number: u64,
@@ -25,7 +25,7 @@ pub struct RefreshJob {
 }
 
 impl Model for RefreshJob {
-    ghost use Rattle.wk_job_rules.specs.Jobs.{RefreshEntry};
+    ghost use Rattle.wk_wiki_rules.specs.Jobs.{RefreshEntry};
 
     ghost Value = { RefreshEntry };
 
@@ -35,7 +35,7 @@ impl Model for RefreshJob {
 }
 
 /// A job that is claimed.
-#[derive(Debug, Drop)]
+#[derive(Drop)]
 struct ClaimedJob {
     number: u64,
     page: u32,
@@ -43,7 +43,7 @@ struct ClaimedJob {
 }
 
 /// A job that waits.
-#[derive(Debug, Drop)]
+#[derive(Drop)]
 struct QueuedJob {
     number: u64,
     page: u32,
@@ -53,7 +53,7 @@ struct QueuedJob {
 ///
 /// A page's job is found in the map, and where it is claimed among the claimed ones, which are as many as tickets are
 /// out. No call walks over the jobs that wait.
-#[derive(Debug, Drop)]
+#[derive(Drop)]
 pub struct Refreshes {
     claimed: Vec<ClaimedJob>,
     queued: VecDeque<QueuedJob>,

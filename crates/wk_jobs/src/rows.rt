@@ -8,7 +8,7 @@ ghost use Rattle.wk_table_rules.specs.GoodStore.{has_good_id, has_good_title, is
 ghost use Rattle.wk_table_rules.specs.JobTable.{fan_cmd, fan_params, reach_called};
 ghost use Rattle.wk_table_laws.specs.EachGood.{EachGood};
 ghost use Rattle.wk_good_rows.specs.Params.{is_cursor, is_reach};
-ghost use Rattle.wk_job_rules.specs.Steps.{fan_of_row};
+ghost use Rattle.wk_wiki_rules.specs.Steps.{fan_of_row};
 ghost use Rattle.wk_jobs.specs.Loaded.{AreNumbers};
 
 use crate::fans::FanJob;
@@ -18,12 +18,12 @@ use std::marker::Model;
 use wk_bytes::{Text, decimal};
 use wk_good_rows::shown_form;
 use wk_memory::Memory;
-use wk_row_rules::Reach;
+use wk_page_rules::Reach;
 use wk_table_rows::{JobRow, PageRow};
 use wk_title::{Title, named};
 
 /// The title of a row, by which its page is found.
-#[derive(Debug, Drop, PartialEq, Eq, Hash)]
+#[derive(Drop, PartialEq, Eq, Hash)]
 pub struct RowTitle {
     ns: i64,
     key: Text,

@@ -6,7 +6,7 @@ use std::marker::Model;
 use wk_tables::{Change, Tables, apply, make_room};
 
 /// A keeper of tables in memory. It tells them, and it is whole.
-#[derive(Debug, Drop)]
+#[derive(Drop)]
 pub struct MemKeeper {
     tables: Tables,
 }

@@ -4,7 +4,7 @@ use wk_tree_rules::AtomKind;
 
 /// An atom of a text: its kind, and the place of its source (MediaWiki's Preprocessor ABNF; the kinds are the
 /// profile's).
-#[derive(Clone, Copy, Debug, PartialEq, Eq)]
+#[derive(Clone, Copy, PartialEq, Eq)]
 pub struct Atom {
     /// What the atom is.
     pub kind: AtomKind,

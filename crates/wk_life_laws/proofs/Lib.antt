@@ -4,3 +4,12 @@ pub mod RunTickets
 pub mod TicketsBehind
 pub mod NumbersFit
 pub mod Lives
+pub mod Marks
+pub mod Since
+pub mod Told
+pub mod EntriesBack
+pub mod Accepted
+pub mod Returns
+pub mod KeptAgain
+pub mod CacheEntries
+pub mod LastingEntries

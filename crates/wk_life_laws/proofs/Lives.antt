@@ -8,17 +8,17 @@ use Rattle.wk_page_rules.specs.History.{next_revision}
 use Rattle.wk_page_rules.specs.Verdict.{EditAsked, MostHeld, accept}
 use Rattle.wk_table_rules.specs.Rows.{StoreTables}
 use Rattle.wk_table_rules.specs.GoodStore.{IsGood}
-use Rattle.wk_job_rules.specs.Jobs.{JobLists, claimed_by, first_queued, given_back, page_held_by}
-use Rattle.wk_job_rules.specs.Steps.{after_fan, fan_pages}
-use Rattle.wk_state_rules.specs.States.{State, no_state}
-use Rattle.wk_state_rules.specs.Events.{Event, Save, Claim, Done, Back, Fan, step, with_jobs, with_refreshed, with_saved}
-use Rattle.wk_state_rules.specs.Lives.{all_refreshed, opened, reopened}
-use Rattle.wk_state_rules.specs.Tables.{state_of}
-use Rattle.wk_state_rules.specs.Verdicts.{verdict_in}
-use Rattle.wk_state_laws.specs.Kept.{IsKept}
-use Rattle.wk_state_laws.specs.Reached.{IsWithinFull}
-use Rattle.wk_state_laws.proofs.GoodJobs.{IsKept-opened}
-use Rattle.wk_state_laws.proofs.Kept.{IsKept-none, IsKept-reopened}
+use Rattle.wk_wiki_rules.specs.Jobs.{JobLists, claimed_by, first_queued, given_back, page_held_by}
+use Rattle.wk_wiki_rules.specs.Steps.{after_fan, fan_pages}
+use Rattle.wk_wiki_rules.specs.States.{State, no_state}
+use Rattle.wk_wiki_rules.specs.Events.{Event, Save, Claim, Done, Back, Fan, step, with_jobs, with_refreshed, with_saved}
+use Rattle.wk_wiki_rules.specs.Lives.{all_refreshed, opened, reopened}
+use Rattle.wk_wiki_rules.specs.Tables.{state_of}
+use Rattle.wk_wiki_rules.specs.Verdicts.{verdict_in}
+use Rattle.wk_wiki_laws.specs.Kept.{IsKept}
+use Rattle.wk_wiki_laws.specs.Reached.{IsWithinFull}
+use Rattle.wk_wiki_laws.proofs.GoodJobs.{IsKept-opened}
+use Rattle.wk_wiki_laws.proofs.KeptStates.{IsKept-none, IsKept-reopened}
 use Rattle.wk_wiki_rules.specs.Calls.{IsMade, by_save, by_claim, by_finish, by_give_back, by_fan}
 use Rattle.wk_wiki_rules.specs.Entries.{is_save}
 use Rattle.wk_wiki_rules.specs.Room.{HasRoom, is_claim_refused, is_fan_refused, tickets_out}
@@ -27,10 +27,10 @@ use Rattle.wk_wiki_rules.specs.declared.Entry.{Entry}
 use Rattle.wk_wiki_rules.specs.declared.Entry.TheVariants as entry
 use Rattle.wk_wiki_laws.proofs.Room.{out-reopened}
 use Rattle.wk_wiki_laws.proofs.SealedHistory.{sealed-now}
-use Rattle.wk_call_laws.specs.Standing.{EntryStands}
-use Rattle.wk_call_laws.proofs.Accepted.{save-stepped}
-use Rattle.wk_call_laws.proofs.EntriesBack.{all-stand, count-standing, events-stepped}
-use Rattle.wk_call_laws.proofs.Told.{no_fewer-stepped, told-now, told-stepped}
+use Rattle.wk_life_laws.specs.Standing.{EntryStands}
+use Rattle.wk_life_laws.proofs.Accepted.{save-stepped}
+use Rattle.wk_life_laws.proofs.EntriesBack.{all-stand, count-standing, events-stepped}
+use Rattle.wk_life_laws.proofs.Told.{no_fewer-stepped, told-now, told-stepped}
 use Rattle.wk_life_laws.specs.Lives.{Life, IsLife, journal_of, start_of}
 use Rattle.wk_life_laws.specs.Next.{Begins, IsNext, begun, new_start, with_entry, with_event, with_seal}
 use Rattle.wk_life_laws.specs.Runs.{IsRun}

@@ -5,15 +5,15 @@ use Rattle.std.specs.List.{enumerate_from, list_any}
 use Rattle.wk_text_rules.specs.Titles.{PageTitle, title_eq}
 use Rattle.wk_page_rules.specs.History.{Page, page_number}
 use Rattle.wk_page_rules.specs.Verdict.{EditAsked, MostHeld, accept, max_pages}
-use Rattle.wk_row_rules.specs.PageRows.{PageRows, names}
-use Rattle.wk_job_rules.specs.Jobs.{FanEntry}
-use Rattle.wk_job_rules.specs.Steps.{fan_pages, next_served}
-use Rattle.wk_job_rules.specs.Users.{users}
-use Rattle.wk_state_rules.specs.States.{State}
-use Rattle.wk_state_rules.specs.Verdicts.{verdict_in}
-use Rattle.wk_state_laws.specs.Reached.{IsWithinFull}
-use Rattle.wk_state_laws.proofs.Formed.{numbered}
-use Rattle.wk_state_laws.proofs.Kept.{accepted}
+use Rattle.wk_page_rules.specs.PageRows.{PageRows, names}
+use Rattle.wk_wiki_rules.specs.Jobs.{FanEntry}
+use Rattle.wk_wiki_rules.specs.Steps.{fan_pages, next_served}
+use Rattle.wk_wiki_rules.specs.Users.{users}
+use Rattle.wk_wiki_rules.specs.States.{State}
+use Rattle.wk_wiki_rules.specs.Verdicts.{verdict_in}
+use Rattle.wk_wiki_laws.specs.Reached.{IsWithinFull}
+use Rattle.wk_wiki_laws.proofs.Formed.{numbered}
+use Rattle.wk_wiki_laws.proofs.KeptStates.{accepted}
 use Rattle.wk_wiki_rules.specs.Room.{is_fan_refused}
 use Rattle.wk_wiki_laws.proofs.NumberBounds.{next-at-a-fan, next-at-a-save}
 

@@ -8,18 +8,18 @@ use Rattle.wk_page_rules.specs.History.{text_of_revision}
 use Rattle.wk_page_rules.specs.Verdict.{MostHeld, max_pages}
 use Rattle.wk_table_rules.specs.GoodStore.{IsGood}
 use Rattle.wk_view_rules.specs.Worlds.{IsHonest, Read}
-use Rattle.wk_job_rules.specs.Steps.{fan_pages}
-use Rattle.wk_state_rules.specs.States.{State}
-use Rattle.wk_state_rules.specs.Events.{Event, step}
-use Rattle.wk_state_rules.specs.Lives.{opened, reopened, replay, replay_by, replay_from, state_at}
-use Rattle.wk_state_rules.specs.Tables.{state_of, tables_of}
-use Rattle.wk_state_laws.specs.Kept.{IsKept}
-use Rattle.wk_state_laws.specs.Reached.{IsWithinFull}
-use Rattle.wk_state_laws.specs.Saves.{Continues, after_saves, saves}
-use Rattle.wk_state_laws.proofs.HonestReads.{IsHonest-replayed}
-use Rattle.wk_state_laws.proofs.Kept.{IsGood-kept, few-pages}
-use Rattle.wk_state_laws.proofs.ReadBack.{opened-is, state-back}
-use Rattle.wk_state_laws.proofs.Saves.{continues-after_saves, history-replayed}
+use Rattle.wk_wiki_rules.specs.Steps.{fan_pages}
+use Rattle.wk_wiki_rules.specs.States.{State}
+use Rattle.wk_wiki_rules.specs.Events.{Event, step}
+use Rattle.wk_wiki_rules.specs.Lives.{opened, reopened, replay, replay_by, replay_from, state_at}
+use Rattle.wk_wiki_rules.specs.Tables.{state_of, tables_of}
+use Rattle.wk_wiki_laws.specs.Kept.{IsKept}
+use Rattle.wk_wiki_laws.specs.Reached.{IsWithinFull}
+use Rattle.wk_wiki_laws.specs.Saves.{Continues, after_saves, saves}
+use Rattle.wk_wiki_laws.proofs.HonestReads.{IsHonest-replayed}
+use Rattle.wk_wiki_laws.proofs.KeptStates.{IsGood-kept, few-pages}
+use Rattle.wk_wiki_laws.proofs.ReadBack.{opened-is, state-back}
+use Rattle.wk_wiki_laws.proofs.Saves.{continues-after_saves, history-replayed}
 use Rattle.wk_wiki_rules.specs.Calls.{IsMade, no_call, one_more}
 use Rattle.wk_wiki_rules.specs.Entries.{KeepsSeal, is_save}
 use Rattle.wk_wiki_rules.specs.Passes.{CacheEntry}
@@ -28,10 +28,10 @@ use Rattle.wk_wiki_rules.specs.Starts.{Start}
 use Rattle.wk_wiki_laws.proofs.KeptCalls.{kept-calls}
 use Rattle.wk_wiki_laws.proofs.Parts.{replay-append, replay-calls}
 use Rattle.wk_wiki_laws.proofs.SealedHistory.{history-sealed, seal-longer}
-use Rattle.wk_call_laws.specs.Caches.{IsLastingEntry}
-use Rattle.wk_call_laws.specs.Sound.{IsSoundSince}
-use Rattle.wk_call_laws.proofs.LastingEntries.{lasting-replayed}
-use Rattle.wk_call_laws.proofs.Since.{IsSoundSince-replayed}
+use Rattle.wk_life_laws.specs.Caches.{IsLastingEntry}
+use Rattle.wk_life_laws.specs.Sound.{IsSoundSince}
+use Rattle.wk_life_laws.proofs.LastingEntries.{lasting-replayed}
+use Rattle.wk_life_laws.proofs.Since.{IsSoundSince-replayed}
 use Rattle.wk_life_laws.specs.Next.{new_start}
 use Rattle.wk_life_laws.specs.Runs.{IsRun}
 

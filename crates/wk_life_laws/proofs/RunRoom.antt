@@ -3,12 +3,12 @@ use Rattle.std.proofs.Common.{◌≡◌, Bool, ℕ, ◌+◌, ◌≤◌, ◌<◌,
 use Rattle.std.proofs.lemmas.Bool.{cases_Bool, leb-true, leb-false, ltb-true, ltb-false, or_parts}
 use Rattle.wk_text_rules.specs.Titles.{PageTitle}
 use Rattle.wk_page_rules.specs.Verdict.{EditAsked, MostHeld, Refusal, accept, is_journal_full, journal_full, judged, max_job, no_change, refuse, with_room}
-use Rattle.wk_job_rules.specs.Jobs.{page_held_by}
-use Rattle.wk_job_rules.specs.Steps.{fan_pages}
-use Rattle.wk_state_rules.specs.States.{State}
-use Rattle.wk_state_rules.specs.Events.{Event}
-use Rattle.wk_state_rules.specs.Verdicts.{journal_use, verdict_in}
-use Rattle.wk_state_laws.proofs.Kept.{with_room-accept}
+use Rattle.wk_wiki_rules.specs.Jobs.{page_held_by}
+use Rattle.wk_wiki_rules.specs.Steps.{fan_pages}
+use Rattle.wk_wiki_rules.specs.States.{State}
+use Rattle.wk_wiki_rules.specs.Events.{Event}
+use Rattle.wk_wiki_rules.specs.Verdicts.{journal_use, verdict_in}
+use Rattle.wk_wiki_laws.proofs.KeptStates.{with_room-accept}
 use Rattle.wk_wiki_rules.specs.Room.{HasRoom, is_claim_refused, tickets_out}
 use Rattle.wk_wiki_rules.specs.Starts.{Start}
 use Rattle.wk_wiki_laws.proofs.Room.{back-calls, full-calls, room-calls}

@@ -3,10 +3,10 @@ use Rattle.std.proofs.Common.{◌≡◌, ◌≢◌, ℕ, ◌+◌, ◌≤◌, tru
 use Rattle.std.specs.Prelude.{IsSome, find, nat_eq, option_map}
 use Rattle.std.specs.List.{IsDistinct}
 use Rattle.std.proofs.lemmas.Bool.{cases_Bool}
-use Rattle.wk_job_rules.specs.Jobs.{RefreshEntry, claimed_by, first_claimed, first_queued, is_held_by, is_queued, page_held_by}
-use Rattle.wk_job_rules.specs.Steps.{fan_pages}
-use Rattle.wk_state_rules.specs.States.{State}
-use Rattle.wk_state_rules.specs.Events.{Event, Done, Back, step}
+use Rattle.wk_wiki_rules.specs.Jobs.{RefreshEntry, claimed_by, first_claimed, first_queued, is_held_by, is_queued, page_held_by}
+use Rattle.wk_wiki_rules.specs.Steps.{fan_pages}
+use Rattle.wk_wiki_rules.specs.States.{State}
+use Rattle.wk_wiki_rules.specs.Events.{Event, Done, Back, step}
 use Rattle.wk_wiki_rules.specs.Starts.{Start}
 use Rattle.wk_wiki_laws.specs.Tickets.{IsOpenClaim, tickets_of}
 use Rattle.wk_wiki_laws.proofs.Parts.{replay-push}

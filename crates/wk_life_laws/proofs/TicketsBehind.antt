@@ -3,10 +3,10 @@ use Rattle.std.proofs.Common.{◌≡◌, ℕ, ◌+◌, ◌≤◌, List, Option, 
 use Rattle.std.specs.Prelude.{is_some, option_map}
 use Rattle.wk_text_rules.specs.Titles.{PageTitle}
 use Rattle.wk_page_rules.specs.History.{page_exists, page_to_save}
-use Rattle.wk_job_rules.specs.Jobs.{FanEntry, JobLists, claimed_by, first_fan, given_back, page_held_by}
-use Rattle.wk_job_rules.specs.Steps.{after_fan, after_serving, next_served, reach_of_save}
-use Rattle.wk_state_rules.specs.States.{State}
-use Rattle.wk_state_rules.specs.Events.{stored_with, with_jobs, with_refreshed, with_saved}
+use Rattle.wk_wiki_rules.specs.Jobs.{FanEntry, JobLists, claimed_by, first_fan, given_back, page_held_by}
+use Rattle.wk_wiki_rules.specs.Steps.{after_fan, after_serving, next_served, reach_of_save}
+use Rattle.wk_wiki_rules.specs.States.{State}
+use Rattle.wk_wiki_rules.specs.Events.{stored_with, with_jobs, with_refreshed, with_saved}
 use Rattle.wk_wiki_rules.specs.Room.{tickets_out}
 use Rattle.wk_wiki_laws.proofs.TicketsOut.{out, out-all_queued, out-claimed, out-dropped, out-given_back, out-queued, refreshes-saved, refreshes-served}
 

@@ -1,3 +1,6 @@
 pub mod Runs
 pub mod Lives
 pub mod Next
+pub mod Sound
+pub mod Standing
+pub mod Caches

@@ -2,13 +2,13 @@
 -- times (own).
 use Rattle.std.specs.Prelude.{ℕ, ◌≤◌, All, Bool, false, length, List, None, Option}
 use Rattle.wk_page_rules.specs.Verdict.{MostHeld}
-use Rattle.wk_state_rules.specs.States.{State}
-use Rattle.wk_state_rules.specs.Events.{Event}
+use Rattle.wk_wiki_rules.specs.States.{State}
+use Rattle.wk_wiki_rules.specs.Events.{Event}
 use Rattle.wk_wiki_rules.specs.Entries.{events_of}
 use Rattle.wk_wiki_rules.specs.Room.{HasRoom}
 use Rattle.wk_wiki_rules.specs.Starts.{Start, StartKept, told_start}
 use Rattle.wk_wiki_rules.specs.declared.Entry.{Entry}
-use Rattle.wk_call_laws.specs.Standing.{EntryStands}
+use Rattle.wk_life_laws.specs.Standing.{EntryStands}
 use Rattle.wk_life_laws.specs.Runs.{IsRun}
 
 -- what a wiki keeps from its opening, or from its last restart, on

@@ -2,8 +2,8 @@
 use Rattle.std.specs.Prelude.{◌≡◌, ℕ, Bool, false, [], ◌∷◌, ◌++◌, length, None, Some}
 use Rattle.wk_page_rules.specs.History.{next_revision}
 use Rattle.wk_page_rules.specs.Verdict.{MostHeld}
-use Rattle.wk_state_rules.specs.States.{State}
-use Rattle.wk_state_rules.specs.Events.{Event, step}
+use Rattle.wk_wiki_rules.specs.States.{State}
+use Rattle.wk_wiki_rules.specs.Events.{Event, step}
 use Rattle.wk_wiki_rules.specs.Entries.{entries_from}
 use Rattle.wk_wiki_rules.specs.Starts.{Start, kept_of}
 use Rattle.wk_wiki_rules.specs.declared.Entry.{Entry}

@@ -1,10 +1,10 @@
 -- What holds at all times of the start, the journal and the state that a wiki tells (own).
 use Rattle.std.specs.Prelude.{◌≡◌, List}
-use Rattle.wk_job_rules.specs.Steps.{fan_pages}
-use Rattle.wk_state_rules.specs.States.{State}
-use Rattle.wk_state_rules.specs.Events.{Event}
-use Rattle.wk_state_laws.specs.Kept.{IsKept}
-use Rattle.wk_state_laws.specs.Reached.{IsWithinFull}
+use Rattle.wk_wiki_rules.specs.Steps.{fan_pages}
+use Rattle.wk_wiki_rules.specs.States.{State}
+use Rattle.wk_wiki_rules.specs.Events.{Event}
+use Rattle.wk_wiki_laws.specs.Kept.{IsKept}
+use Rattle.wk_wiki_laws.specs.Reached.{IsWithinFull}
 use Rattle.wk_wiki_rules.specs.Calls.{CallsMake}
 use Rattle.wk_wiki_rules.specs.Entries.{KeepsSeal}
 use Rattle.wk_wiki_rules.specs.Room.{tickets_out}

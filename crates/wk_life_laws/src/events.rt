@@ -3,11 +3,11 @@ ghost use Rattle.std.specs.Prelude.{◌≡◌, ◌++◌, ◌∷◌, [], ℕ, ◌
 ghost use Rattle.wk_text_rules.specs.Titles.{PageTitle};
 ghost use Rattle.wk_page_rules.specs.History.{next_revision};
 ghost use Rattle.wk_page_rules.specs.Verdict.{EditAsked, accept};
-ghost use Rattle.wk_job_rules.specs.Jobs.{JobLists, claimed_by, first_queued, given_back, page_held_by};
-ghost use Rattle.wk_job_rules.specs.Steps.{after_fan, fan_pages};
-ghost use Rattle.wk_state_rules.specs.States.{State};
-ghost use Rattle.wk_state_rules.specs.Events.{Event, Save, Claim, Done, Back, Fan, step, with_jobs, with_refreshed, with_saved};
-ghost use Rattle.wk_state_rules.specs.Verdicts.{verdict_in};
+ghost use Rattle.wk_wiki_rules.specs.Jobs.{JobLists, claimed_by, first_queued, given_back, page_held_by};
+ghost use Rattle.wk_wiki_rules.specs.Steps.{after_fan, fan_pages};
+ghost use Rattle.wk_wiki_rules.specs.States.{State};
+ghost use Rattle.wk_wiki_rules.specs.Events.{Event, Save, Claim, Done, Back, Fan, step, with_jobs, with_refreshed, with_saved};
+ghost use Rattle.wk_wiki_rules.specs.Verdicts.{verdict_in};
 ghost use Rattle.wk_wiki_rules.specs.Calls.{IsMade};
 ghost use Rattle.wk_wiki_rules.specs.Entries.{is_save};
 ghost use Rattle.wk_wiki_rules.specs.Room.{is_claim_refused, is_fan_refused};

@@ -3,12 +3,12 @@ ghost use Rattle.std.specs.Prelude.{◌≡◌, ℕ, ◌+◌, ◌≤◌, ◌<◌,
 ghost use Rattle.wk_text_rules.specs.Titles.{PageTitle};
 ghost use Rattle.wk_page_rules.specs.History.{can_save, page_number};
 ghost use Rattle.wk_page_rules.specs.Verdict.{EditAsked, MostHeld, accept, max_pages};
-ghost use Rattle.wk_row_rules.specs.PageRows.{PageRows};
-ghost use Rattle.wk_job_rules.specs.Jobs.{FanEntry};
-ghost use Rattle.wk_job_rules.specs.Steps.{fan_pages, next_served};
-ghost use Rattle.wk_state_rules.specs.States.{State};
-ghost use Rattle.wk_state_rules.specs.Verdicts.{verdict_in};
-ghost use Rattle.wk_state_laws.specs.Reached.{IsWithinFull};
+ghost use Rattle.wk_page_rules.specs.PageRows.{PageRows};
+ghost use Rattle.wk_wiki_rules.specs.Jobs.{FanEntry};
+ghost use Rattle.wk_wiki_rules.specs.Steps.{fan_pages, next_served};
+ghost use Rattle.wk_wiki_rules.specs.States.{State};
+ghost use Rattle.wk_wiki_rules.specs.Verdicts.{verdict_in};
+ghost use Rattle.wk_wiki_laws.specs.Reached.{IsWithinFull};
 ghost use Rattle.wk_wiki_rules.specs.Room.{is_fan_refused};
 
 /// A save that is accepted is possible, has room for a page where its title is new, and numbers for its jobs.

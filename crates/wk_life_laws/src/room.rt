@@ -2,11 +2,11 @@
 ghost use Rattle.std.specs.Prelude.{◌≡◌, ℕ, ◌+◌, ◌≤◌, ◌<◌, ◌==◌, ◌||◌, false, true, length, List, nat_lt, Option, Some};
 ghost use Rattle.wk_text_rules.specs.Titles.{PageTitle};
 ghost use Rattle.wk_page_rules.specs.Verdict.{EditAsked, MostHeld, Refusal, accept, is_journal_full, journal_full, judged, max_job, no_change, refuse};
-ghost use Rattle.wk_job_rules.specs.Jobs.{JobLists, claimed_by, given_back, page_held_by};
-ghost use Rattle.wk_job_rules.specs.Steps.{after_fan};
-ghost use Rattle.wk_state_rules.specs.States.{State};
-ghost use Rattle.wk_state_rules.specs.Events.{Event, with_jobs, with_refreshed, with_saved};
-ghost use Rattle.wk_state_rules.specs.Verdicts.{journal_use, verdict_in};
+ghost use Rattle.wk_wiki_rules.specs.Jobs.{JobLists, claimed_by, given_back, page_held_by};
+ghost use Rattle.wk_wiki_rules.specs.Steps.{after_fan};
+ghost use Rattle.wk_wiki_rules.specs.States.{State};
+ghost use Rattle.wk_wiki_rules.specs.Events.{Event, with_jobs, with_refreshed, with_saved};
+ghost use Rattle.wk_wiki_rules.specs.Verdicts.{journal_use, verdict_in};
 ghost use Rattle.wk_wiki_rules.specs.Room.{is_claim_refused, is_fan_refused, tickets_out};
 ghost use Rattle.wk_wiki_rules.specs.Starts.{Start};
 ghost use Rattle.wk_life_laws.specs.Lives.{Life, IsLife, journal_of};

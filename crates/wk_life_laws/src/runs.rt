@@ -4,18 +4,18 @@ ghost use Rattle.wk_page_rules.specs.History.{text_of_revision};
 ghost use Rattle.wk_page_rules.specs.Verdict.{max_pages};
 ghost use Rattle.wk_table_rules.specs.GoodStore.{IsGood};
 ghost use Rattle.wk_view_rules.specs.Worlds.{IsHonest, Read};
-ghost use Rattle.wk_state_rules.specs.States.{State};
-ghost use Rattle.wk_state_rules.specs.Events.{Event, step};
-ghost use Rattle.wk_state_rules.specs.Lives.{opened, reopened, replay, state_at};
-ghost use Rattle.wk_state_rules.specs.Tables.{state_of, tables_of};
-ghost use Rattle.wk_state_laws.specs.Kept.{IsKept};
-ghost use Rattle.wk_state_laws.specs.WellFormed.{IsWellFormed};
+ghost use Rattle.wk_wiki_rules.specs.States.{State};
+ghost use Rattle.wk_wiki_rules.specs.Events.{Event, step};
+ghost use Rattle.wk_wiki_rules.specs.Lives.{opened, reopened, replay, state_at};
+ghost use Rattle.wk_wiki_rules.specs.Tables.{state_of, tables_of};
+ghost use Rattle.wk_wiki_laws.specs.Kept.{IsKept};
+ghost use Rattle.wk_wiki_laws.specs.WellFormed.{IsWellFormed};
 ghost use Rattle.wk_wiki_rules.specs.Calls.{IsMade};
 ghost use Rattle.wk_wiki_rules.specs.Entries.{is_save};
 ghost use Rattle.wk_wiki_rules.specs.Passes.{CacheEntry, state_seen};
 ghost use Rattle.wk_wiki_rules.specs.Starts.{Start};
-ghost use Rattle.wk_call_laws.specs.Caches.{IsLastingEntry};
-ghost use Rattle.wk_call_laws.specs.Sound.{IsSoundSince};
+ghost use Rattle.wk_life_laws.specs.Caches.{IsLastingEntry};
+ghost use Rattle.wk_life_laws.specs.Sound.{IsSoundSince};
 ghost use Rattle.wk_life_laws.specs.Runs.{IsRun};
 
 /// Each event that a call makes goes on from what a wiki tells.

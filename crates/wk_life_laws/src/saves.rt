@@ -1,11 +1,11 @@
 //! The saves of what a wiki tells, and the conflicts.
 ghost use Rattle.std.specs.Prelude.{◌≡◌, ℕ, List};
 ghost use Rattle.wk_page_rules.specs.Verdict.{EditAsked, edit_conflict, refuse};
-ghost use Rattle.wk_state_rules.specs.States.{State};
-ghost use Rattle.wk_state_rules.specs.Events.{Event};
-ghost use Rattle.wk_state_rules.specs.Verdicts.{verdict_in};
-ghost use Rattle.wk_state_laws.specs.Conflicts.{IsInConflict};
-ghost use Rattle.wk_state_laws.specs.Saves.{Continues, after_saves, saves};
+ghost use Rattle.wk_wiki_rules.specs.States.{State};
+ghost use Rattle.wk_wiki_rules.specs.Events.{Event};
+ghost use Rattle.wk_wiki_rules.specs.Verdicts.{verdict_in};
+ghost use Rattle.wk_wiki_laws.specs.Conflicts.{IsInConflict};
+ghost use Rattle.wk_wiki_laws.specs.Saves.{Continues, after_saves, saves};
 ghost use Rattle.wk_wiki_rules.specs.Starts.{Start};
 ghost use Rattle.wk_life_laws.specs.Runs.{IsRun};
 

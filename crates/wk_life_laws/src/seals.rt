@@ -1,8 +1,8 @@
 //! Seals.
 ghost use Rattle.std.specs.Prelude.{◌≡◌, ℕ, length, List, Some};
-ghost use Rattle.wk_state_rules.specs.States.{State};
-ghost use Rattle.wk_state_rules.specs.Events.{Event};
-ghost use Rattle.wk_state_rules.specs.Lives.{state_at};
+ghost use Rattle.wk_wiki_rules.specs.States.{State};
+ghost use Rattle.wk_wiki_rules.specs.Events.{Event};
+ghost use Rattle.wk_wiki_rules.specs.Lives.{state_at};
 ghost use Rattle.wk_wiki_rules.specs.Starts.{Start};
 ghost use Rattle.wk_life_laws.specs.Lives.{Life, IsLife, journal_of, start_of};
 ghost use Rattle.wk_life_laws.specs.Next.{with_seal};

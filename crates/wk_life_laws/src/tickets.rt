@@ -1,9 +1,9 @@
 //! The tickets of what a wiki tells.
 ghost use Rattle.std.specs.Prelude.{◌≡◌, ◌≢◌, ℕ, ◌+◌, ◌≤◌, nat_eq, IsSome, length, List, None, Some};
 ghost use Rattle.std.specs.List.{IsDistinct};
-ghost use Rattle.wk_job_rules.specs.Jobs.{claimed_by, first_queued, page_held_by};
-ghost use Rattle.wk_state_rules.specs.States.{State};
-ghost use Rattle.wk_state_rules.specs.Events.{Event, Done, Back, step};
+ghost use Rattle.wk_wiki_rules.specs.Jobs.{claimed_by, first_queued, page_held_by};
+ghost use Rattle.wk_wiki_rules.specs.States.{State};
+ghost use Rattle.wk_wiki_rules.specs.Events.{Event, Done, Back, step};
 ghost use Rattle.wk_wiki_rules.specs.Starts.{Start};
 ghost use Rattle.wk_wiki_laws.specs.Tickets.{tickets_of, IsOpenClaim};
 ghost use Rattle.wk_life_laws.specs.Runs.{IsRun};

@@ -11,7 +11,7 @@ use wk_base::Source;
 use wk_bytes::LineCutter;
 
 /// Reads an input and gives its lines, one after the other. Of a line that is longer than the limit little is kept.
-#[derive(Debug, Drop)]
+#[derive(Drop)]
 pub struct LineReader {
     cutter: LineCutter,
     total: u64,

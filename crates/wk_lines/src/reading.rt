@@ -10,7 +10,7 @@ use wk_bytes::{Line, LineCutter};
 use wk_memory::Memory;
 
 /// What comes next of an input.
-#[derive(Debug, PartialEq, Eq, Drop)]
+#[derive(PartialEq, Eq, Drop)]
 pub enum NextLine {
     /// A line that ends with a newline.
     Inner(Line),

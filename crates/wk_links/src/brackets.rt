@@ -11,7 +11,7 @@ use wk_title::target_len;
 const MOST_LABEL: usize = 2_097_152;
 
 /// The places of a link's brackets: of the first byte, behind the target, and behind the label, if there is one.
-#[derive(Debug, Clone, Copy)]
+#[derive(Clone, Copy)]
 pub struct Brackets {
     pub start: usize,
     pub target_end: usize,

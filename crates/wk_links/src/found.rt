@@ -3,7 +3,7 @@ use wk_bytes::Text;
 use wk_title::Title;
 
 /// An occurrence of a link in an output.
-#[derive(Debug, PartialEq, Eq, Drop)]
+#[derive(PartialEq, Eq, Drop)]
 pub struct Found {
     /// The place of its first byte in the output.
     pub start: usize,
@@ -14,7 +14,7 @@ pub struct Found {
 }
 
 /// What an occurrence of a link links to (MediaWiki's Help:Links and Help:Categories).
-#[derive(Debug, PartialEq, Eq, Drop)]
+#[derive(PartialEq, Eq, Drop)]
 pub enum What {
     /// A page.
     Page(Title),

@@ -13,10 +13,9 @@ use crate::found::What;
 use std::alloc::Global;
 use wk_bytes::{Text, trim};
 use wk_memory::Memory;
-use wk_title::{Title, page_named};
+use wk_title::{CATEGORY, Title, page_named};
 
-const CATEGORY: i8 = 14;
-
+/// The number of the namespace File.
 const FILE: i8 = 6;
 
 /// Whether a colon stands before the target, by which a link to a category or a file is one to its page.

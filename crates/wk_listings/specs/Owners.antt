@@ -2,7 +2,7 @@
 use Rattle.std.specs.Prelude.{ℕ, ◌-◌, Bool, true, ◌&&◌, nat_lt, List, filter, reverse, take, Option, None, Some, unwrap_or, option_map, if◌then◌else◌}
 use Rattle.std.specs.List.{last_or}
 use Rattle.wk_page_rules.specs.History.{History, Revision}
-use Rattle.wk_listing_rules.specs.Revisions.{is_below, is_of_page, numbered_revisions}
+use Rattle.wk_wiki_rules.specs.Revisions.{is_below, is_of_page, numbered_revisions}
 use Rattle.wk_wiki_rules.specs.Entries.{revision_at}
 use Rattle.wk_listings.specs.declared.numbers.Owner.{Owner}
 use Rattle.wk_listings.specs.declared.numbers.Owner.TheVariants.{Every, OfPage}

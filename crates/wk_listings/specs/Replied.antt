@@ -2,9 +2,9 @@
 use Rattle.std.specs.Prelude.{ℕ, List}
 use Rattle.serde_json.specs.Data.{Data}
 use Rattle.wk_page_rules.specs.History.{History}
-use Rattle.wk_row_rules.specs.PageRows.{PageRows}
-use Rattle.wk_job_rules.specs.Jobs.{no_jobs}
-use Rattle.wk_state_rules.specs.States.{State}
+use Rattle.wk_page_rules.specs.PageRows.{PageRows}
+use Rattle.wk_wiki_rules.specs.Jobs.{no_jobs}
+use Rattle.wk_wiki_rules.specs.States.{State}
 use Rattle.wk_answer_rules.specs.Answers.{read_at}
 use Rattle.wk_answer_rules.specs.Pages.{ReadAnswer}
 

@@ -16,10 +16,7 @@ use wk_memory::Memory;
 use wk_replies::{array_value, listed, member_entry};
 use wk_request::Listing;
 use wk_revs::Revs;
-use wk_title::{Title, named};
-
-/// The number of the Category namespace (MediaWiki's Help:Namespaces).
-const CATEGORY: i8 = 14;
+use wk_title::{CATEGORY, Title, named};
 
 /// The entry of a member.
 fn told(alloc: Global, revs: &Revs, member: &MemberPage) -> Result<Value, Memory>

@@ -2,9 +2,9 @@
 //! number is own).
 ghost use Rattle.std.specs.Prelude.{◌≡◌, ◌≤◌, ◌-◌, ◌^◌, get_or, nat_lt, if◌then◌else◌, IfOk, map};
 ghost use Rattle.serde_json.specs.View.{view};
-ghost use Rattle.wk_row_rules.specs.declared.Reach.TheVariants.{Text};
-ghost use Rattle.wk_job_rules.specs.Users.{users};
-ghost use Rattle.wk_listing_rules.specs.Links.{linking_pages};
+ghost use Rattle.wk_page_rules.specs.declared.Reach.TheVariants.{Text};
+ghost use Rattle.wk_wiki_rules.specs.Users.{users};
+ghost use Rattle.wk_wiki_rules.specs.Links.{linking_pages};
 ghost use Rattle.wk_request.specs.Asked.{listing_of};
 ghost use Rattle.wk_answer_rules.specs.Lists.{backlinks_answer, backlinks_of, embedded_answer, embedding_of, page_entries, pages_listed};
 ghost use Rattle.wk_answer_rules.specs.Values.{array_of, object_of};
@@ -17,10 +17,10 @@ use serde_json::Value;
 use std::alloc::Global;
 use wk_index::Index;
 use wk_memory::Memory;
+use wk_page_rules::Reach;
 use wk_replies::{array_value, listed, page_entry};
 use wk_request::Listing;
 use wk_revs::Revs;
-use wk_row_rules::Reach;
 use wk_title::{Title, named};
 
 /// The entry of the page with this number.

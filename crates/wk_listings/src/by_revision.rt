@@ -1,7 +1,7 @@
 //! The listings of revisions (MediaWiki's API:RecentChanges and API:Revisions; that they go on below a number is own).
 ghost use Rattle.std.specs.Prelude.{◌≡◌, ◌+◌, [], IfOk, codes};
 ghost use Rattle.serde_json.specs.View.{view};
-ghost use Rattle.wk_listing_rules.specs.Revisions.{page_revisions_below};
+ghost use Rattle.wk_wiki_rules.specs.Revisions.{page_revisions_below};
 ghost use Rattle.wk_request.specs.Asked.{listing_of};
 ghost use Rattle.wk_answer_rules.specs.Lists.{below, changes_answer, revision_entries, revisions_answer, revisions_listed, revisions_of};
 ghost use Rattle.wk_listings.specs.Replied.{state_with, value_at};

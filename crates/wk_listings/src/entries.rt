@@ -1,7 +1,7 @@
 //! Revisions as they are listed.
 ghost use Rattle.std.specs.Prelude.{◌≡◌, IfOk, IfSome, map};
 ghost use Rattle.serde_json.specs.View.{view};
-ghost use Rattle.wk_state_rules.specs.States.{title_at};
+ghost use Rattle.wk_wiki_rules.specs.States.{title_at};
 ghost use Rattle.wk_answer_rules.specs.Lists.{change_entries, revisions_listed};
 ghost use Rattle.wk_answer_rules.specs.Values.{array_of, object_of};
 ghost use Rattle.wk_listings.specs.Replied.{value_at};
@@ -17,7 +17,7 @@ use wk_revs::{Revision, Revs};
 use wk_title::Title;
 
 /// What is told of a revision.
-#[derive(Clone, Copy, Debug, PartialEq, Eq)]
+#[derive(Clone, Copy, PartialEq, Eq)]
 pub enum Shape {
     /// The change that it is, with its page.
     Change,

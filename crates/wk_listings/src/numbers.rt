@@ -8,7 +8,7 @@ use wk_memory::Memory;
 use wk_revs::Revs;
 
 /// Whose revisions are listed.
-#[derive(Clone, Copy, Debug, PartialEq, Eq)]
+#[derive(Clone, Copy, PartialEq, Eq)]
 pub enum Owner {
     /// Those of all pages.
     Every,

@@ -3,11 +3,11 @@ use Rattle.std.proofs.Common.{◌≡◌, ℕ, ◌+◌, ◌-◌, ◌≤◌, ◌<�
 use Rattle.std.specs.Prelude.{slice_get, option_map}
 use Rattle.std.specs.List.{last_or}
 use Rattle.std.proofs.lemmas.Bool.{cases_Bool}
-use Rattle.wk_job_rules.specs.Jobs.{FanEntry, JobLists, first_fan, fan_dropped, fan_moved, has_refresh, refresh_queued, with_first_cursor}
-use Rattle.wk_job_rules.specs.Steps.{after_fan, after_serving, all_queued, cursor_behind}
-use Rattle.wk_job_rules.specs.Users.{users}
-use Rattle.wk_state_rules.specs.States.{State}
-use Rattle.wk_state_laws.proofs.Fanned.{fans-all_queued}
+use Rattle.wk_wiki_rules.specs.Jobs.{FanEntry, JobLists, first_fan, fan_dropped, fan_moved, has_refresh, refresh_queued, with_first_cursor}
+use Rattle.wk_wiki_rules.specs.Steps.{after_fan, after_serving, all_queued, cursor_behind}
+use Rattle.wk_wiki_rules.specs.Users.{users}
+use Rattle.wk_wiki_rules.specs.States.{State}
+use Rattle.wk_wiki_laws.proofs.Fanned.{fans-all_queued}
 use Rattle.wk_live.specs.Fanned.{IsNextServed, first_fan_served, jobs_served}
 
 -- ---- the last page

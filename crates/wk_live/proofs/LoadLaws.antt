@@ -8,14 +8,14 @@ use Rattle.wk_table_rules.specs.Rows.{StoreTables}
 use Rattle.wk_table_rules.specs.GoodStore.{IsGood, job_bound}
 use Rattle.wk_table_rules.specs.Stored.{page_of_row}
 use Rattle.wk_table_laws.proofs.FirstBad.{KeepsRules-from_good}
-use Rattle.wk_job_rules.specs.Jobs.{JobLists, refresh_queued}
-use Rattle.wk_job_rules.specs.Steps.{all_queued, jobs_of_tables, reopened_jobs}
-use Rattle.wk_state_rules.specs.States.{State}
-use Rattle.wk_state_rules.specs.Tables.{state_of}
-use Rattle.wk_state_rules.specs.Lives.{opened}
-use Rattle.wk_state_laws.proofs.Kept.{few-pages}
-use Rattle.wk_state_laws.proofs.ReadBack as back
-use Rattle.wk_state_laws.proofs.GoodJobs.{jobs-of-good}
+use Rattle.wk_wiki_rules.specs.Jobs.{JobLists, refresh_queued}
+use Rattle.wk_wiki_rules.specs.Steps.{all_queued, jobs_of_tables, reopened_jobs}
+use Rattle.wk_wiki_rules.specs.States.{State}
+use Rattle.wk_wiki_rules.specs.Tables.{state_of}
+use Rattle.wk_wiki_rules.specs.Lives.{opened}
+use Rattle.wk_wiki_laws.proofs.KeptStates.{few-pages}
+use Rattle.wk_wiki_laws.proofs.ReadBack as back
+use Rattle.wk_wiki_laws.proofs.GoodJobs.{jobs-of-good}
 use Rattle.wk_wiki_laws.proofs.StoresOpened as stores
 
 -- ---- pages in their order

@@ -6,17 +6,17 @@ use Rattle.std.proofs.lemmas.Bool.{cases_Bool}
 use Rattle.std.proofs.lemmas.List.Folds.{list_any-append}
 use Rattle.wk_text_rules.specs.Titles.{PageTitle, title_eq}
 use Rattle.wk_page_rules.specs.History.{History, Page, next_revision, page_exists, page_number, page_to_save, saved, with_current}
-use Rattle.wk_row_rules.specs.PageRows.{PageRows, names, no_rows}
-use Rattle.wk_row_rules.specs.declared.Reach.{Reach}
-use Rattle.wk_row_rules.specs.declared.Reach.TheVariants.{Text, Both}
-use Rattle.wk_job_rules.specs.Jobs.{FanEntry, JobLists, fan_set, has_fan, refresh_queued}
-use Rattle.wk_job_rules.specs.Steps.{reach_of_save}
-use Rattle.wk_job_rules.specs.Users.{some_page_names}
-use Rattle.wk_state_rules.specs.States.{State}
-use Rattle.wk_state_rules.specs.Events.{jobs_after_save, stored_with, with_saved}
-use Rattle.wk_state_laws.proofs.Fanned.{fans-queued}
-use Rattle.wk_state_laws.proofs.Formed.{length-new, length-old, numbered}
-use Rattle.wk_state_laws.proofs.Saved.{pages-saved}
+use Rattle.wk_page_rules.specs.PageRows.{PageRows, names, no_rows}
+use Rattle.wk_page_rules.specs.declared.Reach.{Reach}
+use Rattle.wk_page_rules.specs.declared.Reach.TheVariants.{Text, Both}
+use Rattle.wk_wiki_rules.specs.Jobs.{FanEntry, JobLists, fan_set, has_fan, refresh_queued}
+use Rattle.wk_wiki_rules.specs.Steps.{reach_of_save}
+use Rattle.wk_wiki_rules.specs.Users.{some_page_names}
+use Rattle.wk_wiki_rules.specs.States.{State}
+use Rattle.wk_wiki_rules.specs.Events.{jobs_after_save, stored_with, with_saved}
+use Rattle.wk_wiki_laws.proofs.Fanned.{fans-queued}
+use Rattle.wk_wiki_laws.proofs.Formed.{length-new, length-old, numbered}
+use Rattle.wk_wiki_laws.proofs.Saved.{pages-saved}
 use Rattle.wk_live.specs.Wanted.{fan_of_save, queued_with, wants_fan}
 
 -- a title has a fan job where one is found

@@ -3,7 +3,7 @@ use Rattle.std.proofs.Common.{◌≡◌, ℕ, true, false, eqb, ◌&&◌, List, 
 use Rattle.std.specs.Prelude.{find, option_map}
 use Rattle.std.specs.List.{list_any}
 use Rattle.std.proofs.lemmas.Bool.{cases_Bool, eq-eqb, or_right}
-use Rattle.wk_job_rules.specs.Jobs.{JobLists, RefreshEntry, has_claimed, is_claimed, is_held_by, page_held_by}
+use Rattle.wk_wiki_rules.specs.Jobs.{JobLists, RefreshEntry, has_claimed, is_claimed, is_held_by, page_held_by}
 
 held-claimed : (ticket : ℕ) (job : RefreshEntry) → is_held_by ticket job ≡ true → is_claimed job ≡ true
 held-claimed ticket job held = by job.ticket refl

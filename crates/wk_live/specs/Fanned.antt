@@ -1,10 +1,10 @@
 -- What a fan serves next, and the jobs behind it.
 use Rattle.std.specs.Prelude.{◌≡◌, ℕ, Bool, ◌==◌, List, length, Option, None, Some, if◌then◌else◌}
 use Rattle.std.specs.List.{last_or}
-use Rattle.wk_job_rules.specs.Jobs.{FanEntry, JobLists, first_fan, fan_dropped, fan_moved}
-use Rattle.wk_job_rules.specs.Steps.{all_queued, cursor_behind, next_served}
-use Rattle.wk_job_rules.specs.Users.{users}
-use Rattle.wk_state_rules.specs.States.{State}
+use Rattle.wk_wiki_rules.specs.Jobs.{FanEntry, JobLists, first_fan, fan_dropped, fan_moved}
+use Rattle.wk_wiki_rules.specs.Steps.{all_queued, cursor_behind, next_served}
+use Rattle.wk_wiki_rules.specs.Users.{users}
+use Rattle.wk_wiki_rules.specs.States.{State}
 
 -- these are the pages that the first fan job serves next, at most so many, and behind the last of them no page names its
 -- title exactly where they are the last

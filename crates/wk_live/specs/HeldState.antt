@@ -1,6 +1,6 @@
 -- What a `Live` stands for: the state of a wiki, and for how much more there is room.
 use Rattle.std.specs.Prelude.{ℕ, ◌≤◌}
-use Rattle.wk_state_rules.specs.States.{State}
+use Rattle.wk_wiki_rules.specs.States.{State}
 
 -- for how many more there is room
 pub record Rooms : Type 0 where

@@ -2,11 +2,11 @@
 use Rattle.std.specs.Prelude.{ℕ, Bool, ◌||◌, List, Option, Some, None, is_some, if◌then◌else◌}
 use Rattle.wk_text_rules.specs.Titles.{PageTitle}
 use Rattle.wk_page_rules.specs.History.{page_exists}
-use Rattle.wk_row_rules.specs.declared.Reach.{Reach}
-use Rattle.wk_job_rules.specs.Jobs.{JobLists, has_fan, fan_set, refresh_queued}
-use Rattle.wk_job_rules.specs.Steps.{reach_of_save}
-use Rattle.wk_job_rules.specs.Users.{some_page_names}
-use Rattle.wk_state_rules.specs.States.{State}
+use Rattle.wk_page_rules.specs.declared.Reach.{Reach}
+use Rattle.wk_wiki_rules.specs.Jobs.{JobLists, has_fan, fan_set, refresh_queued}
+use Rattle.wk_wiki_rules.specs.Steps.{reach_of_save}
+use Rattle.wk_wiki_rules.specs.Users.{some_page_names}
+use Rattle.wk_wiki_rules.specs.States.{State}
 
 -- a fan job of the title stands, or some page's stored rows name it
 abbrev pub wants_fan : State → PageTitle → Reach → Bool

@@ -1,7 +1,7 @@
 //! Claims of refresh jobs.
 ghost use Rattle.std.specs.Prelude.{◌≡◌, true};
-ghost use Rattle.wk_job_rules.specs.Jobs.{claimed_by, first_queued, given_back, has_claimed, refresh_dropped};
-ghost use Rattle.wk_state_rules.specs.Events.{with_jobs};
+ghost use Rattle.wk_wiki_rules.specs.Jobs.{claimed_by, first_queued, given_back, has_claimed, refresh_dropped};
+ghost use Rattle.wk_wiki_rules.specs.Events.{with_jobs};
 
 use crate::live::Live;
 

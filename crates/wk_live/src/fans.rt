@@ -1,8 +1,8 @@
 //! Fans.
 ghost use Rattle.std.specs.Prelude.{◌≡◌, ℕ, ◌+◌, ◌≤◌, ◌<◌, ◌^◌, None, Some, IfOk, length};
 ghost use Rattle.std.specs.List.{last_or};
-ghost use Rattle.wk_job_rules.specs.Steps.{after_fan, all_queued, cursor_behind};
-ghost use Rattle.wk_state_rules.specs.Events.{with_jobs};
+ghost use Rattle.wk_wiki_rules.specs.Steps.{after_fan, all_queued, cursor_behind};
+ghost use Rattle.wk_wiki_rules.specs.Events.{with_jobs};
 ghost use Rattle.wk_live.specs.Fanned.{IsNextServed, first_fan_served, jobs_served};
 
 use crate::live::Live;

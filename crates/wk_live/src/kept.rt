@@ -10,7 +10,7 @@ use wk_memory::Memory;
 
 /// What is kept of the state of a wiki as it begins, so that it can be told later: how many revisions and pages stood, and
 /// the link rows and the jobs. A page costs a pointer.
-#[derive(Debug, Drop)]
+#[derive(Drop)]
 pub struct Kept {
     /// How many revisions stood.
     pub revisions: u64,

@@ -1,7 +1,7 @@
 //! Laws of tickets and of reads that aren't current.
 ghost use Rattle.std.specs.Prelude.{◌≡◌, ℕ, List, map, Some, true};
 ghost use Rattle.wk_view_rules.specs.Worlds.{Read, World};
-ghost use Rattle.wk_job_rules.specs.Jobs.{JobLists, has_claimed, page_held_by};
+ghost use Rattle.wk_wiki_rules.specs.Jobs.{JobLists, has_claimed, page_held_by};
 ghost use Rattle.wk_wiki_rules.specs.Staleness.{first_stale};
 ghost use Rattle.wk_expand.specs.Drafts.{with_mark};
 ghost use Rattle.wk_live.specs.Stale.{first_stale_mark};

@@ -1,7 +1,7 @@
 //! The state of a wiki.
 ghost use Rattle.std.specs.Prelude.{◌≡◌, ◌≤◌, OnOk};
-ghost use Rattle.wk_state_rules.specs.States.{no_state};
-ghost use Rattle.wk_state_rules.specs.Lives.{reopened};
+ghost use Rattle.wk_wiki_rules.specs.States.{no_state};
+ghost use Rattle.wk_wiki_rules.specs.Lives.{reopened};
 ghost use Rattle.wk_live.specs.HeldState.{HasRoomFor};
 
 use std::alloc::Global;
@@ -16,7 +16,7 @@ use wk_revs::Revs;
 ///
 /// Its calls are the steps of the events. No call but `load` and `kept` takes a time that grows with the wiki, other than
 /// with logarithms, with the tickets that are out and with the fan jobs.
-#[derive(Debug, Drop)]
+#[derive(Drop)]
 pub struct Live {
     pub(crate) revs: Revs,
     pub(crate) jobs: Jobs,

@@ -3,8 +3,8 @@ ghost use Rattle.std.specs.Prelude.{◌≡◌, ◌+◌, ◌≤◌, ◌^◌, IfOk
 ghost use Rattle.std.specs.List.{range_with_len};
 ghost use Rattle.wk_page_rules.specs.Verdict.{max_pages};
 ghost use Rattle.wk_table_rules.specs.GoodStore.{IsGood};
-ghost use Rattle.wk_job_rules.specs.Steps.{all_queued, reopened_jobs};
-ghost use Rattle.wk_state_rules.specs.Lives.{opened};
+ghost use Rattle.wk_wiki_rules.specs.Steps.{all_queued, reopened_jobs};
+ghost use Rattle.wk_wiki_rules.specs.Lives.{opened};
 
 use crate::live::Live;
 use std::alloc::Global;

@@ -3,7 +3,7 @@ ghost use Rattle.std.specs.Prelude.{◌≡◌, IfOk};
 ghost use Rattle.std.specs.Option.{option_copied, option_map};
 ghost use Rattle.wk_page_rules.specs.History.{current_text};
 ghost use Rattle.wk_view_rules.specs.Worlds.{answer_in, mark};
-ghost use Rattle.wk_state_rules.specs.States.{world_of};
+ghost use Rattle.wk_wiki_rules.specs.States.{world_of};
 ghost use Rattle.wk_expand.specs.Answers.{answer_of};
 ghost use Rattle.wk_live.specs.Stale.{first_stale_mark, with_present};
 

@@ -1,6 +1,6 @@
 //! Refreshes, in two halves: what needs memory, and what doesn't.
 ghost use Rattle.std.specs.Prelude.{◌≡◌, IsSome, OnErr, OnOk};
-ghost use Rattle.wk_listing_rules.specs.Names.{AreAmong, admitted, with_rows_at};
+ghost use Rattle.wk_wiki_rules.specs.Names.{AreAmong, admitted, with_rows_at};
 ghost use Rattle.wk_index.specs.Held.{rows_of};
 ghost use Rattle.wk_index.specs.Named.{rows_at};
 

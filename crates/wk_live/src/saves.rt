@@ -2,10 +2,10 @@
 ghost use Rattle.std.specs.Prelude.{◌≡◌, ◌+◌, ◌≤◌, ◌<◌, ◌^◌, ◌++◌, ◌∷◌, [], None, true, IfOk, is_some, length, if◌then◌else◌};
 ghost use Rattle.wk_page_rules.specs.History.{can_save, next_revision, page_exists, page_number};
 ghost use Rattle.wk_page_rules.specs.Verdict.{max_pages};
-ghost use Rattle.wk_row_rules.specs.PageRows.{no_rows};
-ghost use Rattle.wk_job_rules.specs.Jobs.{has_fan};
-ghost use Rattle.wk_job_rules.specs.Steps.{reach_of_save};
-ghost use Rattle.wk_state_rules.specs.Events.{with_saved};
+ghost use Rattle.wk_page_rules.specs.PageRows.{no_rows};
+ghost use Rattle.wk_wiki_rules.specs.Jobs.{has_fan};
+ghost use Rattle.wk_wiki_rules.specs.Steps.{reach_of_save};
+ghost use Rattle.wk_wiki_rules.specs.Events.{with_saved};
 ghost use Rattle.wk_live.specs.HeldState.{HasRoomFor};
 ghost use Rattle.wk_live.specs.Wanted.{fan_of_save, queued_with, wants_fan};
 
@@ -14,8 +14,8 @@ use wk_bytes::Text;
 use wk_index::Index;
 use wk_jobs::Jobs;
 use wk_memory::Memory;
+use wk_page_rules::Reach;
 use wk_revs::Revs;
-use wk_row_rules::Reach;
 use wk_title::Title;
 
 /// Which rows a save reaches, by whether the page existed before it and exists behind it: those of existence tests count

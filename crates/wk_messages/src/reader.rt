@@ -11,7 +11,7 @@ use wk_http::{Feed, HttpRequest, SessionEnd};
 use wk_link::Link;
 
 /// Reads a connection and gives its messages, one after the other.
-#[derive(Debug, Drop)]
+#[derive(Drop)]
 pub struct MessageReader {
     feed: Feed,
     total: u64,

@@ -16,7 +16,7 @@ use wk_memory::Memory;
 
 /// An output of an expansion: a list of bytes, each plain or sealed. It is UTF-8 as a whole, and so is each run of
 /// bytes with one mark. After an `Err` a call leaves it as it was.
-#[derive(Debug, Drop)]
+#[derive(Drop)]
 pub struct Out {
     text: String,
     // no list is written while all of the text is plain

@@ -7,7 +7,7 @@ ghost use Rattle.wk_out.specs.declared.run.Run.{Run as RunValue};
 use wk_memory::Memory;
 
 /// The length in bytes of a run, and its mark.
-#[derive(Clone, Copy, Debug)]
+#[derive(Clone, Copy)]
 pub struct Run {
     pub len: usize,
     pub sealed: bool,

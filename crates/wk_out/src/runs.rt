@@ -7,7 +7,7 @@ use std::marker::Model;
 
 /// The runs of an output, from first to last: each a text, and whether its bytes are sealed or else plain. No run is
 /// empty, and two runs one after the other differ in their marks.
-#[derive(Debug, Drop)]
+#[derive(Drop)]
 pub struct Runs<'a> {
     pub(crate) text: &'a str,
     // no list is written where all of the text is plain

@@ -1,6 +1,6 @@
 -- Passes that may save.
 use Rattle.std.specs.Prelude.{◌≡◌, None}
-use Rattle.wk_state_rules.specs.Events.{Event}
+use Rattle.wk_wiki_rules.specs.Events.{Event}
 use Rattle.wk_wiki_rules.specs.Starts.{Start}
 use Rattle.wk_turn.specs.Told.{Begun, IsOf, Story}
 

@@ -78,7 +78,7 @@ struct SavingLink<'a, K: Keeper, R: Wait> {
 }
 
 impl<'a, K: Keeper, R: Wait> Model for SavingLink<'a, K, R> {
-    ghost use Rattle.wk_state_rules.specs.Events.{Event};
+    ghost use Rattle.wk_wiki_rules.specs.Events.{Event};
     ghost use Rattle.wk_wiki_rules.specs.Starts.{Start};
     ghost use Rattle.wk_turn.specs.Told.{Story};
     ghost use Rattle.wk_part_tests.specs.Ready.{IsReady};

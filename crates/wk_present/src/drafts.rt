@@ -1,7 +1,7 @@
 //! Drafts of the present world.
 ghost use Rattle.std.specs.Prelude.{◌≡◌, ◌∷◌, ◌++◌, [], None, IfOk, OnOk};
 ghost use Rattle.wk_view_rules.specs.Worlds.{Agrees, answer_in, ask, of_seen, of_world};
-ghost use Rattle.wk_state_rules.specs.States.{world_of};
+ghost use Rattle.wk_wiki_rules.specs.States.{world_of};
 ghost use Rattle.wk_expand.specs.Answers.{read_with};
 ghost use Rattle.wk_expand.specs.Steps.{given_text};
 ghost use Rattle.wk_present.specs.Drafted.{IsAfter, IsPresent};

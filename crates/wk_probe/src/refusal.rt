@@ -4,7 +4,7 @@ use std::alloc::AllocError;
 use wk_memory::Memory;
 
 /// Why a line has no answer of its own.
-#[derive(Clone, Copy, Debug, PartialEq, Eq)]
+#[derive(Clone, Copy, PartialEq, Eq)]
 pub enum Refusal {
     /// Memory ran out.
     Memory,

@@ -6,19 +6,19 @@ use Rattle.wk_page_rules.specs.History.{text_of_revision}
 use Rattle.wk_view_rules.specs.Plans.{done}
 use Rattle.wk_view_rules.specs.Views.{view}
 use Rattle.wk_view_rules.specs.Worlds.{Agrees, IsHonest, Read, fits_kind, of_world}
-use Rattle.wk_job_rules.specs.Steps.{fan_pages}
-use Rattle.wk_state_rules.specs.States.{State, world_of}
-use Rattle.wk_state_rules.specs.Events.{Event}
-use Rattle.wk_state_rules.specs.Lives.{state_at}
-use Rattle.wk_state_laws.specs.WellFormed.{IsWellFormed}
+use Rattle.wk_wiki_rules.specs.Steps.{fan_pages}
+use Rattle.wk_wiki_rules.specs.States.{State, world_of}
+use Rattle.wk_wiki_rules.specs.Events.{Event}
+use Rattle.wk_wiki_rules.specs.Lives.{state_at}
+use Rattle.wk_wiki_laws.specs.WellFormed.{IsWellFormed}
 use Rattle.wk_wiki_rules.specs.Passes.{CacheEntry, IsKeptRead, IsReadAt, PageReading, PassSeen, drafted_in, shown_number}
 use Rattle.wk_wiki_rules.specs.Staleness.{first_stale}
 use Rattle.wk_wiki_rules.specs.Starts.{Start}
-use Rattle.wk_call_laws.specs.Caches.{IsLastingEntry}
-use Rattle.wk_call_laws.proofs.CacheEntries.{entry-right}
-use Rattle.wk_call_laws.proofs.LastingEntries.{lasting-made}
-use Rattle.wk_call_laws.proofs.Marks.{agrees-now}
-use Rattle.wk_call_laws.proofs.Since.{IsSoundSince-replayed}
+use Rattle.wk_life_laws.specs.Caches.{IsLastingEntry}
+use Rattle.wk_life_laws.proofs.CacheEntries.{entry-right}
+use Rattle.wk_life_laws.proofs.LastingEntries.{lasting-made}
+use Rattle.wk_life_laws.proofs.Marks.{agrees-now}
+use Rattle.wk_life_laws.proofs.Since.{IsSoundSince-replayed}
 use Rattle.wk_life_laws.specs.Runs.{IsRun}
 use Rattle.wk_life_laws.proofs.RunFacts.{run_kept, run_lasting, run_present}
 use Rattle.wk_read_laws.proofs.PointLaws.{prefix-short, state-longer}

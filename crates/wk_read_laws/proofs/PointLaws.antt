@@ -11,12 +11,12 @@ use Rattle.wk_view_rules.specs.Worlds.{Agrees, HasItsText, IsHonest, Read, World
 use Rattle.wk_view_rules.specs.declared.Kind.{Kind}
 use Rattle.wk_view_rules.specs.declared.Kind.TheVariants.{View, Include, Exists}
 use Rattle.wk_view_laws.proofs.PlanLemmas.{both_parts, kind_eq-true, title_eq-true}
-use Rattle.wk_state_rules.specs.States.{State, world_of}
-use Rattle.wk_state_rules.specs.Events.{Event}
-use Rattle.wk_state_rules.specs.Lives.{replay, state_at}
+use Rattle.wk_wiki_rules.specs.States.{State, world_of}
+use Rattle.wk_wiki_rules.specs.Events.{Event}
+use Rattle.wk_wiki_rules.specs.Lives.{replay, state_at}
 use Rattle.wk_wiki_rules.specs.Staleness.{StaleRead, first_stale, is_stale, stale_read}
 use Rattle.wk_wiki_rules.specs.Starts.{Start}
-use Rattle.wk_call_laws.proofs.Marks.{answer-honest}
+use Rattle.wk_life_laws.proofs.Marks.{answer-honest}
 use Rattle.wk_life_laws.specs.Runs.{IsRun}
 use Rattle.wk_life_laws.proofs.RunFacts.{run_honest}
 use Rattle.wk_read_laws.specs.Points.{AreReadSince, IsReadSince, IsStaleSince}

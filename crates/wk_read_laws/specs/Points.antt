@@ -1,9 +1,9 @@
 -- Answers of points of a journal (own). A point is the length of a journal.
 use Rattle.std.specs.Prelude.{◌≡◌, ◌≢◌, ℕ, ◌≤◌, All, List, length, Some}
 use Rattle.wk_view_rules.specs.Worlds.{Read, World, answer_in, mark}
-use Rattle.wk_state_rules.specs.States.{State, world_of}
-use Rattle.wk_state_rules.specs.Events.{Event}
-use Rattle.wk_state_rules.specs.Lives.{state_at}
+use Rattle.wk_wiki_rules.specs.States.{State, world_of}
+use Rattle.wk_wiki_rules.specs.Events.{Event}
+use Rattle.wk_wiki_rules.specs.Lives.{state_at}
 use Rattle.wk_wiki_rules.specs.Staleness.{StaleRead}
 use Rattle.wk_wiki_rules.specs.Starts.{Start}
 

@@ -3,8 +3,8 @@ ghost use Rattle.std.specs.Prelude.{◌≡◌, ℕ, ◌≤◌, ◌∷◌, ◌++�
 ghost use mathlib.Core.List.{IsPrefix};
 ghost use Rattle.wk_page_rules.specs.History.{text_of_revision};
 ghost use Rattle.wk_view_rules.specs.Worlds.{Agrees, IsHonest, Read, World, fits_kind, of_seen};
-ghost use Rattle.wk_state_rules.specs.States.{State};
-ghost use Rattle.wk_state_rules.specs.Events.{Event};
+ghost use Rattle.wk_wiki_rules.specs.States.{State};
+ghost use Rattle.wk_wiki_rules.specs.Events.{Event};
 ghost use Rattle.wk_wiki_rules.specs.Staleness.{StaleRead, first_stale};
 ghost use Rattle.wk_wiki_rules.specs.Starts.{Start};
 ghost use Rattle.wk_life_laws.specs.Runs.{IsRun};

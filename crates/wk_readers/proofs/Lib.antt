@@ -1,2 +1,6 @@
+pub mod EndLaws
+pub mod MadeLaws
 pub mod ReaderLaws
-pub use Rattle.wk_refreshes.proofs.WorkLaws
+pub mod StepLaws
+pub mod WorkLaws
+pub use Rattle.wk_shared.proofs.LookLaws

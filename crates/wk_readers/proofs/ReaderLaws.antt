@@ -5,8 +5,8 @@ use Rattle.std.specs.Option.{option_map_or}
 use mathlib.Core.List.{IsPrefix}
 use Rattle.wk_text_rules.specs.Titles.{PageTitle}
 use Rattle.wk_view_rules.specs.Worlds.{IsSeen, Read, fits_kind}
-use Rattle.wk_state_rules.specs.States.{State, world_of}
-use Rattle.wk_state_rules.specs.Events.{Event}
+use Rattle.wk_wiki_rules.specs.States.{State, world_of}
+use Rattle.wk_wiki_rules.specs.Events.{Event}
 use Rattle.wk_wiki_rules.specs.Passes.{IsKeptRead, IsReadAt, max_uses}
 use Rattle.wk_wiki_rules.specs.Staleness.{first_stale}
 use Rattle.wk_wiki_rules.specs.Starts.{Start}
@@ -20,10 +20,10 @@ use Rattle.wk_cache.specs.Entries.{CacheShown, entry_kept, entry_of, is_of, kept
 use Rattle.wk_cache.specs.declared.kept.Kept.{Kept}
 use Rattle.wk_cache.proofs.Lists.{found-among, found-passes, front-among, front-found, marked-among, put-among}
 use Rattle.wk_read_laws.proofs.PageLaws.{kept-current, kept-longer, right-longer}
-use Rattle.wk_refreshes.specs.Looks.{HasLooked, HasRead, IsPresentRead, reading_of}
-use Rattle.wk_refreshes.proofs.LookLaws.{read-both, read-none}
-use Rattle.wk_refreshes.specs.Sought.{kept_read}
-use Rattle.wk_refreshes.specs.Worked.{HasWorked}
+use Rattle.wk_shared.specs.Looks.{HasLooked, HasRead, IsPresentRead, reading_of}
+use Rattle.wk_shared.proofs.LookLaws.{read-both, read-none}
+use Rattle.wk_shared.specs.Sought.{kept_read}
+use Rattle.wk_readers.specs.Worked.{HasWorked}
 use Rattle.wk_readers.specs.Readers.{AreRight, ReaderSeen}
 use Rattle.wk_readers.specs.declared.reader.Checked.TheVariants.{Current}
 use Rattle.wk_readers.specs.Reads.{IsAnswered, IsCheck, IsChecked, IsDrafted, IsDraftedAnew, IsLate, IsPageRead, IsServed, KeepsCount, KeepsOrAdds, OnlyKeeps, answer_of_kept, fresh_entry}

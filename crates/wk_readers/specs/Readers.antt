@@ -1,6 +1,6 @@
 -- What a reader is seen as, and what it keeps (own).
 use Rattle.std.specs.Prelude.{◌≡◌, ℕ, List, Contains, Some}
-use Rattle.wk_state_rules.specs.Events.{Event}
+use Rattle.wk_wiki_rules.specs.Events.{Event}
 use Rattle.wk_wiki_rules.specs.Passes.{IsKeptRead}
 use Rattle.wk_wiki_rules.specs.Starts.{Start}
 use Rattle.wk_turn.specs.Told.{Story}

@@ -1,7 +1,7 @@
 -- What reads answer, and what they leave of the pages that a reader keeps (own).
 use Rattle.std.specs.Prelude.{◌≡◌, ◌⊎◌, ℕ, ◌+◌, ◌≤◌, ◌<◌, List, length, Option, Some, None, Result, Ok, Err, Contains, IfOk, IfErr}
 use Rattle.wk_text_rules.specs.Titles.{PageTitle}
-use Rattle.wk_state_rules.specs.Events.{Event}
+use Rattle.wk_wiki_rules.specs.Events.{Event}
 use Rattle.wk_wiki_rules.specs.Passes.{IsReadAt, max_uses}
 use Rattle.wk_wiki_rules.specs.Starts.{Start}
 use Rattle.wk_core.specs.declared.outcomes.PageRead.{PageRead}
@@ -11,7 +11,7 @@ use Rattle.wk_cache.specs.Entries.{entry_of, marked}
 use Rattle.wk_cache.specs.declared.kept.Kept.{Kept}
 use Rattle.wk_turn.specs.Told.{Begun, Story}
 use Rattle.wk_shared.specs.Calls.{seen_by}
-use Rattle.wk_refreshes.specs.Looks.{HasRead, IsPresentRead, reading_of}
+use Rattle.wk_shared.specs.Looks.{HasRead, IsPresentRead, reading_of}
 use Rattle.wk_readers.specs.Readers.{ReaderSeen}
 use Rattle.wk_readers.specs.declared.reader.Checked.{Checked}
 use Rattle.wk_readers.specs.declared.reader.Checked.TheVariants.{Current, Stale, Late}

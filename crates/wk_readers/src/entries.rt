@@ -30,6 +30,7 @@ pub fn is_fresh(kept: &Kept, least: u64, seen: u64) -> bool
     ensures few { IsTrue result → kept.now.uses < max_uses }
     ensures reached { IsTrue result → least ≤ kept.now.point }
     ensures fresh { IsTrue result → seen ≤ kept.now.point }
+    ensures only_so { kept.now.uses < max_uses → least ≤ kept.now.point → seen ≤ kept.now.point → IsTrue result }
 {
     if kept.uses >= MOST_USES || kept.point < least {
         return false;

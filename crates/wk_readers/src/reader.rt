@@ -9,20 +9,20 @@ ghost use Rattle.wk_turn.specs.Journal.{AreOwn, ClosesOwn, IsOpen, added};
 ghost use Rattle.wk_turn.specs.Told.{IsOf};
 ghost use Rattle.wk_shared.specs.Calls.{seen_by};
 ghost use Rattle.wk_cache.specs.Entries.{entry_of, marked};
-ghost use Rattle.wk_refreshes.specs.Looks.{HasRead, IsPresentRead, reading_of};
-ghost use Rattle.wk_refreshes.specs.Sought.{kept_read};
+ghost use Rattle.wk_shared.specs.Looks.{HasRead, IsPresentRead, reading_of};
+ghost use Rattle.wk_shared.specs.Sought.{kept_read};
 ghost use Rattle.wk_readers.specs.Readers.{AreRight};
 ghost use Rattle.wk_readers.specs.Reads.{IsCheck, IsDraftedAnew, IsLate, KeepsOrAdds, answer_of_kept, fresh_entry};
 
+use crate::{Sought, drafted, look, look_for, look_new};
 use std::alloc::Global;
 use std::marker::Model;
 use std::sync::Wait;
+use wk_base::Gate;
 use wk_cache::{Cache, Kept};
 use wk_core::{Keeper, PageRead, ReadRefusal, Wiki};
 use wk_expand::{Root, Trees};
-use wk_gate::Gate;
 use wk_memory::Memory;
-use wk_refreshes::{Sought, drafted, look, look_for, look_new};
 use wk_shared::{Held, Pass, Shared};
 use wk_title::Title;
 

@@ -2,17 +2,17 @@
 ghost use Rattle.std.specs.Prelude.{◌≡◌, IfErr, IfOk, None, Some};
 ghost use Rattle.wk_cache.specs.Entries.{entry_of};
 ghost use Rattle.wk_turn.specs.Told.{IsOf};
-ghost use Rattle.wk_refreshes.specs.Looks.{HasRead};
+ghost use Rattle.wk_shared.specs.Looks.{HasRead};
 ghost use Rattle.wk_readers.specs.Reads.{IsAnswered, IsLate, IsPageRead, KeepsCount};
 
 use crate::entries::{found, is_fresh};
 use crate::reader::{Checked, Reader};
 use std::sync::Wait;
+use wk_base::Gate;
 use wk_bytes::Text;
 use wk_cache::Kept;
 use wk_core::{Keeper, PageRead, ReadRefusal};
 use wk_expand::Root;
-use wk_gate::Gate;
 use wk_shared::Shared;
 use wk_title::Title;
 

@@ -1,13 +1,13 @@
 //! Steps of a worker.
 ghost use Rattle.std.specs.Prelude.{◌≡◌, None};
 ghost use Rattle.wk_turn.specs.Told.{IsOf};
-ghost use Rattle.wk_refreshes.specs.Refreshes.{IsRefreshed};
+ghost use Rattle.wk_readers.specs.Refreshes.{IsRefreshed};
 
 use crate::reader::Reader;
+use crate::{Refreshed, refresh_with};
 use std::sync::Wait;
+use wk_base::Gate;
 use wk_core::Keeper;
-use wk_gate::Gate;
-use wk_refreshes::{Refreshed, refresh_with};
 use wk_shared::Shared;
 
 /// One step of a worker, as `refresh_with` has it (MediaWiki's Manual:Job queue): a fan, or a refresh of the first page whose

@@ -1,8 +1,8 @@
 //! A worker.
 
 use crate::reader::Reader;
+use wk_base::Gate;
 use wk_core::Keeper;
-use wk_gate::Gate;
 
 /// Who works on a shared wiki: a reader, and the gate that is passed between two reads of its drafts (own).
 #[derive(Drop)]

@@ -7,8 +7,8 @@ use Rattle.std.proofs.lemmas.List.Elements.{All-cons, All-nil}
 use Rattle.std.proofs.lemmas.List.Sums.{sum_by-cons}
 use Rattle.std.proofs.Math.Seq.{take-append_seam}
 use mathlib.Core.List.{IsPrefix}
-use Rattle.wk_job_rules.specs.Jobs.{FanEntry, RefreshEntry, is_claimed, is_queued, left}
-use Rattle.wk_state_rules.specs.Events.{Event}
+use Rattle.wk_wiki_rules.specs.Jobs.{FanEntry, RefreshEntry, is_claimed, is_queued, left}
+use Rattle.wk_wiki_rules.specs.Events.{Event}
 use Rattle.wk_wiki_rules.specs.Starts.{Start}
 use Rattle.wk_turn.specs.Told.{Begun, Story}
 use Rattle.wk_turn.proofs.Lists.{prefix_trans}
@@ -16,8 +16,8 @@ use Rattle.wk_shared.specs.Calls.{AddsOwn, IsMadeAt}
 use Rattle.wk_readers.specs.Beginnings.{IdleTold}
 use Rattle.wk_readers.specs.Refreshes.{IsRefreshed, RefreshTold}
 use Rattle.wk_readers.specs.Worked.{HasWorked}
-use Rattle.wk_readers.specs.Refreshed.{Refreshed}
-use Rattle.wk_readers.specs.Refreshed.TheVariants as refreshed
+use Rattle.wk_readers.specs.declared.outcome.Refreshed.{Refreshed}
+use Rattle.wk_readers.specs.declared.outcome.Refreshed.TheVariants as refreshed
 use Rattle.wk_readers.proofs.WorkLaws.{worked-both}
 use Rattle.wk_refresh.specs.Drained.{End, HasDrained, HasEnded, IsFree, IsLeftEmpty, WorkEnd, end_first, first_refusal, last_answer}
 use Rattle.wk_refresh.specs.declared.refusal.DrainRefusal.TheVariants.{StoreFault}

@@ -2,15 +2,15 @@
 use Rattle.std.specs.Prelude.{◌≡◌, ◌⊎◌, ℕ, ◌≤◌, Bool, Contains, List, [], ◌∷◌, length, map, Some, None, Result, Ok, Err}
 use Rattle.std.specs.List.{AllZip}
 use mathlib.Core.List.{IsPrefix}
-use Rattle.wk_state_rules.specs.States.{State}
-use Rattle.wk_state_rules.specs.Events.{Event}
+use Rattle.wk_wiki_rules.specs.States.{State}
+use Rattle.wk_wiki_rules.specs.Events.{Event}
 use Rattle.wk_wiki_rules.specs.Starts.{Start}
 use Rattle.wk_turn.specs.Told.{Begun, IsOf, Story}
 use Rattle.wk_shared.specs.Calls.{MayFail, state_by}
 use Rattle.wk_readers.specs.Refreshes.{RefreshTold}
 use Rattle.wk_readers.specs.Worked.{HasWorked}
-use Rattle.wk_readers.specs.Refreshed.{Refreshed}
-use Rattle.wk_readers.specs.Refreshed.TheVariants as refreshed
+use Rattle.wk_readers.specs.declared.outcome.Refreshed.{Refreshed}
+use Rattle.wk_readers.specs.declared.outcome.Refreshed.TheVariants as refreshed
 use Rattle.wk_refresh.specs.declared.refusal.DrainRefusal.{DrainRefusal}
 use Rattle.wk_refresh.specs.declared.refusal.DrainRefusal.TheVariants.{JournalFull, StoreFault, Memory}
 

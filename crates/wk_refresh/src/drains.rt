@@ -7,7 +7,7 @@ use crate::refusal::DrainRefusal;
 use std::mem;
 use std::sync::Wait;
 use std::thread::Threads;
-use wk_gate::Gate;
+use wk_base::Gate;
 use wk_readers::Worker;
 use wk_shared::{Keeper, Shared};
 

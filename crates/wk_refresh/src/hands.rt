@@ -1,12 +1,12 @@
 //! Workers, and how their steps end.
-ghost use Rattle.std.specs.Prelude.{◌≡◌, ℕ, ◌+◌, ◌++◌, ◌<◌, ◌≤◌, All, IfSome, length, map, slice_index_or, vec_capacity, vec_len};
-ghost use Rattle.wk_refresh.specs.Drained.{HasEnded, IsFree, end_first, first_refusal, last_answer};
+ghost use Rattle.std.specs.Prelude.{◌≡◌, ◌≢◌, ℕ, ◌+◌, ◌++◌, ◌<◌, ◌≤◌, All, IfNone, IfSome, length, map, slice_index_or, vec_capacity, vec_len};
+ghost use Rattle.wk_refresh.specs.Drained.{End, HasEnded, IsFree, end_first, first_refusal, last_answer};
 
 use crate::refusal::DrainRefusal;
 use std::sync::Wait;
 use std::thread::{Parker, Threads, for_each_mut};
 use std::time::Duration;
-use wk_gate::Gate;
+use wk_base::Gate;
 use wk_readers::{Refreshed, Worker, refresh_one};
 use wk_shared::{Keeper, Shared};
 
@@ -22,7 +22,8 @@ pub struct Hand<K: Keeper, G: Gate> {
 
 /// How a worker's steps end with this answer; `None` where they go on.
 fn end_of(answer: &Refreshed) -> Option<Result<(), DrainRefusal>>
-    ensures { IfSome result (λ end. answer.now ≡ last_answer end) }
+    ensures end { IfSome result (λ end. answer.now ≡ last_answer end) }
+    ensures goes_on { IfNone result ((end : End) → answer.now ≢ last_answer end) }
 {
     match answer {
         Refreshed::Idle { claimed: 0 } => Some(Ok(())),

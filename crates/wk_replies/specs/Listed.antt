@@ -4,7 +4,7 @@ use Rattle.std.specs.Prelude.{ℕ, List, [], ◌∷◌, ◌++◌, codes, length,
 use Rattle.serde_json.specs.Data.{Data, string}
 use Rattle.wk_text_rules.specs.Titles.{PageTitle}
 use Rattle.wk_page_rules.specs.History.{Revision}
-use Rattle.wk_listing_rules.specs.Members.{MemberPage}
+use Rattle.wk_wiki_rules.specs.Members.{MemberPage}
 use Rattle.wk_answer_rules.specs.Lists.{change_type, continue_entries}
 use Rattle.wk_answer_rules.specs.Pages.{query_entries}
 use Rattle.wk_answer_rules.specs.Values.{Entries, title_entries, whole}

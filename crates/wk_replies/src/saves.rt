@@ -13,7 +13,7 @@ use wk_memory::Memory;
 use wk_title::Title;
 
 /// The numbers of a save.
-#[derive(Clone, Copy, Debug)]
+#[derive(Clone, Copy)]
 pub struct SavedNumbers {
     /// The page's number.
     pub page: u32,

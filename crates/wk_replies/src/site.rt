@@ -2,8 +2,8 @@
 ghost use Rattle.std.specs.Prelude.{◌≡◌, ◌∷◌, [], IfOk, codes, length, map};
 ghost use Rattle.serde_json.specs.Data.{string};
 ghost use Rattle.serde_json.specs.View.{view};
-ghost use Rattle.wk_listing_rules.specs.Revisions.{count_existing};
-ghost use Rattle.wk_state_rules.specs.States.{State};
+ghost use Rattle.wk_wiki_rules.specs.Revisions.{count_existing};
+ghost use Rattle.wk_wiki_rules.specs.States.{State};
 ghost use Rattle.wk_answer_rules.specs.Pages.{count_jobs, namespace_numbers, namespace_value, site_entries, tokens_entries};
 ghost use Rattle.wk_answer_rules.specs.Values.{array_of, integer, object_of, reply_beside};
 ghost use Rattle.wk_replies.specs.Counted.{query_shown, site_shown, statistics_shown};
@@ -19,7 +19,7 @@ use wk_title::namespace_name;
 const NAMESPACES: [i8; 18] = [-2, -1, 0, 1, 2, 3, 4, 5, 6, 7, 8, 9, 10, 11, 12, 13, 14, 15];
 
 /// How much a wiki holds.
-#[derive(Clone, Copy, Debug)]
+#[derive(Clone, Copy)]
 pub struct Counts {
     pub revisions: u64,
     /// Jobs of both kinds.

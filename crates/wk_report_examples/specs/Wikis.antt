@@ -3,11 +3,11 @@ use Rattle.std.specs.Prelude.{ℕ, pos, List, [], ◌∷◌, codes, map, Some, N
 use Rattle.std.specs.List.{enumerate_from}
 use Rattle.wk_text_rules.specs.Titles.{PageTitle}
 use Rattle.wk_page_rules.specs.History.{Page, Revision, History}
-use Rattle.wk_row_rules.specs.PageRows.{PageRows, no_rows}
+use Rattle.wk_page_rules.specs.PageRows.{PageRows, no_rows}
 use Rattle.wk_view_rules.specs.Rows.{rows}
-use Rattle.wk_job_rules.specs.Jobs.{no_jobs}
-use Rattle.wk_state_rules.specs.Events.{Event, Save, Claim, Done}
-use Rattle.wk_state_rules.specs.States.{State, world_of}
+use Rattle.wk_wiki_rules.specs.Jobs.{no_jobs}
+use Rattle.wk_wiki_rules.specs.Events.{Event, Save, Claim, Done}
+use Rattle.wk_wiki_rules.specs.States.{State, world_of}
 use Rattle.wk_report_rules.specs.declared.Report.{Report}
 use Rattle.wk_report_rules.specs.Pages.{stored_pages}
 use Rattle.wk_report_rules.specs.Reports.{report_lines}

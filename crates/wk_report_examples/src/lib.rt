@@ -3,10 +3,10 @@
 #![tactic(auto)]
 
 ghost use Rattle.std.specs.Prelude.{◌≡◌, codes, ◌∷◌, [], Some};
-ghost use Rattle.wk_job_rules.specs.Steps.{fan_pages};
-ghost use Rattle.wk_state_rules.specs.Lives.{replay_by};
-ghost use Rattle.wk_state_rules.specs.Soundness.{IsSound};
-ghost use Rattle.wk_state_rules.specs.States.{no_state, world_of};
+ghost use Rattle.wk_wiki_rules.specs.Steps.{fan_pages};
+ghost use Rattle.wk_wiki_rules.specs.Lives.{replay_by};
+ghost use Rattle.wk_wiki_rules.specs.Soundness.{IsSound};
+ghost use Rattle.wk_wiki_rules.specs.States.{no_state, world_of};
 ghost use Rattle.wk_report_rules.specs.declared.Report.TheVariants.{Wanted, Orphaned, Uncategorized, DoubleRedirects, MostTemplates};
 ghost use Rattle.wk_report_rules.specs.Pages.{expanded_pages};
 ghost use Rattle.wk_report_rules.specs.Reports.{report_lines};

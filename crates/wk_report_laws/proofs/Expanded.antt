@@ -4,9 +4,9 @@ use Rattle.std.specs.List.{enumerate_from}
 use Rattle.std.specs.Prelude.{slice_get}
 use Rattle.std.proofs.lemmas.Bool.{ne_eqb}
 use Rattle.wk_page_rules.specs.History.{History, Page}
-use Rattle.wk_state_rules.specs.States.{State, page_at, world_of}
-use Rattle.wk_state_rules.specs.Soundness.{IsCurrent, IsSound}
-use Rattle.wk_state_laws.proofs.Sound.{IsCurrent-at_rest}
+use Rattle.wk_wiki_rules.specs.States.{State, page_at, world_of}
+use Rattle.wk_wiki_rules.specs.Soundness.{IsCurrent, IsSound}
+use Rattle.wk_wiki_laws.proofs.Sound.{IsCurrent-at_rest}
 use Rattle.wk_report_rules.specs.declared.Report.{Report}
 use Rattle.wk_report_rules.specs.Pages.{expanded_pages, page_expanded, page_stored, stored_pages}
 use Rattle.wk_report_rules.specs.Reports.{TitledRows, report_lines}

@@ -15,7 +15,7 @@ use Rattle.std.proofs.lemmas.List.Folds.{list_any-append}
 use Rattle.std.proofs.lemmas.List.Sums.{count_by-le-length, fold-append, sum_by-cons}
 use Rattle.std.proofs.lemmas.Map.Keys.{IsDistinct-push}
 use Rattle.wk_text_rules.specs.Titles.{PageTitle, title_cmp, title_eq, is_page_title}
-use Rattle.wk_row_rules.specs.PageRows.{PageRows}
+use Rattle.wk_page_rules.specs.PageRows.{PageRows}
 use Rattle.wk_table_laws.specs.EachGood.{EachGood, GoodAfter}
 use Rattle.wk_table_laws.specs.Premises.{is_next_title}
 use Rattle.wk_view_laws.proofs.PlanLemmas.{title_eq-same, title_eq-true}

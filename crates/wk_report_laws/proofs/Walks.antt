@@ -9,11 +9,11 @@ use Rattle.std.proofs.lemmas.Option.{slice_get_past}
 use Rattle.std.proofs.lemmas.List.{append-nil, append_assoc, take_all}
 use Rattle.wk_text_rules.specs.Titles.{PageTitle, title_eq}
 use Rattle.wk_page_rules.specs.History.{Page, page_number}
-use Rattle.wk_row_rules.specs.PageRows.{PageRows, no_rows}
+use Rattle.wk_page_rules.specs.PageRows.{PageRows, no_rows}
 use Rattle.wk_table_laws.specs.EachGood.{EachGood}
 use Rattle.wk_table_laws.specs.Premises.{is_next_title}
-use Rattle.wk_state_rules.specs.States.{State, page_at, stored_at}
-use Rattle.wk_state_laws.specs.Kept.{AreGoodRows}
+use Rattle.wk_wiki_rules.specs.States.{State, page_at, stored_at}
+use Rattle.wk_wiki_laws.specs.Kept.{AreGoodRows}
 use Rattle.wk_report_rules.specs.Pages.{page_stored, stored_pages}
 use Rattle.wk_report_rules.specs.Reports.{Line, TitledRows, is_named_elsewhere, redirect_of}
 use Rattle.wk_report_laws.proofs.Tallies.{InOrder, entry}

@@ -2,8 +2,8 @@
 #![tactic(auto)]
 
 ghost use Rattle.std.specs.Prelude.{◌≡◌, ℕ, []};
-ghost use Rattle.wk_state_rules.specs.States.{State, world_of};
-ghost use Rattle.wk_state_rules.specs.Soundness.{IsSound};
+ghost use Rattle.wk_wiki_rules.specs.States.{State, world_of};
+ghost use Rattle.wk_wiki_rules.specs.Soundness.{IsSound};
 ghost use Rattle.wk_report_rules.specs.declared.Report.{Report};
 ghost use Rattle.wk_report_rules.specs.Pages.{expanded_pages, stored_pages};
 ghost use Rattle.wk_report_rules.specs.Reports.{report_lines};

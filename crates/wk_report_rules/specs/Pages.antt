@@ -2,8 +2,8 @@
 use Rattle.std.specs.Prelude.{ℕ, List, map}
 use Rattle.wk_page_rules.specs.History.{Page}
 use Rattle.wk_view_rules.specs.Rows.{rows}
-use Rattle.wk_state_rules.specs.States.{State, stored_at, world_of}
-use Rattle.wk_listing_rules.specs.Revisions.{numbered_pages}
+use Rattle.wk_wiki_rules.specs.States.{State, stored_at, world_of}
+use Rattle.wk_wiki_rules.specs.Revisions.{numbered_pages}
 use Rattle.wk_report_rules.specs.Reports.{TitledRows}
 
 abbrev pub page_stored : State → ℕ × Page → TitledRows

@@ -7,7 +7,7 @@ use Rattle.std.specs.List.{list_any}
 use Rattle.std.specs.Ordering.{int_eq, is_lt, nat_cmp, ordering_then}
 use Rattle.std.specs.declared.cmp.Ordering.{Ordering}
 use Rattle.wk_text_rules.specs.Titles.{PageTitle, title_cmp, title_eq}
-use Rattle.wk_row_rules.specs.PageRows.{PageRows}
+use Rattle.wk_page_rules.specs.PageRows.{PageRows}
 use Rattle.wk_view_rules.specs.Worlds.{World}
 use Rattle.wk_report_rules.specs.declared.Report.{Report}
 use Rattle.wk_report_rules.specs.declared.Report.TheVariants.{Wanted, Orphaned, Uncategorized, DoubleRedirects, MostTemplates}

@@ -8,11 +8,11 @@ use Rattle.std.proofs.lemmas.List.{length-take-le, take_all}
 use Rattle.std.proofs.lemmas.List.Folds.{list_any-append}
 use Rattle.std.proofs.lemmas.List.Sums.{fold-append}
 use Rattle.wk_text_rules.specs.Titles.{PageTitle, title_eq}
-use Rattle.wk_row_rules.specs.PageRows.{PageRows}
+use Rattle.wk_page_rules.specs.PageRows.{PageRows}
 use Rattle.wk_view_rules.specs.Worlds.{World}
-use Rattle.wk_state_rules.specs.States.{State, stored_at, world_of}
-use Rattle.wk_state_laws.specs.Kept.{IsKept}
-use Rattle.wk_state_laws.proofs.Kept.{few-pages}
+use Rattle.wk_wiki_rules.specs.States.{State, stored_at, world_of}
+use Rattle.wk_wiki_laws.specs.Kept.{IsKept}
+use Rattle.wk_wiki_laws.proofs.KeptStates.{few-pages}
 use Rattle.wk_report_rules.specs.declared.Report.{Report}
 use Rattle.wk_report_rules.specs.Pages.{stored_pages}
 use Rattle.wk_report_rules.specs.Reports.{Line, TitledRows, double_redirect, is_named_elsewhere, pages_with, titles_with, in_order, report_lines, reported, uncounted}

@@ -1,7 +1,7 @@
 -- Which titles are counted, and which of them are listed.
 use Rattle.std.specs.Prelude.{ℕ, Bool, true, List, [], ◌∷◌, filter, is_none, map, if◌then◌else◌}
 use Rattle.wk_text_rules.specs.Titles.{PageTitle}
-use Rattle.wk_row_rules.specs.PageRows.{PageRows}
+use Rattle.wk_page_rules.specs.PageRows.{PageRows}
 use Rattle.wk_view_rules.specs.Worlds.{World}
 use Rattle.wk_report_rules.specs.Reports.{Line, TitledRows, most_templates, wanted}
 use Rattle.wk_reports.specs.declared.counted.Counted.{Counted}

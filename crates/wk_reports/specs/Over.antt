@@ -4,8 +4,8 @@ use Rattle.wk_base.specs.Faults.{Rose}
 use Rattle.wk_page_rules.specs.Verdict.{full_limits}
 use Rattle.wk_table_rules.specs.GoodStore.{first_broken}
 use Rattle.wk_table_rules.specs.Rows.{StoreTables}
-use Rattle.wk_state_rules.specs.Lives.{opened}
-use Rattle.wk_state_rules.specs.States.{world_of}
+use Rattle.wk_wiki_rules.specs.Lives.{opened}
+use Rattle.wk_wiki_rules.specs.States.{world_of}
 use Rattle.wk_core.specs.Loads.{HasOpened, bad_store_of}
 use Rattle.wk_core.specs.Seen.{IsTold, WikiSeen}
 use Rattle.wk_core.specs.Steps.{KeeperGoesOn}

@@ -3,8 +3,8 @@ ghost use Rattle.std.specs.Prelude.{◌≡◌, ◌&&◌, ◌||◌, IfOk, OnOk, f
 ghost use Rattle.std.specs.HashSet.{contains};
 ghost use Rattle.std.specs.List.{list_any};
 ghost use Rattle.wk_text_rules.specs.Titles.{PageTitle, title_eq};
-ghost use Rattle.wk_state_rules.specs.States.{world_of};
-ghost use Rattle.wk_state_laws.specs.Kept.{IsKept};
+ghost use Rattle.wk_wiki_rules.specs.States.{world_of};
+ghost use Rattle.wk_wiki_laws.specs.Kept.{IsKept};
 ghost use Rattle.wk_report_rules.specs.Pages.{stored_pages};
 ghost use Rattle.wk_report_rules.specs.Reports.{is_article, is_named_elsewhere, is_orphaned, is_uncategorized, uncounted};
 ghost use Rattle.wk_report_lines.specs.Lines.{line_of};

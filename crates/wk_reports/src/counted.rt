@@ -1,7 +1,7 @@
 //! Titles that pages have among their rows, each with how many pages have it.
 ghost use Rattle.std.specs.Prelude.{◌≡◌, ◌++◌, ◌∷◌, [], IfOk, OnOk, flat_map, map};
-ghost use Rattle.wk_state_rules.specs.States.{world_of};
-ghost use Rattle.wk_state_laws.specs.Kept.{IsKept};
+ghost use Rattle.wk_wiki_rules.specs.States.{world_of};
+ghost use Rattle.wk_wiki_laws.specs.Kept.{IsKept};
 ghost use Rattle.wk_report_rules.specs.Pages.{stored_pages};
 ghost use Rattle.wk_report_laws.specs.Tally.{tallied_all};
 ghost use Rattle.wk_report_lines.specs.Lines.{line_of};

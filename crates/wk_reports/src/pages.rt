@@ -1,7 +1,7 @@
 //! The pages of a wiki, one after the other, with their stored link rows.
 ghost use Rattle.std.specs.Prelude.{◌≡◌, ◌≤◌, ◌<◌, ◌+◌, Some, is_some, length, slice_get};
-ghost use Rattle.wk_state_rules.specs.States.{stored_at, world_of};
-ghost use Rattle.wk_state_laws.specs.Kept.{IsKept};
+ghost use Rattle.wk_wiki_rules.specs.States.{stored_at, world_of};
+ghost use Rattle.wk_wiki_laws.specs.Kept.{IsKept};
 ghost use Rattle.wk_report_rules.specs.Pages.{stored_pages};
 ghost use Rattle.wk_reports.specs.Titled.{IsPageTitled};
 

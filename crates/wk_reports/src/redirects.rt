@@ -1,7 +1,7 @@
 //! Redirects to redirects.
 ghost use Rattle.std.specs.Prelude.{◌≡◌, ◌++◌, IfOk, OnOk, filter_map, map};
 ghost use Rattle.std.specs.Option.{option_copied, option_map, option_to_list};
-ghost use Rattle.wk_state_laws.specs.Kept.{IsKept};
+ghost use Rattle.wk_wiki_laws.specs.Kept.{IsKept};
 ghost use Rattle.wk_report_rules.specs.Pages.{stored_pages};
 ghost use Rattle.wk_report_rules.specs.Reports.{double_redirect, redirect_of};
 ghost use Rattle.wk_report_lines.specs.Lines.{line_of};

@@ -1,7 +1,7 @@
 //! A report of a wiki.
 ghost use Rattle.std.specs.Prelude.{◌≡◌, IfOk, map};
-ghost use Rattle.wk_state_rules.specs.States.{world_of};
-ghost use Rattle.wk_state_laws.specs.Kept.{IsKept};
+ghost use Rattle.wk_wiki_rules.specs.States.{world_of};
+ghost use Rattle.wk_wiki_laws.specs.Kept.{IsKept};
 ghost use Rattle.wk_report_rules.specs.Pages.{stored_pages};
 ghost use Rattle.wk_report_rules.specs.Reports.{report_lines, reported};
 ghost use Rattle.wk_report_lines.specs.Lines.{line_of};

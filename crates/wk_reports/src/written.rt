@@ -1,7 +1,7 @@
 //! A report that is written to an output, and how the command ends with it.
 ghost use Rattle.std.specs.Prelude.{◌≡◌, ◌≢◌, ◌≤◌, IfOk, string_bytes};
 ghost use Rattle.wk_base.specs.Faults.{Rose};
-ghost use Rattle.wk_state_rules.specs.States.{world_of};
+ghost use Rattle.wk_wiki_rules.specs.States.{world_of};
 ghost use Rattle.wk_report_rules.specs.Pages.{stored_pages};
 ghost use Rattle.wk_report_rules.specs.Reports.{report_lines};
 ghost use Rattle.wk_report_rules.specs.Texts.{report_text};

@@ -14,7 +14,7 @@ use wk_memory::Memory;
 use wk_request_rules::Module;
 
 /// Which entries of a list are asked for.
-#[derive(Debug, Drop)]
+#[derive(Drop)]
 pub struct Listing {
     /// The title whose entries are listed, as it was written; empty for the changes of all pages.
     pub title: String,

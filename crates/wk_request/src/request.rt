@@ -21,7 +21,7 @@ use wk_request_rules::Module;
 use wk_revs::Edit;
 
 /// What a request asks. Titles are as they were written.
-#[derive(Debug, Drop)]
+#[derive(Drop)]
 pub enum Ask {
     /// A save of a page.
     Edit(Edit),
@@ -61,7 +61,7 @@ pub enum Ask {
 }
 
 /// A request of the API.
-#[derive(Debug, Drop)]
+#[derive(Drop)]
 pub struct Request {
     /// The answer is given at this point of the journal or later; 0 where no least point is given.
     pub least: u64,

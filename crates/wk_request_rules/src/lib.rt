@@ -3,7 +3,7 @@
 #![tactic(auto)]
 
 /// What a request calls (the modules of MediaWiki's API; which of them there are is own).
-#[derive(Clone, Copy, Debug, PartialEq, Eq)]
+#[derive(Clone, Copy, PartialEq, Eq)]
 pub enum Module {
     /// `action=edit`: a page is saved.
     Edit,

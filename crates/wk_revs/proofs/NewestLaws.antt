@@ -7,7 +7,7 @@ use Rattle.std.proofs.lemmas.List.{get_or-map, length-map}
 use Rattle.std.specs.Cmp.Derive.{both_true}
 use borrow.Author.Tests.{eqb-true, ltb-true}
 use Rattle.wk_page_rules.specs.History.{History, Revision}
-use Rattle.wk_listing_rules.specs.Revisions.{is_below, is_of_page, newest_below}
+use Rattle.wk_wiki_rules.specs.Revisions.{is_below, is_of_page, newest_below}
 use Rattle.wk_revs.specs.Chains.{last_up_to, newest_up_to, number_or_none}
 use Rattle.wk_revs.proofs.ChainLaws.{differs-eqb, up_to-le, up_to-most, up_to-own}
 

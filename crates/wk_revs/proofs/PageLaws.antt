@@ -15,7 +15,7 @@ use borrow.Author.Tests.{ltb-false, ltb-true}
 use Rattle.indexmap.specs.IndexMap.{insert_entry}
 use Rattle.wk_text_rules.specs.Titles.{PageTitle, title_eq}
 use Rattle.wk_page_rules.specs.History.{History, Page, current_revision, page_number, page_to_save, with_current}
-use Rattle.wk_listing_rules.specs.Revisions.{count_existing}
+use Rattle.wk_wiki_rules.specs.Revisions.{count_existing}
 use Rattle.wk_revs.specs.Revs.{existence, existing_in, of_pages, page_of_entry, pages_of}
 
 bytes_eq_comm : (xs ys : List ℕ) → bytes_eq xs ys ≡ bytes_eq ys xs

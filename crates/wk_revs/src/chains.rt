@@ -7,7 +7,7 @@ use std::marker::Model;
 use wk_memory::Memory;
 
 /// Where the chain of a revision's page goes on.
-#[derive(Clone, Copy, Debug)]
+#[derive(Clone, Copy)]
 struct Link {
     /// The revision before it of its page, 0 where there is none.
     before: u64,
@@ -120,7 +120,7 @@ fn newest_up_to(pages: &[u32], links: &[Link], newest: &[u64], page: u32, number
 }
 
 /// The revisions of each page. Contracts see the page of each revision in turn, and how many pages there are.
-#[derive(Debug, Drop)]
+#[derive(Drop)]
 pub struct Chains {
     pages: Vec<u32>,
     links: Vec<Link>,

@@ -4,7 +4,7 @@ ghost use Rattle.wk_page_rules.specs.Verdict.{full_limits};
 ghost use Rattle.wk_revs.specs.Edit.{most_held};
 
 /// An edit of a page, as it is asked for.
-#[derive(Debug, Drop)]
+#[derive(Drop)]
 pub struct Edit {
     /// A text that names the page, in main where it gives no namespace.
     pub title: String,
@@ -19,7 +19,7 @@ pub struct Edit {
 }
 
 /// How much a wiki holds at most (own).
-#[derive(Clone, Copy, Debug, PartialEq, Eq)]
+#[derive(Clone, Copy, PartialEq, Eq)]
 pub struct Limits {
     /// The number of pages, those that are missing now among them.
     pub pages: u64,

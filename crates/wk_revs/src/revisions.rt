@@ -8,7 +8,7 @@ use std::marker::Model;
 use wk_bytes::Text;
 
 /// One saved text. Its number is one more than its place in the list.
-#[derive(Debug, Drop)]
+#[derive(Drop)]
 pub struct Revision {
     /// The number of its page.
     page: u32,

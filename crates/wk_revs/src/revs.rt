@@ -5,8 +5,8 @@ ghost use Rattle.std.specs.Option.{option_copied};
 ghost use Rattle.wk_text_rules.specs.Titles.{is_page_title};
 ghost use Rattle.wk_page_rules.specs.History.{can_save, no_history, current_revision, current_text, next_revision, page_number, page_to_save, saved};
 ghost use Rattle.wk_page_rules.specs.Verdict.{body_bytes, judged, judged_at, limit_passed, max_pages, max_text};
-ghost use Rattle.wk_listing_rules.specs.Revisions.{count_existing, newest_below};
-ghost use Rattle.wk_state_rules.specs.States.{page_at};
+ghost use Rattle.wk_wiki_rules.specs.Revisions.{count_existing, newest_below};
+ghost use Rattle.wk_wiki_rules.specs.States.{page_at};
 ghost use Rattle.wk_wiki_rules.specs.Entries.{revision_at};
 ghost use Rattle.wk_revs.specs.Edit.{edit_asked, most_held};
 ghost use Rattle.wk_revs.specs.Revs.{existing_in, of_pages, pages_of};
@@ -23,17 +23,15 @@ use indexmap::IndexMap;
 use std::alloc::Global;
 use std::marker::Model;
 use wk_bytes::Text;
+use wk_good_rows::MAX_TEXT;
 use wk_memory::Memory;
 use wk_page_rules::Limit;
 use wk_title::Title;
 
-/// The bytes that a page's text has at most.
-const MAX_TEXT: usize = 2_097_152;
-
 /// The revisions and pages of a wiki. Contracts see the history of its saves, and for how many revisions more there
 /// is room. But for `make_room`, no call takes a time that grows with the pages or the revisions, other than with the
 /// logarithm of the number of one page's revisions. `judge` goes over the edit and the page's text besides.
-#[derive(Debug, Drop)]
+#[derive(Drop)]
 pub struct Revs {
     revisions: Vec<Revision>,
     pages: Pages,

@@ -49,7 +49,7 @@ pub enum SaveRefusal {
 }
 
 /// What becomes of an edit, before anything is saved.
-#[derive(Debug, Drop)]
+#[derive(Drop)]
 pub enum Verdict {
     /// It is refused.
     Refuse(SaveRefusal),

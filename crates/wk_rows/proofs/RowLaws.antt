@@ -10,7 +10,7 @@ use Rattle.wk_links.specs.declared.found.What.TheVariants.{Page, Member, Nothing
 use Rattle.wk_text_rules.specs.Marked.{MarkedByte}
 use Rattle.wk_text_rules.specs.Occurrences.{Link, page, member, nothing, occurrences}
 use Rattle.wk_text_rules.specs.Titles.{PageTitle, with_spaces}
-use Rattle.wk_row_rules.specs.PageRows as page_rows
+use Rattle.wk_page_rules.specs.PageRows as page_rows
 use Rattle.wk_view_rules.specs.Rows as rule
 use Rattle.wk_view_rules.specs.Views.{Expanded, turned}
 use Rattle.wk_view_rules.specs.Worlds.{Agrees, Read, World, of_world}

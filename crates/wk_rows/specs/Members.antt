@@ -5,7 +5,7 @@ use Rattle.wk_links.specs.declared.found.What.{What}
 use Rattle.wk_links.specs.declared.found.What.TheVariants.{Page, Member, Nothing}
 use Rattle.wk_text_rules.specs.Occurrences.{most_label}
 use Rattle.wk_text_rules.specs.Titles.{PageTitle}
-use Rattle.wk_row_rules.specs.PageRows as page_rows
+use Rattle.wk_page_rules.specs.PageRows as page_rows
 use Rattle.wk_view_rules.specs.Rows as rule
 
 -- a category, and the sort key and the prefix that are kept by it

@@ -4,7 +4,7 @@ use Rattle.wk_expand.specs.declared.answer.Read.{Read}
 use Rattle.wk_text_rules.specs.Marked.{MarkedByte}
 use Rattle.wk_text_rules.specs.Occurrences.{occurrences}
 use Rattle.wk_text_rules.specs.Titles.{PageTitle}
-use Rattle.wk_row_rules.specs.PageRows.{Member, PageRows}
+use Rattle.wk_page_rules.specs.PageRows.{Member, PageRows}
 use Rattle.wk_view_rules.specs.Rows.{in_title_order, membership, page_linked, titles_in_order}
 use Rattle.wk_view_rules.specs.declared.Kind.TheVariants.{Include, Exists}
 use Rattle.wk_rows.specs.Titles.{titles_asked}

@@ -2,7 +2,7 @@
 
 use std::sync::atomic::{AtomicU64, Ordering};
 use std::thread::yield_now;
-use wk_gate::Gate;
+use wk_base::Gate;
 
 /// How often a wait looks at most.
 const MOST_TURNS: u64 = 1_000_000_000;

@@ -6,7 +6,7 @@ use Rattle.serde_json.specs.declared.value.Value.{Value}
 use Rattle.wk_memory.specs.declared.Memory.{Memory}
 use Rattle.wk_base.specs.Faults.{Rose}
 use Rattle.wk_table_rules.specs.Rows.{StoreTables}
-use Rattle.wk_state_rules.specs.Events.{Event, Save, Done, Back}
+use Rattle.wk_wiki_rules.specs.Events.{Event, Save, Done, Back}
 use Rattle.wk_life_laws.specs.Runs.{IsRun}
 use Rattle.wk_core.specs.Seen.{WikiSeen}
 use Rattle.wk_core.specs.Steps.{GoesOn, HasMadeAtMost, HasMadeNothing}

@@ -12,8 +12,7 @@ use wk_expand::Trees;
 use wk_keeper::Keeper;
 use wk_memory::Memory;
 use wk_script_lines::{ScriptLine, bad_line, line_too_long};
-use wk_script_steps::{claim, fan, finish, give_back, read};
-use wk_script_tickets::OpenTicket;
+use wk_script_steps::{OpenTicket, claim, fan, finish, give_back, read};
 
 /// Answers a line that has a reply and is no restart.
 pub fn answer<K: Keeper, C: Clock>(

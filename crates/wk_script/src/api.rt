@@ -23,7 +23,7 @@ use wk_keeper::Keeper;
 use wk_memory::Memory;
 use wk_request::{Ask, Request, RequestRefusal};
 use wk_script_lines::no_memory;
-use wk_script_tickets::OpenTicket;
+use wk_script_steps::OpenTicket;
 
 /// What a query asks. It counts as posted.
 fn request_in(alloc: Global, query: &[u8]) -> Result<Request, RequestRefusal>

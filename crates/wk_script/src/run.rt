@@ -17,8 +17,7 @@ use wk_keeper::Keeper;
 use wk_lines::Stop;
 use wk_memory::Memory;
 use wk_script_lines::{ScriptLine, script_line};
-use wk_script_steps::{reopen, told_restart};
-use wk_script_tickets::OpenTicket;
+use wk_script_steps::{OpenTicket, reopen, told_restart};
 
 /// A script's wiki, the tickets that are out, the parsed texts that are kept, and the points of the replies so far. It
 /// can't be let go, since the tickets must come in.

@@ -3,7 +3,7 @@ use Rattle.std.proofs.Common.{◌≡◌, ℕ, ◌+◌, ◌-◌, ◌<◌, Bool, t
 use Rattle.std.specs.List.{AllByRecursion}
 use Rattle.std.specs.Prelude.{filter, find, slice_get, is_some, IsSome}
 use Rattle.std.proofs.lemmas.Bool.{cond_both}
-use Rattle.wk_job_laws.specs.InOrder.{Rises}
+use Rattle.wk_table_laws.specs.InOrder.{Rises}
 use Rattle.wk_view_rules.specs.Worlds.{Read}
 use Rattle.wk_script_rules.specs.WikiScripts.{TicketDraft, read_further}
 

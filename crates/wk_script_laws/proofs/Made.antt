@@ -10,16 +10,16 @@ use Rattle.wk_page_rules.specs.Verdict.{MostHeld}
 use Rattle.wk_view_rules.specs.Plans.{Outcome, done, need}
 use Rattle.wk_view_rules.specs.Views.{Expanded}
 use Rattle.wk_view_rules.specs.declared.Kind.{Kind}
-use Rattle.wk_job_rules.specs.Jobs.{FanEntry, first_fan, first_queued, page_held_by, claimed_by, given_back}
-use Rattle.wk_job_rules.specs.Steps.{after_serving, fan_pages}
-use Rattle.wk_job_laws.specs.InOrder.{Rises}
-use Rattle.wk_job_laws.proofs.Order.{by_number-rising}
-use Rattle.wk_state_rules.specs.States.{State, title_at, world_of}
-use Rattle.wk_state_rules.specs.Events.{Event, Save, Claim, Done, Back, Fan, step, with_refreshed, with_jobs}
-use Rattle.wk_state_rules.specs.Lives.{replay_by, reopened}
-use Rattle.wk_state_laws.specs.Kept.{IsKept}
-use Rattle.wk_state_laws.specs.Reached.{IsWithinFull}
-use Rattle.wk_state_laws.proofs.Kept.{IsKept-reopened}
+use Rattle.wk_wiki_rules.specs.Jobs.{FanEntry, first_fan, first_queued, page_held_by, claimed_by, given_back}
+use Rattle.wk_wiki_rules.specs.Steps.{after_serving, fan_pages}
+use Rattle.wk_table_laws.specs.InOrder.{Rises}
+use Rattle.wk_table_laws.proofs.Order.{by_number-rising}
+use Rattle.wk_wiki_rules.specs.States.{State, title_at, world_of}
+use Rattle.wk_wiki_rules.specs.Events.{Event, Save, Claim, Done, Back, Fan, step, with_refreshed, with_jobs}
+use Rattle.wk_wiki_rules.specs.Lives.{replay_by, reopened}
+use Rattle.wk_wiki_laws.specs.Kept.{IsKept}
+use Rattle.wk_wiki_laws.specs.Reached.{IsWithinFull}
+use Rattle.wk_wiki_laws.proofs.KeptStates.{IsKept-reopened}
 use Rattle.wk_wiki_rules.specs.Calls.{CallsMake, IsMade, no_call, one_more, by_claim, by_finish, by_give_back, by_fan}
 use Rattle.wk_wiki_rules.specs.Claims.{ClaimOutcome}
 use Rattle.wk_wiki_rules.specs.Fans.{fan_outcome}

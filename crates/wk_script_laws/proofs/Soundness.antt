@@ -3,16 +3,16 @@ use Rattle.std.proofs.Common.{◌≡◌, ℕ, Bool, true, false, cond, List, [],
 use Rattle.wk_page_rules.specs.Verdict.{MostHeld}
 use Rattle.wk_view_rules.specs.Plans.{Outcome, done, need}
 use Rattle.wk_view_rules.specs.Views.{Expanded}
-use Rattle.wk_job_rules.specs.Steps.{by_number, fan_pages}
-use Rattle.wk_state_rules.specs.States.{State, world_of}
-use Rattle.wk_state_rules.specs.Events.{Event, Save, Claim, Done, Back, Fan, step}
-use Rattle.wk_state_rules.specs.Soundness.{IsSound}
-use Rattle.wk_state_laws.specs.WellFormed.{IsWellFormed}
-use Rattle.wk_state_laws.proofs.Sound.{IsSound-claimed, IsSound-given_back, IsSound-reopened}
-use Rattle.wk_state_laws.proofs.Refreshed.{IsSound-done}
-use Rattle.wk_state_laws.proofs.Fanned.{IsSound-fanned}
-use Rattle.wk_state_laws.proofs.Saved.{IsSound-saved}
-use Rattle.wk_state_laws.proofs.Formed.{IsWellFormed-step, IsWellFormed-reopened}
+use Rattle.wk_wiki_rules.specs.Steps.{by_number, fan_pages}
+use Rattle.wk_wiki_rules.specs.States.{State, world_of}
+use Rattle.wk_wiki_rules.specs.Events.{Event, Save, Claim, Done, Back, Fan, step}
+use Rattle.wk_wiki_rules.specs.Soundness.{IsSound}
+use Rattle.wk_wiki_laws.specs.WellFormed.{IsWellFormed}
+use Rattle.wk_wiki_laws.proofs.Sound.{IsSound-claimed, IsSound-given_back, IsSound-reopened}
+use Rattle.wk_wiki_laws.proofs.Refreshed.{IsSound-done}
+use Rattle.wk_wiki_laws.proofs.Fanned.{IsSound-fanned}
+use Rattle.wk_wiki_laws.proofs.Saved.{IsSound-saved}
+use Rattle.wk_wiki_laws.proofs.Formed.{IsWellFormed-step, IsWellFormed-reopened}
 use Rattle.wk_wiki_rules.specs.Claims.{ClaimOutcome, claim_outcome}
 use Rattle.wk_wiki_rules.specs.Fans.{FanOutcome, next_fan_outcome}
 use Rattle.wk_wiki_rules.specs.Room.{is_claim_refused, is_fan_refused}

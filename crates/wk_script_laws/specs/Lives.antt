@@ -2,10 +2,10 @@
 use Rattle.std.specs.Prelude.{◌≡◌, map, IsSome}
 use Rattle.std.specs.List.{AllByRecursion}
 use Rattle.wk_page_rules.specs.Verdict.{MostHeld}
-use Rattle.wk_job_rules.specs.Jobs.{page_held_by}
-use Rattle.wk_job_rules.specs.Steps.{fan_pages}
-use Rattle.wk_job_laws.specs.InOrder.{Rises}
-use Rattle.wk_state_laws.specs.Kept.{IsKept}
+use Rattle.wk_wiki_rules.specs.Jobs.{page_held_by}
+use Rattle.wk_wiki_rules.specs.Steps.{fan_pages}
+use Rattle.wk_table_laws.specs.InOrder.{Rises}
+use Rattle.wk_wiki_laws.specs.Kept.{IsKept}
 use Rattle.wk_wiki_rules.specs.Calls.{CallsMake}
 use Rattle.wk_wiki_rules.specs.Room.{tickets_out}
 use Rattle.wk_script_rules.specs.WikiScripts.{WikiScript}

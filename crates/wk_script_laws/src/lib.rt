@@ -4,11 +4,11 @@
 ghost use Rattle.std.specs.Prelude.{◌≡◌, ℕ, List, ◌++◌, Option};
 ghost use Rattle.std.specs.List.{AllByRecursion};
 ghost use Rattle.wk_page_rules.specs.Verdict.{MostHeld};
-ghost use Rattle.wk_state_rules.specs.Soundness.{IsSound};
-ghost use Rattle.wk_state_rules.specs.States.{State};
-ghost use Rattle.wk_state_laws.specs.Kept.{IsKept};
-ghost use Rattle.wk_state_laws.specs.Reached.{IsWithinFull};
-ghost use Rattle.wk_state_laws.specs.WellFormed.{IsWellFormed};
+ghost use Rattle.wk_wiki_rules.specs.Soundness.{IsSound};
+ghost use Rattle.wk_wiki_rules.specs.States.{State};
+ghost use Rattle.wk_wiki_laws.specs.Kept.{IsKept};
+ghost use Rattle.wk_wiki_laws.specs.Reached.{IsWithinFull};
+ghost use Rattle.wk_wiki_laws.specs.WellFormed.{IsWellFormed};
 ghost use Rattle.wk_wiki_rules.specs.Room.{tickets_out};
 ghost use Rattle.wk_answer_rules.specs.Values.{ApiReply};
 ghost use Rattle.wk_script_rules.specs.WikiScripts.{WikiScript, all_given_back, script_from};

@@ -10,7 +10,7 @@ ghost use Rattle.wk_script_lines.specs.Lines.{line_meant};
 use wk_bytes::{Line, decimal};
 
 /// What a line of a script asks for.
-#[derive(Clone, Copy, Debug)]
+#[derive(Clone, Copy)]
 pub enum ScriptLine<'a> {
     /// Nothing: the line has no bytes, and no reply.
     Empty,

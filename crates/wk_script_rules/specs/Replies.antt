@@ -5,8 +5,8 @@ use Rattle.wk_text_rules.specs.Titles.{PageTitle, shown}
 use Rattle.wk_view_rules.specs.Worlds.{Read, mark}
 use Rattle.wk_view_rules.specs.declared.Kind.{Kind}
 use Rattle.wk_view_rules.specs.declared.Kind.TheVariants.{View, Include, Exists}
-use Rattle.wk_state_rules.specs.States.{State}
-use Rattle.wk_listing_rules.specs.Revisions.{count_existing}
+use Rattle.wk_wiki_rules.specs.States.{State}
+use Rattle.wk_wiki_rules.specs.Revisions.{count_existing}
 use Rattle.wk_wiki_rules.specs.Claims.{ClaimOutcome}
 use Rattle.wk_wiki_rules.specs.Fans.{FanOutcome}
 use Rattle.wk_wiki_rules.specs.Staleness.{StaleRead}

@@ -8,9 +8,9 @@ use Rattle.wk_page_rules.specs.Verdict.{MostHeld}
 use Rattle.wk_view_rules.specs.Plans.{done}
 use Rattle.wk_view_rules.specs.Views.{Expanded}
 use Rattle.wk_view_rules.specs.Worlds.{Read}
-use Rattle.wk_job_rules.specs.Jobs.{FanEntry, first_fan}
-use Rattle.wk_state_rules.specs.States.{world_of}
-use Rattle.wk_state_rules.specs.Events.{Event}
+use Rattle.wk_wiki_rules.specs.Jobs.{FanEntry, first_fan}
+use Rattle.wk_wiki_rules.specs.States.{world_of}
+use Rattle.wk_wiki_rules.specs.Events.{Event}
 use Rattle.wk_wiki_rules.specs.Room.{is_fan_refused}
 use Rattle.wk_wiki_rules.specs.Staleness.{first_stale}
 use Rattle.wk_request_rules.specs.Requests.{ParsedRequest}

@@ -5,9 +5,9 @@ use Rattle.wk_text_rules.specs.Titles.{PageTitle}
 use Rattle.wk_view_rules.specs.Plans.{done, need}
 use Rattle.wk_view_rules.specs.Worlds.{Read, answer_in}
 use Rattle.wk_view_rules.specs.declared.Kind.{Kind}
-use Rattle.wk_job_rules.specs.Steps.{fan_pages}
-use Rattle.wk_state_rules.specs.States.{State, world_of}
-use Rattle.wk_state_rules.specs.Events.{Event, Claim, Done, Fan}
+use Rattle.wk_wiki_rules.specs.Steps.{fan_pages}
+use Rattle.wk_wiki_rules.specs.States.{State, world_of}
+use Rattle.wk_wiki_rules.specs.Events.{Event, Claim, Done, Fan}
 use Rattle.wk_wiki_rules.specs.Claims.{ClaimOutcome, claim_outcome}
 use Rattle.wk_wiki_rules.specs.Fans.{next_fan_outcome}
 use Rattle.wk_wiki_rules.specs.Room.{is_claim_refused, is_fan_refused}

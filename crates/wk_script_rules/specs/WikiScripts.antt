@@ -4,10 +4,10 @@ use Rattle.wk_text_rules.specs.Titles.{PageTitle}
 use Rattle.wk_view_rules.specs.Plans.{Outcome}
 use Rattle.wk_view_rules.specs.Views.{Expanded, view}
 use Rattle.wk_view_rules.specs.Worlds.{Read, Seen, of_seen}
-use Rattle.wk_job_rules.specs.Steps.{by_number}
-use Rattle.wk_state_rules.specs.States.{State}
-use Rattle.wk_state_rules.specs.Events.{Event, Back, step}
-use Rattle.wk_state_rules.specs.Lives.{reopened}
+use Rattle.wk_wiki_rules.specs.Steps.{by_number}
+use Rattle.wk_wiki_rules.specs.States.{State}
+use Rattle.wk_wiki_rules.specs.Events.{Event, Back, step}
+use Rattle.wk_wiki_rules.specs.Lives.{reopened}
 
 -- a ticket that is out, the title of its page, and what was read for it so far
 pub record TicketDraft : Type 0 where

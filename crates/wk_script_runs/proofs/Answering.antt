@@ -13,9 +13,9 @@ use Rattle.wk_answer_rules.specs.ApiErrors.{api_error, nomemory}
 use Rattle.wk_script_rules.specs.ScriptLines.{ScriptLine, api_line, takes_moment}
 use Rattle.wk_script_rules.specs.WikiScripts.{TicketDraft, WikiScript, point_of}
 use Rattle.wk_script_rules.specs.Runs.{LineRun, WikiScriptRun, over, timed, unread, untimed}
-use Rattle.wk_line_laws.proofs.Calm.{memory-is-no-fault}
-use Rattle.wk_line_laws.proofs.Floats.{error-plain}
-use Rattle.wk_line_laws.proofs.Lines.{line-fine}
+use Rattle.wk_answer_laws.proofs.Calm.{memory-is-no-fault}
+use Rattle.wk_answer_laws.proofs.Floats.{error-plain}
+use Rattle.wk_answer_laws.proofs.Lines.{line-fine}
 use Rattle.wk_script_steps.specs.Seen.{Holds, script_of}
 use Rattle.wk_script_runs.specs.Lines.{AnswersLine}
 use Rattle.wk_script_steps.specs.Told.{Answers}

@@ -5,7 +5,7 @@ use Rattle.std.specs.Prelude.{Option, Ok, Err, is_some}
 use Rattle.wk_text_rules.specs.Lines.{lines}
 use Rattle.wk_table_rules.specs.Rows.{StoreTables}
 use Rattle.wk_core.specs.Seen.{IsTold, WikiSeen}
-use Rattle.wk_state_rules.specs.States.{State}
+use Rattle.wk_wiki_rules.specs.States.{State}
 use Rattle.wk_core.specs.declared.outcomes.LoadCause.{LoadCause}
 use Rattle.wk_core.specs.declared.outcomes.LoadCause.TheVariants as cause
 use Rattle.wk_answer_rules.specs.Values.{ApiReply}

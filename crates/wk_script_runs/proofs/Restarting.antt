@@ -3,12 +3,12 @@ use Rattle.std.proofs.Common.{◌≡◌, ℕ, Bool, true, false, List, [], ◌�
 use Rattle.std.specs.Prelude.{is_some}
 use Rattle.serde_json.specs.Written.{has_float}
 use Rattle.wk_table_rules.specs.Rows.{StoreTables}
-use Rattle.wk_state_rules.specs.States.{State}
+use Rattle.wk_wiki_rules.specs.States.{State}
 use Rattle.wk_core.specs.Seen.{WikiSeen}
 use Rattle.wk_answer_rules.specs.ApiErrors.{api_error, storefault}
 use Rattle.wk_answer_rules.specs.Values.{ApiReply, reply_beside}
-use Rattle.wk_line_laws.specs.Failures.{is_failure}
-use Rattle.wk_line_laws.proofs.Floats.{reply-plain}
+use Rattle.wk_answer_laws.specs.Failures.{is_failure}
+use Rattle.wk_answer_laws.proofs.Floats.{reply-plain}
 use Rattle.wk_script_rules.specs.Replies.{restart_entries}
 use Rattle.wk_script_rules.specs.ScriptLines.{ScriptLine, restart_line, script_line, takes_moment}
 use Rattle.wk_script_rules.specs.WikiScripts.{TicketDraft, WikiScript, point_of, restarted}

@@ -1,7 +1,7 @@
 -- Runs over the lives of a wiki: where its keeper doesn't tell its tables, a restart may begin with any state (own).
 use Rattle.std.specs.Prelude.{◌≡◌, ℕ, Bool, false, List, [], ◌∷◌, ◌++◌, Option}
 use Rattle.wk_page_rules.specs.Verdict.{MostHeld}
-use Rattle.wk_state_rules.specs.States.{State}
+use Rattle.wk_wiki_rules.specs.States.{State}
 use Rattle.wk_answer_rules.specs.Values.{ApiReply, reply_beside}
 use Rattle.wk_script_rules.specs.Replies.{restart_entries}
 use Rattle.wk_script_rules.specs.ScriptLines.{restart_line, script_line}

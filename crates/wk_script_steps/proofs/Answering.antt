@@ -11,7 +11,7 @@ use Rattle.wk_script_rules.specs.ScriptLines.{ScriptLine}
 use Rattle.wk_script_rules.specs.WikiScripts.{TicketDraft, WikiScript, point_of}
 use Rattle.wk_script_rules.specs.Steps.{line_step}
 use Rattle.wk_script_rules.specs.Runs.{LineRun, as_answered}
-use Rattle.wk_line_laws.proofs.Calm.{memory-is-no-fault, step-no-failure}
+use Rattle.wk_answer_laws.proofs.Calm.{memory-is-no-fault, step-no-failure}
 use Rattle.wk_script_steps.specs.Seen.{Holds, script_of}
 use Rattle.wk_script_steps.specs.Told.{Tells}
 use Rattle.wk_script_steps.proofs.LineRuns.{Comes}

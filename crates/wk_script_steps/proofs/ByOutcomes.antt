@@ -8,10 +8,10 @@ use Rattle.wk_table_rules.specs.Rows.{StoreTables}
 use Rattle.wk_view_rules.specs.Plans.{done}
 use Rattle.wk_view_rules.specs.Views.{Expanded}
 use Rattle.wk_view_rules.specs.Worlds.{Read}
-use Rattle.wk_job_rules.specs.Jobs.{first_fan}
-use Rattle.wk_job_rules.specs.Steps.{fan_pages}
-use Rattle.wk_state_rules.specs.States.{world_of}
-use Rattle.wk_state_rules.specs.Events.{Fan}
+use Rattle.wk_wiki_rules.specs.Jobs.{first_fan}
+use Rattle.wk_wiki_rules.specs.Steps.{fan_pages}
+use Rattle.wk_wiki_rules.specs.States.{world_of}
+use Rattle.wk_wiki_rules.specs.Events.{Fan}
 use Rattle.wk_wiki_rules.specs.Fans.{next_fan_outcome}
 use Rattle.wk_wiki_rules.specs.Room.{is_fan_refused}
 use Rattle.wk_wiki_rules.specs.Staleness.{first_stale}
@@ -29,7 +29,7 @@ use Rattle.wk_answer_rules.specs.Values.{ApiReply, reply_beside}
 use Rattle.wk_script_rules.specs.Replies.{nothing_entries}
 use Rattle.wk_script_rules.specs.ScriptLines.{fan_line, finish_line}
 use Rattle.wk_script_rules.specs.WikiScripts.{TicketDraft, drafted}
-use Rattle.wk_script_tickets.specs.Drafts.{has_number, others}
+use Rattle.wk_script_steps.specs.Drafts.{has_number, others}
 use Rattle.wk_script_steps.specs.Outcomes.{fan_reply, finish_reply}
 use Rattle.wk_script_steps.specs.Seen.{Holds, script_of}
 use Rattle.wk_script_steps.specs.Told.{Answers}

@@ -10,10 +10,10 @@ use Rattle.wk_text_rules.specs.Titles.{PageTitle}
 use Rattle.wk_view_rules.specs.Plans.{done}
 use Rattle.wk_view_rules.specs.Views.{Expanded}
 use Rattle.wk_view_rules.specs.Worlds.{Read}
-use Rattle.wk_job_rules.specs.Jobs.{FanEntry, first_fan, first_queued}
-use Rattle.wk_job_rules.specs.Steps.{fan_pages}
-use Rattle.wk_state_rules.specs.States.{title_at, world_of}
-use Rattle.wk_state_rules.specs.Events.{Claim, Done, Back, Fan}
+use Rattle.wk_wiki_rules.specs.Jobs.{FanEntry, first_fan, first_queued}
+use Rattle.wk_wiki_rules.specs.Steps.{fan_pages}
+use Rattle.wk_wiki_rules.specs.States.{title_at, world_of}
+use Rattle.wk_wiki_rules.specs.Events.{Claim, Done, Back, Fan}
 use Rattle.wk_wiki_rules.specs.Claims.{ClaimOutcome, claim_outcome}
 use Rattle.wk_wiki_rules.specs.Fans.{FanOutcome, next_fan_outcome}
 use Rattle.wk_wiki_rules.specs.Room.{is_claim_refused, is_fan_refused}
@@ -28,7 +28,7 @@ use Rattle.wk_script_rules.specs.ScriptLines.{ScriptLine, claim_line, finish_lin
 use Rattle.wk_script_rules.specs.WikiScripts.{TicketDraft, WikiScript, point_of, after_event, drafted, given_back_by}
 use Rattle.wk_script_rules.specs.Replies.{claim_entries, done_entries, stale_entries, giveback_entries, fan_entries}
 use Rattle.wk_script_rules.specs.Runs.{LineRun, finish_out_of_memory, finish_failed, fan_out_of_memory, fan_failed}
-use Rattle.wk_script_tickets.specs.Drafts.{begun, has_number, others}
+use Rattle.wk_script_steps.specs.Drafts.{begun, has_number, others}
 use Rattle.wk_script_steps.specs.Seen.{Holds, script_of}
 use Rattle.wk_script_steps.specs.Told.{Answers}
 use Rattle.wk_script_steps.proofs.Answering.{tells-fault, tells-memory, tells-step}

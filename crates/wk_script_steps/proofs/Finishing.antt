@@ -8,7 +8,7 @@ use borrow.Author.Tests.{eqb-true}
 use Rattle.serde_json.specs.declared.value.Value.{Value}
 use Rattle.wk_memory.specs.declared.Memory.{Memory}
 use Rattle.wk_table_rules.specs.Rows.{StoreTables}
-use Rattle.wk_state_rules.specs.Events.{Back}
+use Rattle.wk_wiki_rules.specs.Events.{Back}
 use Rattle.wk_life_laws.specs.Runs.{IsRun}
 use Rattle.wk_core.specs.Seen.{WikiSeen}
 use Rattle.wk_core.specs.Steps.{HasMade}
@@ -16,8 +16,8 @@ use Rattle.wk_answer_rules.specs.Values.{reply_beside}
 use Rattle.wk_script_rules.specs.Replies.{giveback_entries}
 use Rattle.wk_script_rules.specs.ScriptLines.{finish_line, giveback_line}
 use Rattle.wk_script_rules.specs.WikiScripts.{TicketDraft}
-use Rattle.wk_script_tickets.specs.Drafts.{has_number, others}
-use Rattle.wk_script_tickets.proofs.Lists.{taken-out}
+use Rattle.wk_script_steps.specs.Drafts.{has_number, others}
+use Rattle.wk_script_steps.proofs.Lists.{taken-out}
 use Rattle.wk_script_steps.specs.Seen.{Holds}
 use Rattle.wk_script_steps.specs.Told.{Answers}
 use Rattle.wk_script_steps.proofs.Calls.{Shows, giveback-told, goes-same}

@@ -7,12 +7,12 @@ use Rattle.wk_page_rules.specs.History.{text_of_revision}
 use Rattle.wk_text_rules.specs.Titles.{PageTitle}
 use Rattle.wk_view_rules.specs.Worlds.{HasItsText, Read, page_of}
 use Rattle.wk_view_rules.specs.declared.Kind.{Kind}
-use Rattle.wk_job_rules.specs.Steps.{fan_pages}
-use Rattle.wk_job_laws.specs.InOrder.{Rises}
-use Rattle.wk_state_rules.specs.States.{State}
-use Rattle.wk_state_rules.specs.Events.{Event, Done, Back, Claim, step}
-use Rattle.wk_state_laws.proofs.HonestReads.{IsHonest-stepped}
-use Rattle.wk_call_laws.proofs.Marks.{answer-honest}
+use Rattle.wk_wiki_rules.specs.Steps.{fan_pages}
+use Rattle.wk_table_laws.specs.InOrder.{Rises}
+use Rattle.wk_wiki_rules.specs.States.{State}
+use Rattle.wk_wiki_rules.specs.Events.{Event, Done, Back, Claim, step}
+use Rattle.wk_wiki_laws.proofs.HonestReads.{IsHonest-stepped}
+use Rattle.wk_life_laws.proofs.Marks.{answer-honest}
 use Rattle.wk_wiki_rules.specs.Claims.{ClaimOutcome}
 use Rattle.wk_wiki_rules.specs.Starts.{Start}
 use Rattle.wk_life_laws.specs.Runs.{IsRun}
@@ -22,7 +22,7 @@ use Rattle.wk_core.proofs.TicketFacts.{out-stays}
 use Rattle.wk_script_rules.specs.Steps.{present_read}
 use Rattle.wk_script_rules.specs.WikiScripts.{TicketDraft, read_further}
 use Rattle.wk_script_laws.proofs.Drafts.{each-push, each-kept, each-weaker, found, tickets-read, rises-push, rises-kept, other-ticket}
-use Rattle.wk_script_tickets.specs.Drafts.{begun, has_number, longer, others}
+use Rattle.wk_script_steps.specs.Drafts.{begun, has_number, longer, others}
 use Rattle.wk_script_steps.specs.Seen.{Holds, IsFit, claim_of}
 
 -- one that is found is fit, and has the number

@@ -2,7 +2,7 @@
 use Rattle.std.proofs.Common.{◌≡◌, ℕ, ◌+◌, Bool, cond, List, [], ◌∷◌, length, Option, Some, None, refl, arith}
 use Rattle.std.specs.Prelude.{count_by}
 use Rattle.std.proofs.lemmas.List.Sums.{sum_by-cons}
-use Rattle.wk_job_rules.specs.Jobs.{RefreshEntry, is_claimed, is_queued}
+use Rattle.wk_wiki_rules.specs.Jobs.{RefreshEntry, is_claimed, is_queued}
 
 count-more : (p : RefreshEntry → Bool) (job : RefreshEntry) (jobs : List RefreshEntry) → count_by p (job ∷ jobs) ≡ cond (p job) 1 0 + count_by p jobs
 count-more p job jobs = sum_by-cons (λ j. cond (p j) 1 0) job jobs

@@ -9,3 +9,5 @@ pub mod Reading
 pub mod ReadLines
 pub mod Reopening
 pub mod Returning
+pub mod Drafting
+pub mod Lists

@@ -7,10 +7,10 @@ use Rattle.wk_view_rules.specs.Plans.{Outcome, done, need}
 use Rattle.wk_view_rules.specs.Views.{Expanded}
 use Rattle.wk_view_rules.specs.Worlds.{Read}
 use Rattle.wk_view_rules.specs.declared.Kind.{Kind}
-use Rattle.wk_job_rules.specs.Jobs.{FanEntry, first_fan, first_queued}
-use Rattle.wk_job_rules.specs.Steps.{fan_pages}
-use Rattle.wk_state_rules.specs.States.{State, title_at, world_of}
-use Rattle.wk_state_rules.specs.Events.{Event, Fan}
+use Rattle.wk_wiki_rules.specs.Jobs.{FanEntry, first_fan, first_queued}
+use Rattle.wk_wiki_rules.specs.Steps.{fan_pages}
+use Rattle.wk_wiki_rules.specs.States.{State, title_at, world_of}
+use Rattle.wk_wiki_rules.specs.Events.{Event, Fan}
 use Rattle.wk_wiki_rules.specs.Claims.{ClaimOutcome, claim_outcome}
 use Rattle.wk_wiki_rules.specs.Fans.{FanOutcome, fan_outcome, next_fan_outcome}
 use Rattle.wk_wiki_rules.specs.Room.{is_claim_refused, is_fan_refused}

@@ -10,7 +10,7 @@ use Rattle.wk_view_rules.specs.Views.{Expanded}
 use Rattle.wk_view_rules.specs.Worlds.{Answer, Read, World, answer_in, fits_kind, mark}
 use Rattle.wk_view_rules.specs.declared.Kind.{Kind}
 use Rattle.wk_view_rules.specs.declared.Kind.TheVariants.{Exists, Include, View}
-use Rattle.wk_state_rules.specs.States.{State, world_of}
+use Rattle.wk_wiki_rules.specs.States.{State, world_of}
 use Rattle.wk_script_lines.specs.Shown.{read_shown}
 use Rattle.serde_json.specs.View.{view}
 use Rattle.serde_json.specs.declared.value.Value.{Value}
@@ -21,8 +21,8 @@ use Rattle.wk_script_rules.specs.WikiScripts.{TicketDraft, drafted, read_further
 use Rattle.wk_script_rules.specs.Replies.{line_error, noread, read_entries}
 use Rattle.wk_script_rules.specs.Steps.{present_read}
 use Rattle.wk_answer_rules.specs.Values.{reply_beside}
-use Rattle.wk_script_tickets.specs.Drafts.{has_number, longer}
-use Rattle.wk_script_tickets.proofs.Lists.{read-at}
+use Rattle.wk_script_steps.specs.Drafts.{has_number, longer}
+use Rattle.wk_script_steps.proofs.Lists.{read-at}
 use Rattle.wk_script_steps.specs.Reads.{IsRead, ReadsNext, nothing_left, one_more}
 use Rattle.wk_script_steps.specs.Seen.{Holds, script_of}
 use Rattle.wk_script_steps.specs.Told.{Answers}

@@ -10,7 +10,7 @@ use Rattle.wk_view_rules.specs.Plans.{Outcome, done, need, reads_of}
 use Rattle.wk_view_rules.specs.Views.{Expanded, view_plan}
 use Rattle.wk_view_laws.proofs.PlanLemmas.{agrees-itself}
 use Rattle.wk_page_rules.specs.History.{text_of_revision}
-use Rattle.wk_state_rules.specs.States.{State}
+use Rattle.wk_wiki_rules.specs.States.{State}
 use Rattle.wk_expand.specs.Running.{needed}
 use Rattle.wk_script_rules.specs.WikiScripts.{TicketDraft, drafted}
 use Rattle.wk_script_steps.specs.Seen.{IsFit}

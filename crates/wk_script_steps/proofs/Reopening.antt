@@ -6,9 +6,9 @@ use Rattle.wk_page_rules.specs.Verdict.{MostHeld}
 use Rattle.wk_table_rules.specs.Rows.{StoreTables}
 use Rattle.wk_table_rules.specs.GoodStore.{first_broken}
 use Rattle.wk_table_rules.specs.declared.BadStore.{BadStore}
-use Rattle.wk_state_rules.specs.States.{State}
-use Rattle.wk_state_rules.specs.Lives.{opened, reopened}
-use Rattle.wk_state_rules.specs.Tables.{tables_of}
+use Rattle.wk_wiki_rules.specs.States.{State}
+use Rattle.wk_wiki_rules.specs.Lives.{opened, reopened}
+use Rattle.wk_wiki_rules.specs.Tables.{tables_of}
 use Rattle.wk_life_laws.specs.Runs.{IsRun}
 use Rattle.wk_life_laws.proofs.RunFacts.{run_good, run_opened}
 use Rattle.wk_core.specs.Loads.{HasOpened, bad_store_of}

@@ -1,14 +1,14 @@
 -- Tickets that come in one after the other, at the end of a life.
 use Rattle.std.proofs.Common.{◌≡◌, ℕ, ◌∷◌, [], List, map, refl, sym, ap, ◌∙◌, subst}
 use Rattle.std.specs.Prelude.{fold}
-use Rattle.wk_job_laws.specs.InOrder.{Rises}
-use Rattle.wk_job_laws.proofs.Order.{by_number-rising}
-use Rattle.wk_state_rules.specs.Events.{Back}
+use Rattle.wk_table_laws.specs.InOrder.{Rises}
+use Rattle.wk_table_laws.proofs.Order.{by_number-rising}
+use Rattle.wk_wiki_rules.specs.Events.{Back}
 use Rattle.wk_life_laws.specs.Runs.{IsRun}
 use Rattle.wk_core.specs.Seen.{WikiSeen}
 use Rattle.wk_core.specs.Steps.{HasMade}
 use Rattle.wk_script_rules.specs.WikiScripts.{TicketDraft, WikiScript, after_event, all_given_back, given_back_by}
-use Rattle.wk_script_tickets.proofs.Lists.{taken-out, ticket}
+use Rattle.wk_script_steps.proofs.Lists.{taken-out, ticket}
 use Rattle.wk_script_steps.specs.Seen.{Holds, script_of}
 use Rattle.wk_script_steps.proofs.Holding.{back-apart, holds-others}
 use Rattle.wk_script_steps.proofs.LineRuns.{made-is}

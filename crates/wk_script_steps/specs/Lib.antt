@@ -4,3 +4,4 @@ pub mod Reads
 pub mod Reopened
 pub mod Seen
 pub mod Told
+pub mod Drafts

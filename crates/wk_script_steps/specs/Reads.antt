@@ -9,12 +9,12 @@ use Rattle.wk_view_rules.specs.Plans.{done, need}
 use Rattle.wk_view_rules.specs.Views.{Expanded}
 use Rattle.wk_view_rules.specs.Worlds.{Read}
 use Rattle.wk_view_rules.specs.declared.Kind.{Kind}
-use Rattle.wk_state_rules.specs.States.{State}
+use Rattle.wk_wiki_rules.specs.States.{State}
 use Rattle.wk_answer_rules.specs.Values.{reply_beside}
 use Rattle.wk_script_rules.specs.Replies.{line_error, noread, read_entries}
 use Rattle.wk_script_rules.specs.Steps.{present_read}
 use Rattle.wk_script_rules.specs.WikiScripts.{TicketDraft, drafted}
-use Rattle.wk_script_tickets.specs.Drafts.{longer}
+use Rattle.wk_script_steps.specs.Drafts.{longer}
 
 -- the draft needs nothing, or what it needs was read from the present world
 pub data IsRead (state : State) (point : ℕ) (old new : TicketDraft) (value : Data) : Type 0 where

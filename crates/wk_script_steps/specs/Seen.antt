@@ -3,8 +3,8 @@ use Rattle.std.specs.Prelude.{List, map}
 use Rattle.std.specs.List.{AllByRecursion}
 use Rattle.wk_page_rules.specs.History.{text_of_revision}
 use Rattle.wk_view_rules.specs.Worlds.{IsHonest}
-use Rattle.wk_job_laws.specs.InOrder.{Rises}
-use Rattle.wk_state_rules.specs.States.{State}
+use Rattle.wk_table_laws.specs.InOrder.{Rises}
+use Rattle.wk_wiki_rules.specs.States.{State}
 use Rattle.wk_wiki_rules.specs.Claims.{ClaimOutcome}
 use Rattle.wk_core.specs.Seen.{WikiSeen}
 use Rattle.wk_core.specs.Tickets.{IsOut}

@@ -4,12 +4,12 @@ ghost use Rattle.wk_script_rules.specs.ScriptLines.{claim_line};
 ghost use Rattle.wk_script_steps.specs.Seen.{Holds};
 ghost use Rattle.wk_script_steps.specs.Told.{Answers};
 
+use crate::OpenTicket;
 use serde_json::Value;
 use wk_core::{ClaimRefusal, Wiki};
 use wk_keeper::Keeper;
 use wk_memory::Memory;
 use wk_script_lines::{claimed, journal_full, no_claim, no_memory};
-use wk_script_tickets::OpenTicket;
 
 /// Claims the first refresh job that is queued, and keeps its ticket behind the others: the reply's value (the forms of all
 /// replies are own).

@@ -6,13 +6,13 @@ ghost use Rattle.wk_script_steps.specs.Outcomes.{fan_reply};
 ghost use Rattle.wk_script_steps.specs.Seen.{Holds};
 ghost use Rattle.wk_script_steps.specs.Told.{Answers};
 
+use crate::OpenTicket;
 use serde_json::Value;
 use std::alloc::Global;
 use wk_core::{FanRefusal, Fanned, Wiki};
 use wk_keeper::Keeper;
 use wk_memory::Memory;
 use wk_script_lines::{fanned, journal_full, no_fan, no_memory, store_fault};
-use wk_script_tickets::OpenTicket;
 
 /// What is told of a fan.
 fn told_fan(

@@ -6,18 +6,18 @@ ghost use Rattle.wk_answer_rules.specs.Values.{reply_beside};
 ghost use Rattle.wk_script_rules.specs.Replies.{read_entries};
 ghost use Rattle.wk_script_rules.specs.ScriptLines.{read_line};
 ghost use Rattle.wk_script_rules.specs.Steps.{present_read};
-ghost use Rattle.wk_script_tickets.specs.Drafts.{longer};
+ghost use Rattle.wk_script_steps.specs.Drafts.{longer};
 ghost use Rattle.wk_script_steps.specs.Reads.{ReadsNext};
 ghost use Rattle.wk_script_steps.specs.Seen.{Holds};
 ghost use Rattle.wk_script_steps.specs.Told.{Answers};
 
+use crate::{OpenTicket, place};
 use serde_json::Value;
 use wk_core::Wiki;
 use wk_expand::{Kind, Step, Trees, mark};
 use wk_keeper::Keeper;
 use wk_memory::Memory;
 use wk_script_lines::{next_read, no_memory, no_read, no_ticket};
-use wk_script_tickets::{OpenTicket, place};
 use wk_title::Title;
 
 /// Reads this title for the draft, which needs it: the reply. After an `Err` nothing is read.

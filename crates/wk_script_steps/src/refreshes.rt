@@ -4,11 +4,12 @@ ghost use Rattle.serde_json.specs.View.{view};
 ghost use Rattle.wk_view_rules.specs.Plans.{done};
 ghost use Rattle.wk_script_rules.specs.ScriptLines.{finish_line};
 ghost use Rattle.wk_script_rules.specs.WikiScripts.{TicketDraft, drafted};
-ghost use Rattle.wk_script_tickets.specs.Drafts.{has_number, others};
+ghost use Rattle.wk_script_steps.specs.Drafts.{has_number, others};
 ghost use Rattle.wk_script_steps.specs.Outcomes.{finish_reply};
 ghost use Rattle.wk_script_steps.specs.Seen.{Holds, IsFit};
 ghost use Rattle.wk_script_steps.specs.Told.{Answers};
 
+use crate::{OpenTicket, place};
 use serde_json::Value;
 use std::alloc::Global;
 use wk_core::{Finished, Wiki};
@@ -16,7 +17,6 @@ use wk_expand::{Draft, Step, Trees};
 use wk_keeper::Keeper;
 use wk_memory::Memory;
 use wk_script_lines::{done, needs_read, no_memory, no_ticket, stale, store_fault};
-use wk_script_tickets::{OpenTicket, place};
 
 /// What is told of how a refresh came in.
 fn told_finish(alloc: Global, finished: &Finished, point: u64) -> Result<Value, Memory>

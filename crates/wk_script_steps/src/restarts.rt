@@ -1,7 +1,7 @@
 //! The line `restart`.
 ghost use Rattle.std.specs.Prelude.{◌≡◌, ◌+◌, [], None, IfOk, IfErr, length};
 ghost use Rattle.serde_json.specs.View.{view};
-ghost use Rattle.wk_listing_rules.specs.Revisions.{count_existing};
+ghost use Rattle.wk_wiki_rules.specs.Revisions.{count_existing};
 ghost use Rattle.wk_answer_rules.specs.Pages.{count_jobs};
 ghost use Rattle.wk_answer_rules.specs.Values.{reply_beside};
 ghost use Rattle.wk_script_rules.specs.Replies.{restart_entries};
@@ -9,13 +9,13 @@ ghost use Rattle.wk_core.specs.Limits.{AreWithinFull};
 ghost use Rattle.wk_script_steps.specs.Reopened.{IsLost, Reopens};
 ghost use Rattle.wk_script_steps.specs.Seen.{Holds};
 
+use crate::OpenTicket;
 use crate::returns::give_all_back;
 use serde_json::Value;
 use wk_core::{LoadRefusal, Wiki};
 use wk_keeper::Keeper;
 use wk_memory::Memory;
 use wk_script_lines::restarted;
-use wk_script_tickets::OpenTicket;
 
 /// Opens the wiki anew over its store, under the same limits. The tickets that are out are given back before, in the order
 /// of their numbers.

@@ -6,12 +6,12 @@ ghost use Rattle.wk_core.specs.Steps.{GoesOn};
 ghost use Rattle.wk_script_steps.specs.Seen.{Holds, script_of};
 ghost use Rattle.wk_script_steps.specs.Told.{Answers};
 
+use crate::{OpenTicket, place};
 use serde_json::Value;
 use wk_core::Wiki;
 use wk_keeper::Keeper;
 use wk_memory::Memory;
 use wk_script_lines::{given_back, no_ticket};
-use wk_script_tickets::{OpenTicket, place};
 
 /// Gives the ticket of this number back: the reply's value. Its job is queued again, behind all others.
 ///

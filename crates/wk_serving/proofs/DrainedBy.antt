@@ -3,15 +3,15 @@ use Rattle.std.proofs.Common.{◌≡◌, ℕ, ◌≤◌, ◌<◌, Bool, true, Li
 use Rattle.std.specs.Prelude.{◌||◌}
 use Rattle.std.proofs.lemmas.List.Folds.{list_any-append}
 use Rattle.wk_base.specs.Faults.{Rose}
-use Rattle.wk_state_rules.specs.Events.{Event}
-use Rattle.wk_state_rules.specs.Lives.{replay}
+use Rattle.wk_wiki_rules.specs.Events.{Event}
+use Rattle.wk_wiki_rules.specs.Lives.{replay}
 use Rattle.wk_wiki_rules.specs.Entries.{is_save}
 use Rattle.wk_wiki_rules.specs.Starts.{Start}
 use Rattle.wk_life_laws.specs.Runs.{IsRun}
 use Rattle.wk_core.specs.Seen.{WikiSeen, failed_where}
 use Rattle.wk_core.proofs.WikiSteps.{failed-same}
-use Rattle.wk_seal_laws.specs.Sealed.{AddsJobs, IsSealedAt}
-use Rattle.wk_seal_laws.proofs.JobsAdded.{adds-jobs}
+use Rattle.wk_tool_laws.specs.Sealed.{AddsJobs, IsSealedAt}
+use Rattle.wk_tool_laws.proofs.JobsAdded.{adds-jobs}
 use Rattle.wk_tools.specs.Drains.{CanBeFull, HasNoJob}
 use Rattle.wk_tools.specs.Lived.{HasLived}
 use Rattle.wk_tools.specs.declared.drains.DrainEnd.{DrainEnd}

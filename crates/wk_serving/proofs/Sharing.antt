@@ -2,11 +2,11 @@
 use Rattle.std.proofs.Common.{◌≡◌, ℕ, List, length, Option, None, Some, sym, ap, ◌∙◌, subst}
 use Rattle.std.specs.Prelude.{unwrap_or}
 use mathlib.Core.List.{IsPrefix}
-use Rattle.wk_state_rules.specs.Events.{Event}
+use Rattle.wk_wiki_rules.specs.Events.{Event}
 use Rattle.wk_wiki_rules.specs.Starts.{Start}
 use Rattle.wk_turn.proofs.Lists.{prefix_self, prefix_trans}
 use Rattle.wk_core.specs.Seen.{WikiSeen}
-use Rattle.wk_seal_laws.specs.Sealed.{IsSealedAt}
+use Rattle.wk_tool_laws.specs.Sealed.{IsSealedAt}
 use Rattle.wk_serving.specs.Returns.{ComesBack}
 
 module _ {K : Type 0} (old new : WikiSeen K) where

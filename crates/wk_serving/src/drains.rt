@@ -2,15 +2,15 @@
 ghost use Rattle.std.specs.Prelude.{◌≡◌, None};
 ghost use mathlib.Core.List.{IsPrefix};
 ghost use Rattle.wk_refresh.specs.Drained.{IsFree};
-ghost use Rattle.wk_seal_laws.specs.Sealed.{IsSealedAt};
+ghost use Rattle.wk_tool_laws.specs.Sealed.{IsSealedAt};
 ghost use Rattle.wk_serving.specs.Drains.{IsDrainedBy};
 
 use crate::hands::{gather, hired};
 use std::alloc::Global;
 use std::sync::Wait;
 use std::thread::Threads;
+use wk_base::Gate;
 use wk_core::{Keeper, Wiki};
-use wk_gate::Gate;
 use wk_refresh::{DrainRefusal, drain};
 use wk_shared::{Pass, Shared};
 use wk_tools::{DrainEnd, drain_here};

@@ -4,7 +4,7 @@ ghost use mathlib.Core.List.{IsPrefix};
 ghost use Rattle.wk_refresh.specs.Drained.{IsFree};
 
 use std::alloc::Global;
-use wk_gate::Gate;
+use wk_base::Gate;
 use wk_memory::Memory;
 use wk_refresh::{Reader, Worker};
 use wk_shared::{Keeper, Pass, Shared, Wiki};

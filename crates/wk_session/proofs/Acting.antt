@@ -8,8 +8,8 @@ use Rattle.wk_memory.specs.declared.Memory.{Memory}
 use Rattle.wk_base.specs.Clock.{first_moment}
 use Rattle.wk_base.specs.Faults.{Rose}
 use Rattle.wk_table_rules.specs.Rows.{StoreTables}
-use Rattle.wk_state_rules.specs.States.{State}
-use Rattle.wk_state_rules.specs.Events.{Event}
+use Rattle.wk_wiki_rules.specs.States.{State}
+use Rattle.wk_wiki_rules.specs.Events.{Event}
 use Rattle.wk_wiki_rules.specs.Entries.{closes}
 use Rattle.wk_wiki_rules.specs.Starts.{Start}
 use Rattle.wk_life_laws.proofs.RunFacts.{run_present}
@@ -25,7 +25,7 @@ use Rattle.wk_answer_rules.specs.Saves.{Answered}
 use Rattle.wk_answer_laws.proofs.Points.{placed}
 use Rattle.wk_answer_laws.proofs.Possible.{event-possible}
 use Rattle.wk_answer.specs.Saved.{IsActed, by_fault, by_rule}
-use Rattle.wk_line_laws.proofs.Floats.{answer-plain, error-plain}
+use Rattle.wk_answer_laws.proofs.Floats.{answer-plain, error-plain}
 use Rattle.wk_turn.specs.Told.{Begun}
 use Rattle.wk_turn.proofs.Lists.{prefix_length}
 use Rattle.wk_shared.specs.Calls.{AddsOwn, HasSeen, IsMadeAt, MayFail, seen_by}

@@ -6,20 +6,20 @@ use Rattle.std.proofs.lemmas.Option.{option_and_then_some}
 use Rattle.serde_json.specs.View.{view}
 use Rattle.serde_json.specs.declared.value.Value.{Value}
 use Rattle.wk_text_rules.specs.Titles.{PageTitle}
-use Rattle.wk_job_rules.specs.Steps.{fan_pages}
-use Rattle.wk_state_rules.specs.States.{State}
-use Rattle.wk_state_rules.specs.Events.{Event, step_by}
-use Rattle.wk_state_rules.specs.Lives.{replay_from, state_at}
-use Rattle.wk_state_laws.specs.Kept.{IsKept}
-use Rattle.wk_state_laws.specs.WellFormed.{IsWellFormed}
-use Rattle.wk_state_laws.proofs.Formed.{IsWellFormed-step}
+use Rattle.wk_wiki_rules.specs.Steps.{fan_pages}
+use Rattle.wk_wiki_rules.specs.States.{State}
+use Rattle.wk_wiki_rules.specs.Events.{Event, step_by}
+use Rattle.wk_wiki_rules.specs.Lives.{replay_from, state_at}
+use Rattle.wk_wiki_laws.specs.Kept.{IsKept}
+use Rattle.wk_wiki_laws.specs.WellFormed.{IsWellFormed}
+use Rattle.wk_wiki_laws.proofs.Formed.{IsWellFormed-step}
 use Rattle.wk_wiki_rules.specs.Starts.{Start}
 use Rattle.wk_core.specs.declared.outcomes.PageRead.{PageRead}
 use Rattle.wk_request_rules.specs.Requests.{Ask, Request, edit, delete, parse, expand_text, backlinks, embedded, members, changes, revisions, tokens, site_info, valid}
 use Rattle.wk_answer_rules.specs.Answers.{answer_to_request, asks_to_save}
 use Rattle.wk_answer_laws.proofs.Points.{placed, request-none}
 use Rattle.wk_answer_rules.specs.ApiErrors.{api_error, nomemory}
-use Rattle.wk_line_laws.proofs.Floats.{answer-plain, error-plain}
+use Rattle.wk_answer_laws.proofs.Floats.{answer-plain, error-plain}
 use Rattle.wk_answer.specs.Readings.{IsFitRead, IsReadOf, IsRightRead, asks_to_expand, reading_of}
 use Rattle.wk_turn.specs.Told.{Begun}
 use Rattle.wk_readers.specs.Looks.{HasRead}

@@ -6,11 +6,11 @@ use Rattle.std.proofs.lemmas.List.{take-append-le}
 use mathlib.Core.List.{IsPrefix}
 use Rattle.wk_text_rules.specs.Titles.{PageTitle}
 use Rattle.wk_view_rules.specs.Worlds.{Read}
-use Rattle.wk_job_rules.specs.Jobs.{first_fan, first_queued}
+use Rattle.wk_wiki_rules.specs.Jobs.{first_fan, first_queued}
 use Rattle.wk_wiki_rules.specs.Room.{is_claim_refused, is_fan_refused}
-use Rattle.wk_state_rules.specs.States.{State, title_at, world_of}
-use Rattle.wk_state_rules.specs.Events.{Event, Back as BackEvent, Claim, Done as DoneEvent, Fan}
-use Rattle.wk_state_rules.specs.Lives.{replay, state_at}
+use Rattle.wk_wiki_rules.specs.States.{State, title_at, world_of}
+use Rattle.wk_wiki_rules.specs.Events.{Event, Back as BackEvent, Claim, Done as DoneEvent, Fan}
+use Rattle.wk_wiki_rules.specs.Lives.{replay, state_at}
 use Rattle.wk_wiki_rules.specs.Claims.{ClaimOutcome, claim_outcome}
 use Rattle.wk_wiki_rules.specs.Staleness.{StaleRead}
 use Rattle.wk_wiki_rules.specs.Starts.{Start}
@@ -26,8 +26,8 @@ use Rattle.wk_read_laws.specs.Points.{IsStaleSince}
 use Rattle.wk_readers.specs.Beginnings.{ClaimedTold, FullTold, IdleTold, NothingTold}
 use Rattle.wk_readers.specs.Refreshes.{ComesIn, EndTold, IsRefreshed, RefreshTold}
 use Rattle.wk_readers.specs.Worked.{HasWorked}
-use Rattle.wk_readers.specs.Refreshed.{Refreshed}
-use Rattle.wk_readers.specs.Refreshed.TheVariants as refreshed
+use Rattle.wk_readers.specs.declared.outcome.Refreshed.{Refreshed}
+use Rattle.wk_readers.specs.declared.outcome.Refreshed.TheVariants as refreshed
 use Rattle.wk_session_rules.specs.Points.{GoesOn, IsStateAt}
 use Rattle.wk_session_rules.specs.Steps.{CameIn, HasChanged, IsFull, IsStep, back, done, fan_failed, fanned, full, idle, no_memory, no_memory_behind_claim, refresh_failed}
 use Rattle.wk_session.specs.Passes.{IsFree}

@@ -5,7 +5,7 @@ use Rattle.std.specs.Io.KnownBytes.{Appends, Consumes}
 use Rattle.wk_base.specs.Faults.{Rose}
 use Rattle.wk_wire_rules.specs.Heads.{Message}
 use Rattle.wk_wire_rules.specs.Responses.{response}
-use Rattle.wk_state_rules.specs.Events.{Event}
+use Rattle.wk_wiki_rules.specs.Events.{Event}
 use Rattle.wk_wiki_rules.specs.Passes.{PassSeen}
 use Rattle.wk_wiki_rules.specs.Starts.{Start}
 use Rattle.wk_http.specs.declared.report.Refresh.{Refresh}

@@ -1,8 +1,8 @@
 -- The kinds of what a step did (own).
 use Rattle.wk_http.specs.declared.report.Refresh.{Refresh}
 use Rattle.wk_http.specs.declared.report.Refresh.TheVariants as kind
-use Rattle.wk_readers.specs.Refreshed.{Refreshed}
-use Rattle.wk_readers.specs.Refreshed.TheVariants as refreshed
+use Rattle.wk_readers.specs.declared.outcome.Refreshed.{Refreshed}
+use Rattle.wk_readers.specs.declared.outcome.Refreshed.TheVariants as refreshed
 
 abbrev pub kind_of : Refreshed → Refresh
 kind_of (refreshed.Idle claimed) = kind.Idle

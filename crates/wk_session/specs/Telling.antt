@@ -4,7 +4,7 @@ use Rattle.serde_json.specs.View.{view}
 use Rattle.serde_json.specs.Written.{has_float}
 use Rattle.wk_text_rules.specs.Titles.{PageTitle}
 use Rattle.wk_wire_rules.specs.Heads.{Message}
-use Rattle.wk_state_rules.specs.Events.{Event}
+use Rattle.wk_wiki_rules.specs.Events.{Event}
 use Rattle.wk_wiki_rules.specs.Starts.{Start}
 use Rattle.wk_request_rules.specs.Requests.{Ask, ParsedRequest, expand_text}
 use Rattle.wk_answer_rules.specs.Values.{ApiReply}

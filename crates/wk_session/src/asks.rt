@@ -1,6 +1,6 @@
 //! What a message asks, and which call answers it.
 ghost use Rattle.std.specs.Prelude.{◌≡◌, None, IfErr, IfOk};
-ghost use Rattle.wk_state_laws.specs.Kept.{IsKept};
+ghost use Rattle.wk_wiki_laws.specs.Kept.{IsKept};
 ghost use Rattle.wk_request.specs.Asked.{ask_of, request_asked};
 ghost use Rattle.wk_request.specs.Refusals.{Refuses};
 ghost use Rattle.wk_request_rules.specs.Reading.{requested};
@@ -16,11 +16,10 @@ use crate::reads::expand_now;
 use crate::telling::Told;
 use std::alloc::Global;
 use std::sync::Wait;
-use wk_base::Clock;
+use wk_base::{Clock, Gate};
 use wk_core::Keeper;
 use wk_expand::Trees;
 use wk_form::Params;
-use wk_gate::Gate;
 use wk_memory::Memory;
 use wk_readers::Worker;
 use wk_request::{Ask, Request, RequestRefusal};

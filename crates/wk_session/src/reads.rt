@@ -1,7 +1,7 @@
 //! What is answered by a read of its own.
 ghost use Rattle.std.specs.Prelude.{◌≡◌, ◌≤◌, [], Err, None, Ok, true, IfErr, IfOk, IfSome, IsTrue, length};
 ghost use Rattle.wk_page_rules.specs.Verdict.{real_title};
-ghost use Rattle.wk_state_laws.specs.Kept.{IsKept};
+ghost use Rattle.wk_wiki_laws.specs.Kept.{IsKept};
 ghost use Rattle.wk_request.specs.Asked.{ask_of, request_asked};
 ghost use Rattle.wk_request_rules.specs.Requests.{valid};
 ghost use Rattle.wk_answer.specs.Readings.{asks_to_expand};
@@ -17,18 +17,16 @@ use crate::telling::{Told, no_memory};
 use std::alloc::Global;
 use std::sync::Wait;
 use wk_answer::read_reply;
+use wk_base::Gate;
 use wk_bytes::Text;
 use wk_core::{Keeper, PageRead, ReadRefusal};
 use wk_expand::Trees;
-use wk_gate::Gate;
+use wk_good_rows::MAX_TEXT;
 use wk_memory::Memory;
 use wk_readers::{Worker, read_page, read_text};
 use wk_request::{Ask, Request};
 use wk_shared::Shared;
 use wk_title::{Title, named};
-
-/// How many bytes a text has at most (own).
-const MOST_TEXT: usize = 2_097_152;
 
 /// The page that a text names: its title, in main by default; none where it names no title, or one in a virtual namespace.
 fn page_title(alloc: Global, page: &str) -> Result<Option<Title>, Memory>
@@ -52,7 +50,7 @@ fn title_to_read(alloc: Global, ask: &Ask) -> Result<Option<Title>, Memory>
     match ask {
         Ask::Parse { page } => page_title(alloc, page),
         Ask::Expand { text, title } => {
-            if MOST_TEXT < text.len() {
+            if MAX_TEXT < text.len() {
                 return Ok(None);
             }
             named(alloc, title, 0)

@@ -1,7 +1,7 @@
 //! A session over a connection.
 ghost use Rattle.std.specs.Prelude.{◌≡◌, ◌≢◌, ◌≤◌, [], None};
 ghost use Rattle.wk_base.specs.Faults.{Rose};
-ghost use Rattle.wk_state_laws.specs.Kept.{IsKept};
+ghost use Rattle.wk_wiki_laws.specs.Kept.{IsKept};
 ghost use Rattle.wk_turn.specs.Told.{IsOf};
 ghost use Rattle.wk_shared.specs.Calls.{MayFail, seen_by};
 ghost use Rattle.wk_session_rules.specs.Exchanges.{is_done, jobs_done};
@@ -13,10 +13,9 @@ use crate::desk::look;
 use crate::serving::{send, serve_one};
 use std::alloc::Global;
 use std::sync::Wait;
-use wk_base::Clock;
+use wk_base::{Clock, Gate};
 use wk_core::Keeper;
 use wk_expand::Trees;
-use wk_gate::Gate;
 use wk_http::{Refresh, SessionEnd, SessionReport, a_message_is_short};
 use wk_link::Link;
 use wk_messages::MessageReader;

@@ -6,8 +6,8 @@ ghost use Rattle.wk_session.specs.Serving.{IsStepTold};
 ghost use Rattle.wk_session.specs.Steps.{kind_of};
 
 use std::sync::Wait;
+use wk_base::Gate;
 use wk_core::Keeper;
-use wk_gate::Gate;
 use wk_http::Refresh;
 use wk_readers::{Refreshed, Worker, refresh_one};
 use wk_shared::Shared;

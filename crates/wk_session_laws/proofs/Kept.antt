@@ -6,8 +6,8 @@ use mathlib.Core.List.{IsPrefix}
 use Rattle.wk_wire_rules.specs.Heads.{Message}
 use Rattle.wk_wire_rules.specs.Messages.{Ending, IsBad, Messages, bad, between, closed, ends_bad, ends_between, ends_closed, ends_within, goes_on, within}
 use Rattle.wk_http.proofs.MessageLemmas.{IsBad-append, IsMessage-append}
-use Rattle.wk_state_rules.specs.States.{State}
-use Rattle.wk_state_rules.specs.Lives.{replay}
+use Rattle.wk_wiki_rules.specs.States.{State}
+use Rattle.wk_wiki_rules.specs.Lives.{replay}
 use Rattle.wk_wiki_rules.specs.Passes.{PassSeen}
 use Rattle.wk_wiki_rules.specs.Starts.{Start}
 use Rattle.wk_request_rules.specs.Requests.{ParsedRequest}

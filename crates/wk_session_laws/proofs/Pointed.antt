@@ -6,8 +6,8 @@ use Rattle.std.specs.Prelude.{IfSome, map, nat_lt}
 use Rattle.std.specs.Option.{option_to_list}
 use Rattle.wk_base.specs.Clock.{first_moment}
 use Rattle.wk_wire_rules.specs.Heads.{Message}
-use Rattle.wk_state_rules.specs.States.{State}
-use Rattle.wk_state_rules.specs.Events.{Event, Back as BackEvent, Claim, Done as DoneEvent, Fan}
+use Rattle.wk_wiki_rules.specs.States.{State}
+use Rattle.wk_wiki_rules.specs.Events.{Event, Back as BackEvent, Claim, Done as DoneEvent, Fan}
 use Rattle.wk_wiki_rules.specs.Entries.{is_save}
 use Rattle.wk_wiki_rules.specs.Passes.{PassSeen, state_seen}
 use Rattle.wk_request_rules.specs.Requests.{ParsedRequest, parse, valid}

@@ -1,7 +1,7 @@
 -- What is told of a session (own). A point is the length of a journal, and a place is one less.
 use Rattle.std.specs.Prelude.{◌≡◌, ◌⊎◌, ℕ, ◌≤◌, Bool, List, [], ◌∷◌, slice_get, Some}
-use Rattle.wk_state_rules.specs.States.{State}
-use Rattle.wk_state_rules.specs.Events.{Event}
+use Rattle.wk_wiki_rules.specs.States.{State}
+use Rattle.wk_wiki_rules.specs.Events.{Event}
 use Rattle.wk_wiki_rules.specs.Entries.{is_save}
 use Rattle.wk_wiki_rules.specs.Passes.{PassSeen, state_seen}
 use Rattle.wk_answer_rules.specs.Answers.{read_at}

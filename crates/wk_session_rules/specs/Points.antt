@@ -1,7 +1,7 @@
 -- What a pass has seen when it goes on (own). A point is the length of a journal.
 use Rattle.std.specs.Prelude.{◌≡◌, ℕ, ◌≤◌, List, ◌++◌, length, Some}
 use mathlib.Core.List.{IsPrefix}
-use Rattle.wk_state_rules.specs.States.{State}
+use Rattle.wk_wiki_rules.specs.States.{State}
 use Rattle.wk_wiki_rules.specs.Passes.{PassSeen, state_seen}
 
 -- it has seen as much of the journal or more, and made the entries at these places

@@ -8,8 +8,8 @@ use Rattle.wk_wire_rules.specs.Heads.{Message, is_post}
 use Rattle.wk_wire_rules.specs.Responses.{response}
 use Rattle.wk_wire_rules.specs.declared.Method.{Method}
 use Rattle.wk_wire_rules.specs.declared.Method.TheVariants.{Get, Post, Other}
-use Rattle.wk_state_rules.specs.States.{State}
-use Rattle.wk_state_rules.specs.Events.{Event}
+use Rattle.wk_wiki_rules.specs.States.{State}
+use Rattle.wk_wiki_rules.specs.Events.{Event}
 use Rattle.wk_wiki_rules.specs.Passes.{PassSeen}
 use Rattle.wk_request_rules.specs.Reading.{requested}
 use Rattle.wk_request_rules.specs.Requests.{ParsedRequest, valid, invalid}

@@ -3,9 +3,9 @@ use Rattle.std.specs.Prelude.{◌≡◌, ◌≢◌, ◌⊎◌, ℕ, ◌+◌, ◌
 use Rattle.wk_text_rules.specs.Titles.{PageTitle}
 use Rattle.wk_view_rules.specs.Worlds.{answer_in, mark}
 use Rattle.wk_view_rules.specs.declared.Kind.{Kind}
-use Rattle.wk_job_rules.specs.Jobs.{first_fan, first_queued}
-use Rattle.wk_state_rules.specs.States.{State, world_of}
-use Rattle.wk_state_rules.specs.Events.{Event, Back as BackEvent, Claim, Done as DoneEvent, Fan}
+use Rattle.wk_wiki_rules.specs.Jobs.{first_fan, first_queued}
+use Rattle.wk_wiki_rules.specs.States.{State, world_of}
+use Rattle.wk_wiki_rules.specs.Events.{Event, Back as BackEvent, Claim, Done as DoneEvent, Fan}
 use Rattle.wk_wiki_rules.specs.Passes.{PassSeen, state_seen}
 use Rattle.wk_wiki_rules.specs.Room.{is_claim_refused, is_fan_refused}
 use Rattle.wk_http.specs.declared.report.Refresh.{Refresh}

@@ -5,9 +5,9 @@ use Rattle.std.proofs.lemmas.List.{append-nil}
 use Rattle.std.proofs.Math.Seq.{take-append_seam, take-length}
 use mathlib.Core.List.{IsPrefix}
 use Rattle.wk_table_rules.specs.Rows.{StoreTables}
-use Rattle.wk_state_rules.specs.States.{State}
-use Rattle.wk_state_rules.specs.Events.{Event}
-use Rattle.wk_state_rules.specs.Lives.{replay, state_at}
+use Rattle.wk_wiki_rules.specs.States.{State}
+use Rattle.wk_wiki_rules.specs.Events.{Event}
+use Rattle.wk_wiki_rules.specs.Lives.{replay, state_at}
 use Rattle.wk_wiki_rules.specs.Entries.{closes}
 use Rattle.wk_wiki_rules.specs.Starts.{Start}
 use Rattle.wk_core.specs.Seen.{WikiSeen}

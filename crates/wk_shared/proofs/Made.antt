@@ -6,10 +6,10 @@ use mathlib.Core.List.{IsPrefix}
 use Rattle.wk_table_rules.specs.Rows.{StoreTables}
 use Rattle.wk_page_rules.specs.History.{text_of_revision}
 use Rattle.wk_view_rules.specs.Worlds.{IsHonest, Read}
-use Rattle.wk_job_rules.specs.Jobs.{first_queued}
-use Rattle.wk_state_rules.specs.States.{State, title_at}
-use Rattle.wk_state_rules.specs.Events.{Event, Claim}
-use Rattle.wk_state_rules.specs.Lives.{replay}
+use Rattle.wk_wiki_rules.specs.Jobs.{first_queued}
+use Rattle.wk_wiki_rules.specs.States.{State, title_at}
+use Rattle.wk_wiki_rules.specs.Events.{Event, Claim}
+use Rattle.wk_wiki_rules.specs.Lives.{replay}
 use Rattle.wk_wiki_rules.specs.Claims.{ClaimOutcome, claim_outcome}
 use Rattle.wk_wiki_rules.specs.Entries.{closes}
 use Rattle.wk_wiki_rules.specs.Starts.{Start}

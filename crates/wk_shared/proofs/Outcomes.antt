@@ -7,11 +7,11 @@ use Rattle.wk_page_rules.specs.Verdict.{EditAsked, Verdict, refuse, no_change, a
 use Rattle.wk_view_rules.specs.Worlds.{Read, answer_in}
 use Rattle.wk_view_rules.specs.declared.Kind.{Kind}
 use Rattle.wk_text_rules.specs.Titles.{PageTitle}
-use Rattle.wk_job_rules.specs.Jobs.{first_fan, first_queued}
-use Rattle.wk_job_rules.specs.Steps.{fan_pages}
-use Rattle.wk_state_rules.specs.States.{State, world_of}
-use Rattle.wk_state_rules.specs.Events.{Event, Claim, Back, Fan}
-use Rattle.wk_state_rules.specs.Verdicts.{event_of}
+use Rattle.wk_wiki_rules.specs.Jobs.{first_fan, first_queued}
+use Rattle.wk_wiki_rules.specs.Steps.{fan_pages}
+use Rattle.wk_wiki_rules.specs.States.{State, world_of}
+use Rattle.wk_wiki_rules.specs.Events.{Event, Claim, Back, Fan}
+use Rattle.wk_wiki_rules.specs.Verdicts.{event_of}
 use Rattle.wk_wiki_rules.specs.Claims.{ClaimOutcome, claim_outcome}
 use Rattle.wk_wiki_rules.specs.Entries.{closes}
 use Rattle.wk_wiki_rules.specs.Fans.{next_fan_outcome}

@@ -4,14 +4,14 @@ use Rattle.std.specs.Prelude.{option_and_then, slice_get}
 use Rattle.std.proofs.lemmas.Option.{option_and_then_some}
 use Rattle.std.proofs.Math.Seq.{take-length}
 use mathlib.Core.List.{IsPrefix}
-use Rattle.wk_job_rules.specs.Jobs.{IsOneAPage}
-use Rattle.wk_job_rules.specs.Steps.{fan_pages}
-use Rattle.wk_state_rules.specs.States.{State}
-use Rattle.wk_state_rules.specs.Events.{Event, step_by}
-use Rattle.wk_state_rules.specs.Lives.{replay, replay_from}
-use Rattle.wk_state_laws.specs.WellFormed.{IsWellFormed}
-use Rattle.wk_state_laws.proofs.Formed.{IsWellFormed-step}
-use Rattle.wk_state_laws.proofs.Refreshed.{held-within}
+use Rattle.wk_wiki_rules.specs.Jobs.{IsOneAPage}
+use Rattle.wk_wiki_rules.specs.Steps.{fan_pages}
+use Rattle.wk_wiki_rules.specs.States.{State}
+use Rattle.wk_wiki_rules.specs.Events.{Event, step_by}
+use Rattle.wk_wiki_rules.specs.Lives.{replay, replay_from}
+use Rattle.wk_wiki_laws.specs.WellFormed.{IsWellFormed}
+use Rattle.wk_wiki_laws.proofs.Formed.{IsWellFormed-step}
+use Rattle.wk_wiki_laws.proofs.Refreshed.{held-within}
 use Rattle.wk_wiki_rules.specs.Claims.{ClaimOutcome}
 use Rattle.wk_wiki_rules.specs.Entries.{closes}
 use Rattle.wk_wiki_rules.specs.Room.{tickets_out}

@@ -1,8 +1,8 @@
 -- Calls of a shared wiki, as the pass of the caller tells them (own). A point is the length of a journal.
 use Rattle.std.specs.Prelude.{◌≡◌, ◌≢◌, ℕ, ◌+◌, ◌-◌, ◌≤◌, ◌^◌, Bool, true, [], ◌∷◌, ◌++◌, length, slice_get, Option, Some, None, IfSome}
 use mathlib.Core.List.{IsPrefix}
-use Rattle.wk_state_rules.specs.States.{State}
-use Rattle.wk_state_rules.specs.Events.{Event}
+use Rattle.wk_wiki_rules.specs.States.{State}
+use Rattle.wk_wiki_rules.specs.Events.{Event}
 use Rattle.wk_wiki_rules.specs.Claims.{ClaimOutcome}
 use Rattle.wk_wiki_rules.specs.Entries.{closes}
 use Rattle.wk_wiki_rules.specs.Passes.{PassSeen, state_seen}

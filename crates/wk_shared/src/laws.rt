@@ -2,8 +2,8 @@
 ghost use Rattle.std.specs.Prelude.{◌≡◌, ℕ, List, Some, length};
 ghost use Rattle.wk_page_rules.specs.History.{text_of_revision};
 ghost use Rattle.wk_view_rules.specs.Worlds.{IsHonest, Read};
-ghost use Rattle.wk_state_rules.specs.States.{State};
-ghost use Rattle.wk_state_rules.specs.Events.{Event};
+ghost use Rattle.wk_wiki_rules.specs.States.{State};
+ghost use Rattle.wk_wiki_rules.specs.Events.{Event};
 ghost use Rattle.wk_wiki_rules.specs.Claims.{ClaimOutcome};
 ghost use Rattle.wk_wiki_rules.specs.Starts.{Start};
 ghost use Rattle.wk_expand.specs.Drafts.{DraftShown};

@@ -24,7 +24,7 @@ use Rattle.sqlite.specs.State.{State, ExecutesInside}
 use Rattle.sqlite.proofs.Callers.{IsPlain, command_of}
 use Rattle.sqlite_keyed.proofs.ListLemmas.{all-map, map-map, ascending-map, ascending_weaker}
 use Rattle.wk_text_rules.specs.Titles.{PageTitle, title_cmp}
-use Rattle.wk_row_rules.specs.PageRows.{Member}
+use Rattle.wk_page_rules.specs.PageRows.{Member}
 use Rattle.wk_table_rules.specs.Rows.{CategoryColumns, category_title}
 use Rattle.wk_table_rules.specs.Changes.{category_row, with_rows_of}
 use Rattle.wk_table_rows.specs.Members.{member_of}

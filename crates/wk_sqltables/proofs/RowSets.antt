@@ -2,7 +2,7 @@
 use Rattle.std.proofs.Common.{◌≡◌, ℕ, ℤ, map, subst}
 use Rattle.std.specs.Option.{option_to_list}
 use Rattle.sqlite.specs.State.{State}
-use Rattle.wk_row_rules.specs.PageRows.{PageRows}
+use Rattle.wk_page_rules.specs.PageRows.{PageRows}
 use Rattle.wk_table_rules.specs.Rows.{StoreTables}
 use Rattle.wk_table_rules.specs.Changes.{namespace_of, with_page_rows, with_rows_of, link_row, category_row, redirect_row}
 use Rattle.wk_sqltables.specs.declared.links.LinkTable.TheVariants.{Pagelinks, Templatelinks, Existlinks}

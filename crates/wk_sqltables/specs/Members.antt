@@ -6,7 +6,7 @@ use Rattle.std.specs.declared.cmp.Ordering.TheVariants.{Less}
 use Rattle.sqlite_trees.specs.Tree.{IsAscending}
 use Rattle.sqlite.specs.State.{State}
 use Rattle.wk_text_rules.specs.Titles.{PageTitle, title_cmp}
-use Rattle.wk_row_rules.specs.PageRows.{Member}
+use Rattle.wk_page_rules.specs.PageRows.{Member}
 use Rattle.wk_table_rules.specs.Rows.{StoreTables, category_title}
 use Rattle.wk_table_rules.specs.Changes.{category_row, redirect_row, with_rows_of}
 use Rattle.wk_sqltables.specs.Held.{Holds}

@@ -6,3 +6,7 @@ pub mod SavedRows
 pub mod SavedPages
 pub mod GoodChanges
 pub mod JobParams
+pub mod Order
+pub mod RoundTrip
+pub mod FanOrder
+pub mod ClaimOrder

@@ -9,7 +9,7 @@ use Rattle.std.proofs.lemmas.List.{map-append}
 use Rattle.std.proofs.lemmas.List.Folds.{list_all-map}
 use Rattle.wk_text_rules.specs.Titles.{PageTitle, title_cmp, is_normal, is_page_title}
 use Rattle.wk_table_rules.specs.Rows.{StoreTables, LinkColumns, CategoryColumns, RedirectColumns, category_title}
-use Rattle.wk_row_rules.specs.PageRows.{Member, PageRows}
+use Rattle.wk_page_rules.specs.PageRows.{Member, PageRows}
 use Rattle.wk_table_rules.specs.Changes.{has_page, namespace_of, link_row, category_row, redirect_row, with_page_rows, with_rows_of}
 use Rattle.wk_table_rules.specs.GoodStore.{row_lt, is_good_link, is_good_category, is_good_redirect}
 use Rattle.wk_table_laws.specs.EachGood.{GoodAfter, EachGood, KeepsRules}

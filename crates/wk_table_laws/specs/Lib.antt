@@ -1,2 +1,4 @@
 pub mod EachGood
 pub mod Premises
+pub mod InOrder
+pub mod ClaimedFirst

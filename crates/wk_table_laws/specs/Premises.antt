@@ -5,7 +5,7 @@ use Rattle.std.specs.Ordering.{is_lt}
 use Rattle.wk_text_rules.specs.Titles.{PageTitle, title_cmp, is_normal, is_page_title}
 use Rattle.wk_page_rules.specs.Verdict.{max_text, max_pages, max_texts}
 use Rattle.wk_table_rules.specs.Rows.{JobColumns, PageColumns, RevisionColumns, StoreTables, category_title}
-use Rattle.wk_row_rules.specs.PageRows.{Member, PageRows}
+use Rattle.wk_page_rules.specs.PageRows.{Member, PageRows}
 use Rattle.wk_table_rules.specs.Changes.{TableEdit, add_revision, set_page, set_rows, add_job, set_job, drop_job, set_version, applied, edited, has_job, has_page}
 use Rattle.wk_table_rules.specs.GoodStore.{current_of, has_good_params, has_good_title, is_good_job, texts_len}
 use Rattle.wk_table_laws.specs.EachGood.{EachGood}

@@ -1,6 +1,6 @@
 //! The link rows of one page.
 ghost use Rattle.std.specs.Prelude.{◌≡◌, IfOk};
-ghost use Rattle.wk_row_rules.specs.PageRows.{no_rows};
+ghost use Rattle.wk_page_rules.specs.PageRows.{no_rows};
 
 use crate::share::{Share, share_all};
 use std::alloc::Global;
@@ -13,7 +13,7 @@ use wk_title::Title;
 /// Manual:Templatelinks table, Manual:Categorylinks table and Manual:Redirect table; rows of existence tests are own).
 /// What a page expands to gives, and what fits the tables of a good store has, each list in the order of its titles,
 /// and each title once.
-#[derive(Debug, Drop)]
+#[derive(Drop)]
 pub struct PageRows {
     /// The titles that the page includes, those that are missing among them.
     pub templates: Vec<Title>,
@@ -29,7 +29,7 @@ pub struct PageRows {
 
 impl Model for PageRows {
     ghost use Rattle.std.specs.Prelude.{map};
-    ghost use Rattle.wk_row_rules.specs.PageRows.{PageRows};
+    ghost use Rattle.wk_page_rules.specs.PageRows.{PageRows};
     ghost use Rattle.wk_table_rows.specs.Members.{member_of};
 
     ghost Value = { PageRows };

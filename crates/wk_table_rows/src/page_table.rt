@@ -26,7 +26,7 @@ pub trait RowOf<I>: Numbered + Share {
 }
 
 /// What the rows of a page are made of.
-#[derive(Debug, Drop)]
+#[derive(Drop)]
 pub enum Items<I> {
     Many(Vec<I>),
     One(I),
@@ -44,21 +44,21 @@ impl<I: Drop> Items<I> {
 }
 
 /// The rows of one page: as a change brought them, with the namespace of the page's title, or as they were loaded.
-#[derive(Debug, Drop)]
+#[derive(Drop)]
 enum Brought<R, I> {
     Changed(i64, Items<I>),
     Loaded(Vec<R>),
 }
 
 /// A page and its rows.
-#[derive(Debug, Drop)]
+#[derive(Drop)]
 struct PageSlot<R, I> {
     page: u64,
     rows: Brought<R, I>,
 }
 
 /// The rows by page, or one after the other.
-#[derive(Debug, Drop)]
+#[derive(Drop)]
 enum Form<R, I> {
     /// A slot for each page, whose numbers rise.
     ByPage(Vec<PageSlot<R, I>>),
@@ -69,7 +69,7 @@ enum Form<R, I> {
 ///
 /// Where the rows are in the order of their pages, they are kept by page, so that a change of a page's rows moves no
 /// others. Elsewhere they are kept as they came, and a change goes over all of them.
-#[derive(Debug, Drop)]
+#[derive(Drop)]
 pub struct PageTable<R: RowOf<I>, I: Share> {
     form: Form<R, I>,
     spare: usize,

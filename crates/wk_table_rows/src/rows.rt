@@ -9,7 +9,7 @@ use wk_bytes::Text;
 use wk_memory::Memory;
 
 /// A row of the table page (Manual:Page table).
-#[derive(Debug, Drop, PartialEq, Eq)]
+#[derive(Drop, PartialEq, Eq)]
 pub struct PageRow {
     pub page_id: u64,
     pub page_namespace: i64,
@@ -54,7 +54,7 @@ impl Share for PageRow {
 }
 
 /// A row of the table revision (Manual:Revision table; the last two columns are own).
-#[derive(Debug, Drop, PartialEq, Eq)]
+#[derive(Drop, PartialEq, Eq)]
 pub struct RevisionRow {
     pub rev_id: u64,
     /// The number of its page.
@@ -113,7 +113,7 @@ impl Share for RevisionRow {
 /// A row of the table pagelinks, templatelinks or existlinks, whose columns have these names behind `pl_`, `tl_` and
 /// `el_` (Manual:Pagelinks table and Manual:Templatelinks table; existlinks, the titles whose existence the page
 /// tests, is own).
-#[derive(Debug, Drop, PartialEq, Eq)]
+#[derive(Drop, PartialEq, Eq)]
 pub struct LinkRow {
     /// The number of the page that the row is of.
     pub from: u64,
@@ -154,7 +154,7 @@ impl Share for LinkRow {
 }
 
 /// A row of the table categorylinks (Manual:Categorylinks table).
-#[derive(Debug, Drop, PartialEq, Eq)]
+#[derive(Drop, PartialEq, Eq)]
 pub struct CategoryRow {
     /// The number of the page that is in the category.
     pub cl_from: u64,
@@ -197,7 +197,7 @@ impl Share for CategoryRow {
 }
 
 /// A row of the table redirect (Manual:Redirect table).
-#[derive(Debug, Drop, PartialEq, Eq)]
+#[derive(Drop, PartialEq, Eq)]
 pub struct RedirectRow {
     /// The number of the page that is a redirect.
     pub rd_from: u64,
@@ -226,7 +226,7 @@ impl Share for RedirectRow {
 }
 
 /// A row of the table job (Manual:Job table).
-#[derive(Debug, Drop, PartialEq, Eq)]
+#[derive(Drop, PartialEq, Eq)]
 pub struct JobRow {
     pub job_id: u64,
     pub job_cmd: Text,
@@ -269,7 +269,7 @@ impl Share for JobRow {
 }
 
 /// All rows of a store, table by table, in any order. The table site has the one row `version`, with this number.
-#[derive(Debug, Drop)]
+#[derive(Drop)]
 pub struct TableRows {
     pub pages: Vec<PageRow>,
     pub revisions: Vec<RevisionRow>,

@@ -3,7 +3,7 @@ use Rattle.std.specs.Prelude.{ℕ, ℤ, pos, Bool, true, ◌&&◌, ◌||◌, ◌
 use Rattle.std.specs.List.{insert_slice, list_all, list_any, position_or_len}
 use Rattle.std.specs.Option.{option_to_list}
 use Rattle.wk_text_rules.specs.Titles.{PageTitle}
-use Rattle.wk_row_rules.specs.PageRows.{Member, PageRows}
+use Rattle.wk_page_rules.specs.PageRows.{Member, PageRows}
 use Rattle.wk_table_rules.specs.Rows.{PageColumns, RevisionColumns, LinkColumns, CategoryColumns, RedirectColumns, JobColumns, StoreTables}
 
 -- ---- edits

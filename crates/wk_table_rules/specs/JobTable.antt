@@ -5,8 +5,8 @@ use Rattle.std.specs.Fmt.{decimal}
 use Rattle.std.specs.List.{after_first, before_first}
 use Rattle.wk_text_rules.specs.Decimal.{decimal_number}
 use Rattle.wk_text_rules.specs.Titles.{PageTitle, is_colon}
-use Rattle.wk_row_rules.specs.declared.Reach.{Reach}
-use Rattle.wk_row_rules.specs.declared.Reach.TheVariants.{Text, Both}
+use Rattle.wk_page_rules.specs.declared.Reach.{Reach}
+use Rattle.wk_page_rules.specs.declared.Reach.TheVariants.{Text, Both}
 use Rattle.wk_table_rules.specs.Rows.{JobColumns}
 
 -- the job that computes the link rows of the page of its title anew

@@ -1,7 +1,7 @@
 -- The rows of the link tables and the redirect table, and those of one page among them.
 use Rattle.std.specs.Prelude.{ℕ, ℤ, List, [], map}
 use Rattle.std.specs.Option.{option_to_list}
-use Rattle.wk_row_rules.specs.PageRows.{PageRows}
+use Rattle.wk_page_rules.specs.PageRows.{PageRows}
 use Rattle.wk_table_rules.specs.Rows.{LinkColumns, CategoryColumns, RedirectColumns}
 use Rattle.wk_table_rules.specs.Changes.{with_rows_of, link_row, category_row, redirect_row}
 

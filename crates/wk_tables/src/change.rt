@@ -8,7 +8,7 @@ use wk_memory::Memory;
 use wk_table_rows::{JobRow, PageRow, PageRows, RevisionRow, Share, share_all};
 
 /// One edit of the tables.
-#[derive(Debug, Drop)]
+#[derive(Drop)]
 pub enum RowEdit {
     /// Appends the revision.
     AddRevision(RevisionRow),
@@ -41,7 +41,7 @@ impl Share for RowEdit {
 }
 
 /// A change of the tables: edits that are made in order. Contracts see them as a list.
-#[derive(Debug, Drop)]
+#[derive(Drop)]
 pub struct Change {
     pub edits: Vec<RowEdit>,
 }

@@ -12,7 +12,7 @@ use wk_memory::Memory;
 use wk_table_rows::{JobRow, Numbered, Share, is_rising, place_in_order};
 
 /// The place of a job: its number, and its row until it is taken away.
-#[derive(Debug, Drop)]
+#[derive(Drop)]
 struct JobSlot {
     number: u64,
     row: Option<JobRow>,
@@ -32,7 +32,7 @@ impl Numbered for JobSlot {
 /// Where the numbers rise, as in a good store, a job is found by halving the list, and a job that is taken away leaves
 /// its place empty. Places that are empty go when room is made and they are more than half of all, or with the last
 /// job before them. Elsewhere a job is looked for from the front, and its place goes with it.
-#[derive(Debug, Drop)]
+#[derive(Drop)]
 pub struct JobList {
     slots: Vec<JobSlot>,
     is_in_order: bool,

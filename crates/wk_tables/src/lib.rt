@@ -9,7 +9,7 @@ mod tables;
 
 pub use change::{Change, RowEdit};
 pub use tables::{Tables, apply, broken, make_room};
-pub use wk_row_rules::Reach;
+pub use wk_page_rules::Reach;
 pub use wk_table_rows::{
     CategoryRow, JobRow, LinkRow, PageRow, PageRows as PageLists, RedirectRow, RevisionRow,
     TableRows,

@@ -14,7 +14,7 @@ use wk_table_rows::{CategoryRow, Items, LinkRow, PageRows, PageTable, RedirectRo
 use wk_title::Title;
 
 /// The link tables and the redirect table, each kept by page where its rows are in the order of their pages.
-#[derive(Debug, Drop)]
+#[derive(Drop)]
 pub struct Links {
     pub pagelinks: PageTable<LinkRow, Title>,
     pub templatelinks: PageTable<LinkRow, Title>,

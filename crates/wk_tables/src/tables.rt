@@ -25,7 +25,7 @@ use wk_table_rules::BadStore;
 ///
 /// Where the rows are in order, as in a good store, the work of a change is in proportion to its edits, the rows of
 /// their pages and the logarithms of the numbers of pages and jobs. Elsewhere a change may go over all rows.
-#[derive(Debug, Drop)]
+#[derive(Drop)]
 pub struct Tables {
     pages: Vec<PageRow>,
     /// Whether the numbers of the pages rise.

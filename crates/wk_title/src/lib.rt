@@ -13,7 +13,7 @@ mod target;
 mod title;
 
 pub use characters::to_nfc;
-pub use namespace::{is_namespace, namespace_name};
+pub use namespace::{CATEGORY, TEMPLATE, is_namespace, namespace_name};
 pub use naming::{named, page_named};
 pub use rules::{normalize, shown};
 pub use spaces::{push_with_spaces, spaced};

@@ -4,6 +4,12 @@ ghost use Rattle.std.specs.Char.{to_ascii_lowercase};
 ghost use Rattle.wk_text_rules.specs.Titles.{is_namespace, namespace_name, namespace_called, underscored, same_but_case};
 ghost use Rattle.wk_title.specs.Names.{name_in, called_in};
 
+/// The number of the namespace Template.
+pub const TEMPLATE: i8 = 10;
+
+/// The number of the namespace Category.
+pub const CATEGORY: i8 = 14;
+
 /// Each namespace that has a name, as it is shown; main, number 0, has none.
 const NAMED: [(i8, &str); 17] = [
     (-2, "Media"),

@@ -13,7 +13,7 @@ use wk_memory::Memory;
 ///
 /// A title may be sent to other threads and shared between them. Titles are in order by the number of the
 /// namespace, and then by the bytes of the key (own).
-#[derive(Debug, Drop, PartialEq, Eq, PartialOrd, Ord, Hash)]
+#[derive(Drop, PartialEq, Eq, PartialOrd, Ord, Hash)]
 pub struct Title {
     ns: i8,
     key: Text,

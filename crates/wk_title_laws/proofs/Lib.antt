@@ -9,3 +9,4 @@ pub mod Names
 pub mod Raised
 pub mod Tables
 pub mod Trims
+pub mod NormalRows

@@ -9,13 +9,13 @@ use Rattle.std.proofs.lemmas.Bool.{and_from, and_parts, ne_eqb}
 use Rattle.std.proofs.lemmas.Slice.Eq.{bytes_eq-Decides, slice_eq-Decides}
 use Rattle.wk_text_rules.specs.Titles.{PageTitle, title_eq}
 use Rattle.wk_page_rules.specs.History.{History, Page}
-use Rattle.wk_row_rules.specs.PageRows.{Member, PageRows}
+use Rattle.wk_page_rules.specs.PageRows.{Member, PageRows}
 use Rattle.wk_view_rules.specs.Rows.{rows}
 use Rattle.wk_view_laws.proofs.PlanLemmas.{title_eq-same, title_eq-true}
-use Rattle.wk_state_rules.specs.States.{State, page_at, stored_at, world_of}
-use Rattle.wk_state_rules.specs.Soundness.{IsCurrent, IsSound}
-use Rattle.wk_state_laws.proofs.Sound.{IsCurrent-at_rest}
-use Rattle.wk_listing_rules.specs.Names.{member_eq}
+use Rattle.wk_wiki_rules.specs.States.{State, page_at, stored_at, world_of}
+use Rattle.wk_wiki_rules.specs.Soundness.{IsCurrent, IsSound}
+use Rattle.wk_wiki_laws.proofs.Sound.{IsCurrent-at_rest}
+use Rattle.wk_wiki_rules.specs.Names.{member_eq}
 use Rattle.wk_tool_rules.specs.Checks.{differing, differs, same_rows}
 
 -- ---- tests that decide

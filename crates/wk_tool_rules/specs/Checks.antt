@@ -5,11 +5,11 @@ use Rattle.std.specs.Fmt.{decimal}
 use Rattle.std.specs.Option.{option_eq}
 use Rattle.wk_text_rules.specs.Titles.{PageTitle, shown, title_eq}
 use Rattle.wk_page_rules.specs.History.{Page}
-use Rattle.wk_row_rules.specs.PageRows.{PageRows}
+use Rattle.wk_page_rules.specs.PageRows.{PageRows}
 use Rattle.wk_view_rules.specs.Rows.{rows}
-use Rattle.wk_state_rules.specs.States.{State, stored_at, world_of}
-use Rattle.wk_listing_rules.specs.Names.{member_eq}
-use Rattle.wk_listing_rules.specs.Revisions.{count_existing, numbered_pages}
+use Rattle.wk_wiki_rules.specs.States.{State, stored_at, world_of}
+use Rattle.wk_wiki_rules.specs.Names.{member_eq}
+use Rattle.wk_wiki_rules.specs.Revisions.{count_existing, numbered_pages}
 
 -- the same rows, in the same order
 abbrev pub same_rows : PageRows → PageRows → Bool

@@ -1,7 +1,7 @@
 -- `unfolding computing` lets `refl` compute the rules of this crate on states that are written out.
 use Rattle.std.specs.Fmt.{digits}
-use Rattle.wk_state_rules.specs.Computing.{computing as states}
-use Rattle.wk_listing_rules.specs.Computing.{computing as listings}
+use Rattle.wk_wiki_rules.specs.StateComputing.{computing as states}
+use Rattle.wk_wiki_rules.specs.ListingComputing.{computing as listings}
 use Rattle.wk_tool_rules.specs.Generator.{generated}
 use Rattle.wk_tool_rules.specs.Saving.{saves_made}
 

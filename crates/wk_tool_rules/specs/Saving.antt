@@ -2,9 +2,9 @@
 use Rattle.std.specs.Prelude.{ℕ, ◌+◌, List, [], ◌∷◌, Option, Some, None}
 use Rattle.wk_base.specs.Clock.{first_moment, later_moments}
 use Rattle.wk_page_rules.specs.Verdict.{EditAsked, MostHeld, Refusal, refuse, no_change, accept}
-use Rattle.wk_state_rules.specs.States.{State}
-use Rattle.wk_state_rules.specs.Events.{Event, Save, with_saved}
-use Rattle.wk_state_rules.specs.Verdicts.{verdict_in}
+use Rattle.wk_wiki_rules.specs.States.{State}
+use Rattle.wk_wiki_rules.specs.Events.{Event, Save, with_saved}
+use Rattle.wk_wiki_rules.specs.Verdicts.{verdict_in}
 
 -- the events that were made, the state behind them, and why the saves ended, if they didn't come to their end
 pub record SavesMade : Type 0 where

@@ -5,15 +5,15 @@ use Rattle.std.specs.List.{last_or}
 use Rattle.std.proofs.lemmas.Bool.{and_parts, cases_Bool, ltb-true}
 use Rattle.std.proofs.lemmas.List.{length-append, length-take}
 use Rattle.std.proofs.lemmas.List.Sums.{sum_by-cons}
-use Rattle.wk_row_rules.specs.PageRows.{PageRows, names}
-use Rattle.wk_job_rules.specs.Jobs.{FanEntry, JobLists, fan_dropped, fan_moved, has_refresh, refresh_queued, with_first_cursor}
-use Rattle.wk_job_rules.specs.Steps.{after_serving, all_queued, cursor_behind, next_served}
-use Rattle.wk_job_rules.specs.Users.{users}
-use Rattle.wk_state_rules.specs.States.{State}
-use Rattle.wk_state_rules.specs.Events.{Fan, step_by, with_jobs}
-use Rattle.wk_state_laws.specs.WellFormed.{IsWellFormed}
-use Rattle.wk_state_laws.proofs.Fanned.{fans-all_queued}
-use Rattle.wk_state_laws.proofs.Served.{found, uses, users-is}
+use Rattle.wk_page_rules.specs.PageRows.{PageRows, names}
+use Rattle.wk_wiki_rules.specs.Jobs.{FanEntry, JobLists, fan_dropped, fan_moved, has_refresh, refresh_queued, with_first_cursor}
+use Rattle.wk_wiki_rules.specs.Steps.{after_serving, all_queued, cursor_behind, next_served}
+use Rattle.wk_wiki_rules.specs.Users.{users}
+use Rattle.wk_wiki_rules.specs.States.{State}
+use Rattle.wk_wiki_rules.specs.Events.{Fan, step_by, with_jobs}
+use Rattle.wk_wiki_laws.specs.WellFormed.{IsWellFormed}
+use Rattle.wk_wiki_laws.proofs.Fanned.{fans-all_queued}
+use Rattle.wk_wiki_laws.proofs.Served.{found, uses, users-is}
 use Rattle.wk_wiki_laws.specs.Numbers.{pages_ahead}
 
 -- each page that a fan may serve counts twice, since its refresh is a job too

@@ -4,9 +4,9 @@ use Rattle.std.specs.Prelude.{option_and_then}
 use Rattle.std.specs.List.{list_any}
 use Rattle.std.proofs.lemmas.List.{append-nil}
 use Rattle.std.proofs.lemmas.List.Folds.{list_any-append}
-use Rattle.wk_state_rules.specs.States.{State}
-use Rattle.wk_state_rules.specs.Events.{Event}
-use Rattle.wk_state_rules.specs.Lives.{last_state, reopened, replay}
+use Rattle.wk_wiki_rules.specs.States.{State}
+use Rattle.wk_wiki_rules.specs.Events.{Event}
+use Rattle.wk_wiki_rules.specs.Lives.{last_state, reopened, replay}
 use Rattle.wk_wiki_rules.specs.Entries.{is_save}
 use Rattle.wk_wiki_rules.specs.Starts.{Start}
 use Rattle.wk_life_laws.specs.Runs.{IsRun}

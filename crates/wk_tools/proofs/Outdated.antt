@@ -6,9 +6,9 @@ use Rattle.std.proofs.lemmas.Bool.{cases_Bool, ne_eqb}
 use Rattle.std.proofs.lemmas.List.{append-nil, append_assoc, take_all}
 use Rattle.wk_text_rules.specs.Titles.{PageTitle}
 use Rattle.wk_page_rules.specs.History.{Page}
-use Rattle.wk_row_rules.specs.PageRows.{PageRows}
+use Rattle.wk_page_rules.specs.PageRows.{PageRows}
 use Rattle.wk_view_rules.specs.Rows.{rows}
-use Rattle.wk_state_rules.specs.States.{State, page_at, stored_at, world_of}
+use Rattle.wk_wiki_rules.specs.States.{State, page_at, stored_at, world_of}
 use Rattle.wk_tool_rules.specs.Checks.{differing, differs}
 use Rattle.wk_tool_laws.proofs.Differing.{current-page, same-page}
 use Rattle.wk_tools.specs.Outdated.{IsPageTitled, is_outdated, title_if}

@@ -6,12 +6,12 @@ use Rattle.std.proofs.lemmas.Bool.{cases_Bool, eq-eqb}
 use Rattle.std.proofs.lemmas.List.{append-nil, length-append}
 use Rattle.std.proofs.lemmas.List.Elements.{filter_map-append}
 use Rattle.std.proofs.lemmas.Option.{option_and_then_some}
-use Rattle.wk_job_rules.specs.Jobs.{RefreshEntry, claimed_by, first_claimed, first_queued, given_back, is_held_by, is_queued, jobs_of, jobs_of_others, page_held_by, queued_again, refresh_dropped}
-use Rattle.wk_job_rules.specs.Steps.{fan_pages}
-use Rattle.wk_job_rules.proofs.Lists.{eqb_flips}
-use Rattle.wk_state_rules.specs.States.{State}
-use Rattle.wk_state_rules.specs.Events.{Event, Claim, Done, Back, step, step_by, with_jobs, with_refreshed}
-use Rattle.wk_state_rules.specs.Lives.{replay_from}
+use Rattle.wk_wiki_rules.specs.Jobs.{RefreshEntry, claimed_by, first_claimed, first_queued, given_back, is_held_by, is_queued, jobs_of, jobs_of_others, page_held_by, queued_again, refresh_dropped}
+use Rattle.wk_wiki_rules.specs.Steps.{fan_pages}
+use Rattle.wk_wiki_rules.proofs.Lists.{eqb_flips}
+use Rattle.wk_wiki_rules.specs.States.{State}
+use Rattle.wk_wiki_rules.specs.Events.{Event, Claim, Done, Back, step, step_by, with_jobs, with_refreshed}
+use Rattle.wk_wiki_rules.specs.Lives.{replay_from}
 use Rattle.wk_wiki_laws.specs.Tickets.{tickets_of}
 use Rattle.wk_wiki_laws.proofs.TicketSteps.{brought-in}
 use Rattle.wk_wiki_laws.proofs.Tickets.{at-find, tickets-again, tickets_in}

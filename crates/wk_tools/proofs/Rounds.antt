@@ -8,13 +8,13 @@ use Rattle.std.proofs.lemmas.List.Sums.{sum_by-cons}
 use Rattle.wk_base.specs.Faults.{Rose}
 use Rattle.wk_page_rules.specs.Verdict.{MostHeld, max_job}
 use Rattle.wk_table_rules.specs.Rows.{StoreTables}
-use Rattle.wk_job_rules.specs.Jobs.{FanEntry, JobLists, RefreshEntry, first_fan, first_queued, is_claimed, is_queued, queued_again}
-use Rattle.wk_job_rules.specs.Steps.{by_number, fan_pages}
-use Rattle.wk_job_rules.proofs.JobLemmas.{by_number-permutes}
-use Rattle.wk_state_rules.specs.States.{State}
-use Rattle.wk_state_rules.specs.Events.{Event, Claim, Done, Back, Fan}
-use Rattle.wk_state_rules.specs.Lives.{reopened, replay, replay_from}
-use Rattle.wk_state_laws.proofs.Histories.{history-fanned}
+use Rattle.wk_wiki_rules.specs.Jobs.{FanEntry, JobLists, RefreshEntry, first_fan, first_queued, is_claimed, is_queued, queued_again}
+use Rattle.wk_wiki_rules.specs.Steps.{by_number, fan_pages}
+use Rattle.wk_wiki_rules.proofs.JobLemmas.{by_number-permutes}
+use Rattle.wk_wiki_rules.specs.States.{State}
+use Rattle.wk_wiki_rules.specs.Events.{Event, Claim, Done, Back, Fan}
+use Rattle.wk_wiki_rules.specs.Lives.{reopened, replay, replay_from}
+use Rattle.wk_wiki_laws.proofs.Histories.{history-fanned}
 use Rattle.wk_wiki_laws.specs.Numbers.{pages_ahead}
 use Rattle.wk_wiki_laws.proofs.NumberBounds.{sum-reopened, sum-replay, sum-step}
 use Rattle.wk_wiki_laws.proofs.TicketSteps.{fanned-is}

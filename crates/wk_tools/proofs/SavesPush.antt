@@ -5,11 +5,11 @@ use Rattle.std.proofs.lemmas.List.{append-nil, length-append}
 use Rattle.wk_base.specs.Clock.{Ticks, later_moments}
 use Rattle.wk_table_rules.specs.Rows.{StoreTables}
 use Rattle.wk_page_rules.specs.Verdict.{EditAsked, MostHeld, Verdict, accept, no_change, refuse}
-use Rattle.wk_job_rules.specs.Steps.{fan_pages}
-use Rattle.wk_state_rules.specs.States.{State}
-use Rattle.wk_state_rules.specs.Events.{Event, Save, step_by, with_saved}
-use Rattle.wk_state_rules.specs.Lives.{replay_from}
-use Rattle.wk_state_rules.specs.Verdicts.{event_of, verdict_in}
+use Rattle.wk_wiki_rules.specs.Steps.{fan_pages}
+use Rattle.wk_wiki_rules.specs.States.{State}
+use Rattle.wk_wiki_rules.specs.Events.{Event, Save, step_by, with_saved}
+use Rattle.wk_wiki_rules.specs.Lives.{replay_from}
+use Rattle.wk_wiki_rules.specs.Verdicts.{event_of, verdict_in}
 use Rattle.wk_tool_rules.specs.Saving.{SavesMade, saves_made}
 use Rattle.wk_wiki_laws.proofs.Parts.{replay-append}
 use Rattle.wk_wiki_laws.proofs.TicketSteps.{saved-is}

@@ -1,7 +1,7 @@
 -- When jobs are left, and when a journal is full for good (own).
 use Rattle.std.specs.Prelude.{◌≡◌, ◌⊎◌, ◌+◌, ◌<◌, []}
 use Rattle.wk_page_rules.specs.Verdict.{max_job}
-use Rattle.wk_state_rules.specs.States.{State}
+use Rattle.wk_wiki_rules.specs.States.{State}
 use Rattle.wk_wiki_laws.specs.Numbers.{pages_ahead}
 use Rattle.wk_core.specs.Seen.{WikiSeen}
 

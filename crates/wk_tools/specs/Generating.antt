@@ -4,7 +4,7 @@ use Rattle.std.specs.List.{range_with_len}
 use Rattle.wk_base.specs.Clock.{Ticks}
 use Rattle.wk_table_rules.specs.Rows.{StoreTables}
 use Rattle.wk_page_rules.specs.Verdict.{EditAsked, refuse}
-use Rattle.wk_state_rules.specs.Verdicts.{event_of}
+use Rattle.wk_wiki_rules.specs.Verdicts.{event_of}
 use Rattle.wk_wiki_rules.specs.SaveOutcomes.{SaveOutcome, save_outcome}
 use Rattle.wk_tool_rules.specs.Generator.{infobox_text, note_text, page_drawn, page_name, page_saves, plain_save}
 use Rattle.wk_revs.specs.Verdict.{refusal_of}

@@ -1,10 +1,10 @@
 -- What a tool leaves of a wiki: many events, and lives one after the other (own).
 use Rattle.std.specs.Prelude.{◌≡◌, Bool, false, List, ◌++◌, length, Some}
 use Rattle.std.specs.List.{list_any}
-use Rattle.wk_job_rules.specs.Steps.{fan_pages}
-use Rattle.wk_state_rules.specs.States.{State}
-use Rattle.wk_state_rules.specs.Events.{Event}
-use Rattle.wk_state_rules.specs.Lives.{replay, replay_from, Lives}
+use Rattle.wk_wiki_rules.specs.Steps.{fan_pages}
+use Rattle.wk_wiki_rules.specs.States.{State}
+use Rattle.wk_wiki_rules.specs.Events.{Event}
+use Rattle.wk_wiki_rules.specs.Lives.{replay, replay_from, Lives}
 use Rattle.wk_wiki_rules.specs.Entries.{is_save}
 use Rattle.wk_core.specs.Seen.{WikiSeen}
 

@@ -3,7 +3,7 @@ use Rattle.std.specs.Prelude.{◌≡◌, ℕ, Bool, not, List, [], ◌∷◌, So
 use Rattle.wk_text_rules.specs.Titles.{PageTitle}
 use Rattle.wk_page_rules.specs.History.{Page}
 use Rattle.wk_view_rules.specs.Rows.{rows}
-use Rattle.wk_state_rules.specs.States.{State, page_at, stored_at, world_of}
+use Rattle.wk_wiki_rules.specs.States.{State, page_at, stored_at, world_of}
 use Rattle.wk_tool_rules.specs.Checks.{same_rows}
 
 abbrev pub is_outdated : State → ℕ → PageTitle → Bool

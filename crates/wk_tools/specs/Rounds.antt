@@ -4,9 +4,9 @@ use Rattle.std.specs.List.{list_any}
 use Rattle.wk_base.specs.Faults.{Rose}
 use Rattle.wk_page_rules.specs.Verdict.{max_job}
 use Rattle.wk_table_rules.specs.Rows.{StoreTables}
-use Rattle.wk_state_rules.specs.States.{State}
-use Rattle.wk_state_rules.specs.Events.{Event, Claim, Done, Back, Fan}
-use Rattle.wk_state_rules.specs.Lives.{Lives, reopened, replay}
+use Rattle.wk_wiki_rules.specs.States.{State}
+use Rattle.wk_wiki_rules.specs.Events.{Event, Claim, Done, Back, Fan}
+use Rattle.wk_wiki_rules.specs.Lives.{Lives, reopened, replay}
 use Rattle.wk_wiki_laws.specs.Numbers.{pages_ahead}
 use Rattle.wk_core.specs.Seen.{WikiSeen}
 use Rattle.wk_core.specs.Steps.{GoesOn, HasMade, HasMadeNothing}

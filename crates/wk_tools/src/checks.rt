@@ -1,8 +1,8 @@
 //! A check of the link rows of all pages.
 ghost use Rattle.std.specs.Prelude.{◌≡◌, ◌↔◌, ◌≤◌, ◌++◌, length, IfOk, IsTrue, OnOk};
 ghost use Rattle.wk_view_rules.specs.Rows.{rows};
-ghost use Rattle.wk_state_rules.specs.States.{stored_at, world_of};
-ghost use Rattle.wk_state_laws.specs.Kept.{IsKept};
+ghost use Rattle.wk_wiki_rules.specs.States.{stored_at, world_of};
+ghost use Rattle.wk_wiki_laws.specs.Kept.{IsKept};
 ghost use Rattle.wk_tool_rules.specs.Checks.{differing};
 ghost use Rattle.wk_tools.specs.Outdated.{IsPageTitled, is_outdated, title_if};
 

@@ -1,7 +1,7 @@
 //! Drains on one thread.
 ghost use Rattle.std.specs.Prelude.{◌≡◌, ◌≢◌, ◌<◌, None, Some, [], length, IfNone, IsSome};
 ghost use Rattle.wk_base.specs.Faults.{Rose};
-ghost use Rattle.wk_job_rules.specs.Jobs.{first_fan, first_queued};
+ghost use Rattle.wk_wiki_rules.specs.Jobs.{first_fan, first_queued};
 ghost use Rattle.wk_core.specs.Steps.{GoesOn};
 ghost use Rattle.wk_tools.specs.Lived.{HasLived};
 ghost use Rattle.wk_tools.specs.Drains.{CanBeFull, HasNoJob};
@@ -12,7 +12,7 @@ use wk_core::{FanRefusal, Keeper, Wiki};
 use wk_expand::Trees;
 
 /// How a drain ends.
-#[derive(Clone, Copy, Debug, PartialEq, Eq)]
+#[derive(Clone, Copy, PartialEq, Eq)]
 pub enum DrainEnd {
     /// No job is left.
     Done,

@@ -1,8 +1,8 @@
 //! Refreshes on one thread.
 ghost use Rattle.std.specs.Prelude.{◌≡◌, ◌≢◌, ◌⊎◌, ◌+◌, ◌∷◌, [], true, false, None, IsSome, length, OnOk};
 ghost use Rattle.wk_base.specs.Faults.{Rose};
-ghost use Rattle.wk_job_rules.specs.Jobs.{first_queued};
-ghost use Rattle.wk_state_rules.specs.Events.{Back, Claim, Done};
+ghost use Rattle.wk_wiki_rules.specs.Jobs.{first_queued};
+ghost use Rattle.wk_wiki_rules.specs.Events.{Back, Claim, Done};
 ghost use Rattle.wk_wiki_laws.specs.Tickets.{tickets_of};
 ghost use Rattle.wk_core.specs.Answers.{event_of_answer, told_stale};
 ghost use Rattle.wk_core.specs.Seen.{is_claim_refused_now};
@@ -11,9 +11,9 @@ ghost use Rattle.wk_core.specs.Tickets.{IsOut};
 ghost use Rattle.wk_tools.specs.Lived.{HasMadeEach};
 
 use thiserror::Error;
-use wk_call_laws::refreshes::present_answers_have_present_marks;
 use wk_core::{ClaimRefusal, Finished, Keeper, Ticket, Wiki, a_draft_stays_fit};
 use wk_expand::{Root, Trees};
+use wk_life_laws::refreshes::present_answers_have_present_marks;
 use wk_present::draft_now;
 
 /// Why no page was refreshed.

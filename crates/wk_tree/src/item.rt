@@ -2,11 +2,11 @@
 
 /// A node of a tree: how many nodes stand behind it in a walk from the root, which meets each node before those that
 /// stand in it, in the order of the text.
-#[derive(Clone, Copy, Debug, PartialEq, Eq)]
+#[derive(Clone, Copy, PartialEq, Eq)]
 pub struct NodeId(pub(crate) u32);
 
 /// A list of a tree.
-#[derive(Clone, Copy, Debug, PartialEq, Eq)]
+#[derive(Clone, Copy, PartialEq, Eq)]
 pub enum ListId {
     /// The whole tree.
     Root,
@@ -19,7 +19,7 @@ pub enum ListId {
 }
 
 /// An item of a list. Places and lengths are of the selected text, in bytes.
-#[derive(Clone, Copy, Debug, PartialEq, Eq)]
+#[derive(Clone, Copy, PartialEq, Eq)]
 pub enum Item {
     /// Plain text, as much of it as stands together.
     Plain {

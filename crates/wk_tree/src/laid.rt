@@ -11,14 +11,14 @@ use crate::item::{Item, NodeId};
 use std::slice;
 
 /// Where some stand among all: the place of the first, and how many they are.
-#[derive(Clone, Copy, Debug, PartialEq, Eq)]
+#[derive(Clone, Copy, PartialEq, Eq)]
 pub struct Range {
     pub start: u32,
     pub len: u32,
 }
 
 /// The items of a list, in the order of the text. More than one stand among those of all lists.
-#[derive(Clone, Copy, Debug, PartialEq, Eq)]
+#[derive(Clone, Copy, PartialEq, Eq)]
 pub enum Listed {
     Empty,
     One(Item),
@@ -26,7 +26,7 @@ pub enum Listed {
 }
 
 /// The lists of a part, and the span of its value.
-#[derive(Clone, Copy, Debug, PartialEq, Eq)]
+#[derive(Clone, Copy, PartialEq, Eq)]
 pub struct PartLists {
     pub name: Option<Listed>,
     pub value: Listed,
@@ -35,7 +35,7 @@ pub struct PartLists {
 }
 
 /// The lists and the span of a node. Its parts stand among those of all nodes.
-#[derive(Clone, Copy, Debug, PartialEq, Eq)]
+#[derive(Clone, Copy, PartialEq, Eq)]
 pub struct NodeLists {
     pub argument: bool,
     pub start: u32,
@@ -45,14 +45,14 @@ pub struct NodeLists {
 }
 
 /// Items and parts of several lists, one list behind the other.
-#[derive(Debug, Drop)]
+#[derive(Drop)]
 pub struct Lists {
     pub items: Vec<Item>,
     pub parts: Vec<PartLists>,
 }
 
 /// A tree: the root's list, the items among which it stands, the other lists, and the nodes from the last.
-#[derive(Debug, Drop)]
+#[derive(Drop)]
 pub struct Laid {
     pub root: Listed,
     pub root_items: Vec<Item>,

@@ -14,7 +14,7 @@ use wk_memory::Memory;
 
 /// Items that were met from the last to the first: the first of them in the text, and how many others there are, which
 /// stand on a stack, the next in the text uppermost; there are none where there is no first. How many bytes they stand for.
-#[derive(Clone, Copy, Debug, PartialEq, Eq)]
+#[derive(Clone, Copy, PartialEq, Eq)]
 pub struct Section {
     pub first: Option<Item>,
     pub others: u32,
@@ -23,7 +23,7 @@ pub struct Section {
 
 /// What was met of a node: the items up to the next equals sign or bar, the place of the equals sign if it is one, the
 /// items behind it, how many parts stand behind them, which are on a stack, and how many bytes all stand for.
-#[derive(Clone, Copy, Debug, PartialEq, Eq)]
+#[derive(Clone, Copy, PartialEq, Eq)]
 pub struct OpenNode {
     pub section: Section,
     pub equals: Option<u32>,
@@ -34,7 +34,7 @@ pub struct OpenNode {
 
 /// The innermost node that isn't met wholly, those around it from the outermost, and a stack of their items and one of
 /// their parts; the lists that are met, each in the order of the text, and the nodes that are, from the last.
-#[derive(Debug, Drop)]
+#[derive(Drop)]
 pub struct Layout {
     pub open_node: OpenNode,
     pub outer: Vec<OpenNode>,

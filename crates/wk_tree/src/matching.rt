@@ -21,7 +21,7 @@ use wk_memory::Memory;
 const MAX_HEIGHT: usize = 100;
 
 /// A run of delimiters.
-#[derive(Clone, Copy, Debug, PartialEq, Eq)]
+#[derive(Clone, Copy, PartialEq, Eq)]
 pub struct Run {
     /// Whether they are brackets, and not braces.
     pub brackets: bool,
@@ -32,7 +32,7 @@ pub struct Run {
 }
 
 /// An opening run that may still be matched.
-#[derive(Clone, Copy, Debug, PartialEq, Eq)]
+#[derive(Clone, Copy, PartialEq, Eq)]
 pub struct Opener {
     /// What is left of it.
     pub run: Run,
@@ -45,7 +45,7 @@ pub struct Opener {
 }
 
 /// What has been seen of a text.
-#[derive(Debug, Drop)]
+#[derive(Drop)]
 pub struct Matching {
     /// The tokens of all that was seen.
     pub tokens: Vec<Token>,
@@ -223,7 +223,7 @@ fn make_brackets(matching: &mut Matching, opener: &Opener, run: Run) -> Result<R
 }
 
 /// What comes of an opening and a closing run.
-#[derive(Clone, Copy, Debug, PartialEq, Eq)]
+#[derive(Clone, Copy, PartialEq, Eq)]
 pub enum Way {
     /// A node.
     Node,

@@ -60,7 +60,7 @@ fn laid_of(alloc: Global, mode: Mode, source: &[u8]) -> Result<Laid, Memory>
 }
 
 /// A text, and how it is read: its tree is that of the definition. Contracts see the text's bytes and the mode.
-#[derive(Debug, Drop)]
+#[derive(Drop)]
 pub struct Parsed {
     mode: Mode,
     text: Text,
@@ -119,7 +119,7 @@ pub fn parse(alloc: Global, text: &Text, mode: Mode) -> Result<Parsed, Memory>
 pub type Items<'a> = slice::Iter<'a, Item>;
 
 /// A further part of a node.
-#[derive(Clone, Copy, Debug, PartialEq, Eq)]
+#[derive(Clone, Copy, PartialEq, Eq)]
 pub struct Part {
     /// Its name, where it has an equals sign.
     pub name: Option<ListId>,

@@ -2,7 +2,7 @@
 
 /// A token of the list. Each run of delimiters has as many tokens as delimiters while it may still be matched, so that what
 /// becomes of its delimiters is written in their places (own).
-#[derive(Clone, Copy, Debug, PartialEq, Eq)]
+#[derive(Clone, Copy, PartialEq, Eq)]
 pub enum Token {
     /// Plain text.
     Plain {

@@ -4,7 +4,7 @@
 #![tactic(auto)]
 
 /// How a text is read (MediaWiki's Help:Templates, 'Control template inclusion').
-#[derive(Clone, Copy, Debug, PartialEq, Eq)]
+#[derive(Clone, Copy, PartialEq, Eq)]
 pub enum Mode {
     /// As the viewed page's own text.
     View,
@@ -13,7 +13,7 @@ pub enum Mode {
 }
 
 /// What an atom of a text is (MediaWiki's Preprocessor ABNF; the kinds are the profile's).
-#[derive(Clone, Copy, Debug, PartialEq, Eq)]
+#[derive(Clone, Copy, PartialEq, Eq)]
 pub enum AtomKind {
     /// A line that holds comments and blanks alone, with its newline. Gives nothing.
     LineComment,

@@ -39,7 +39,7 @@ pub enum StoreCause {
 }
 
 /// Why a store isn't opened.
-#[derive(Clone, Copy, Debug, PartialEq, Eq)]
+#[derive(Clone, Copy, PartialEq, Eq)]
 pub enum Refusal {
     /// Memory ran out.
     Memory,

@@ -20,7 +20,7 @@ use Rattle.wk_text_rules.specs.Shapes.{Span, spans, spans_from}
 use Rattle.wk_text_rules.specs.Titles.{PageTitle, normal, is_virtual, title_cmp}
 use Rattle.wk_tree_rules.specs.Redirects.{redirect_target}
 use Rattle.wk_view_rules.specs.Plans.{reads_of}
-use Rattle.wk_row_rules.specs.PageRows.{Member}
+use Rattle.wk_page_rules.specs.PageRows.{Member}
 use Rattle.wk_view_rules.specs.Rows.{put_in_order, in_title_order, titles_read, page_linked, membership, sortkey_of, rows, rows_at, rows_by}
 use Rattle.wk_view_rules.specs.Views.{turned}
 use Rattle.wk_view_rules.specs.Worlds.{is_read_of, kind_eq, page_of, PageText, Read, World, of_world}

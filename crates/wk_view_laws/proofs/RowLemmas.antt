@@ -13,8 +13,8 @@ use Rattle.std.proofs.lemmas.List.Folds.{list_any_at}
 use Rattle.std.specs.Prelude.{◌⊎◌}
 use Rattle.std.proofs.lemmas.Map.Text.{is_eq-slice_cmp}
 use Rattle.wk_text_rules.specs.Titles.{PageTitle, title_cmp, title_eq}
-use Rattle.wk_row_rules.specs.PageRows.{names}
-use Rattle.wk_row_rules.specs.declared.Reach.TheVariants.{Text, Both}
+use Rattle.wk_page_rules.specs.PageRows.{names}
+use Rattle.wk_page_rules.specs.declared.Reach.TheVariants.{Text, Both}
 use Rattle.wk_tree_rules.specs.Tree.{tree}
 use Rattle.wk_tree_rules.specs.declared.Mode.TheVariants as mode
 use Rattle.wk_view_rules.specs.Expand.{expand}

@@ -11,7 +11,7 @@ use Rattle.wk_tree_rules.specs.declared.Mode.TheVariants.{View}
 use Rattle.wk_view_rules.specs.Expand.{expand}
 use Rattle.wk_view_rules.specs.Expansions.{Output, Progress, no_counters, no_progress, most_nodes, most_open}
 use Rattle.wk_view_rules.specs.Plans.{Plan, gives, asks, and_then, Outcome, done, need, noted, run, reads_of, IsDone}
-use Rattle.wk_row_rules.specs.PageRows.{no_rows}
+use Rattle.wk_page_rules.specs.PageRows.{no_rows}
 use Rattle.wk_view_rules.specs.Rows.{rows, rows_at, rows_by, in_title_order}
 use Rattle.wk_view_rules.specs.Views.{Expanded, expanded_by, view, view_plan, text_plan}
 use Rattle.wk_view_rules.specs.Worlds.{Answer, existence, PageText, Read, Source, World, of_world, ask, page_of, is_read_of, Agrees}

@@ -2,7 +2,7 @@
 use Rattle.std.specs.Prelude.{◌≡◌, ℤ, pos, true, false, List, ℕ, All, AllPairs, IfSome, Some}
 use Rattle.std.specs.declared.cmp.Ordering.TheVariants.{Less}
 use Rattle.wk_text_rules.specs.Titles.{PageTitle, normal, is_namespace, is_virtual, title_cmp}
-use Rattle.wk_row_rules.specs.PageRows.{Member, PageRows}
+use Rattle.wk_page_rules.specs.PageRows.{Member, PageRows}
 
 -- A text names the title, in a namespace of the table, and a page can have it.
 pub record IsPageTitle (title : PageTitle) : Type 0 where

@@ -4,8 +4,8 @@
 ghost use Rattle.std.specs.Prelude.{◌≡◌, ◌≢◌, ◌||◌, false, is_some, ℕ, ◌<◌, ◌≤◌, List, [], length, None, Some};
 ghost use Rattle.std.specs.List.{list_any};
 ghost use Rattle.wk_text_rules.specs.Titles.{PageTitle};
-ghost use Rattle.wk_row_rules.specs.PageRows.{no_rows, names};
-ghost use Rattle.wk_row_rules.specs.declared.Reach.TheVariants.{Text, Both};
+ghost use Rattle.wk_page_rules.specs.PageRows.{no_rows, names};
+ghost use Rattle.wk_page_rules.specs.declared.Reach.TheVariants.{Text, Both};
 ghost use Rattle.wk_tree_rules.specs.Tree.{tree, nodes, Part};
 ghost use Rattle.wk_tree_rules.specs.Trees.{Item};
 ghost use Rattle.wk_tree_rules.specs.declared.Mode.TheVariants as mode;

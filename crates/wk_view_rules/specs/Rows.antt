@@ -5,7 +5,7 @@ use Rattle.std.specs.declared.cmp.Ordering.TheVariants.{Less, Equal, Greater}
 use Rattle.wk_text_rules.specs.Marked.{MarkedByte}
 use Rattle.wk_text_rules.specs.Occurrences.{Occurrence, page, member, nothing, occurrences}
 use Rattle.wk_text_rules.specs.Titles.{PageTitle, title_cmp, with_spaces}
-use Rattle.wk_row_rules.specs.PageRows.{Member, PageRows, no_rows}
+use Rattle.wk_page_rules.specs.PageRows.{Member, PageRows, no_rows}
 use Rattle.wk_view_rules.specs.Plans.{Outcome, done, need}
 use Rattle.wk_view_rules.specs.Views.{Expanded, view, turned}
 use Rattle.wk_view_rules.specs.Worlds.{World, Read, of_world, kind_eq}

@@ -4,7 +4,7 @@
 #![tactic(auto)]
 
 /// What is asked of a title (own).
-#[derive(Clone, Copy, Debug, PartialEq, Eq)]
+#[derive(Clone, Copy, PartialEq, Eq)]
 pub enum Kind {
     /// The text of the viewed page itself.
     View,
@@ -15,7 +15,7 @@ pub enum Kind {
 }
 
 /// A variable (MediaWiki's Help:Magic words).
-#[derive(Clone, Copy, Debug, PartialEq, Eq)]
+#[derive(Clone, Copy, PartialEq, Eq)]
 pub enum Var {
     /// `!`, which gives a `|`.
     Bar,
@@ -28,7 +28,7 @@ pub enum Var {
 }
 
 /// A function (MediaWiki's Help:Extension:ParserFunctions).
-#[derive(Clone, Copy, Debug, PartialEq, Eq)]
+#[derive(Clone, Copy, PartialEq, Eq)]
 pub enum Func {
     /// `#if`.
     If,
@@ -43,7 +43,7 @@ pub enum Func {
 }
 
 /// What the title part of a template node calls.
-#[derive(Clone, Copy, Debug, PartialEq, Eq)]
+#[derive(Clone, Copy, PartialEq, Eq)]
 pub enum Word {
     /// A variable.
     Variable(Var),
@@ -54,7 +54,7 @@ pub enum Word {
 }
 
 /// What an item of a `#switch` is for the search.
-#[derive(Clone, Copy, Debug, PartialEq, Eq)]
+#[derive(Clone, Copy, PartialEq, Eq)]
 pub enum Turned {
     /// The item gives the result: its own value, or for a bare item the value of the next item with an equals sign.
     Result,

@@ -8,26 +8,26 @@ use Rattle.std.proofs.lemmas.Bool.{cases_Bool, cond_both, and_from, or_left, or_
 use Rattle.std.proofs.lemmas.List.Elements.{recursion_from_All}
 use Rattle.wk_text_rules.specs.Titles.{PageTitle, title_eq}
 use Rattle.wk_page_rules.specs.History.{History, Page, current_revision, next_revision, page_exists, page_number, page_to_save, saved}
-use Rattle.wk_row_rules.specs.PageRows.{PageRows, no_rows}
+use Rattle.wk_page_rules.specs.PageRows.{PageRows, no_rows}
 use Rattle.wk_table_rules.specs.Rows.{StoreTables, PageColumns, RevisionColumns, LinkColumns, CategoryColumns, RedirectColumns, JobColumns, newest_version}
 use Rattle.wk_table_rules.specs.Changes.{add_revision, set_page, set_rows, drop_job, edited, edit_fits, has_page, namespace_of, link_row, category_row, redirect_row, with_page, with_rows_of}
-use Rattle.wk_job_rules.specs.Jobs.{RefreshEntry, FanEntry, JobLists, IsNumbered, IsOneATitle, is_held_by, pages_of, first_fan, first_queued, page_held_by, refresh_queued, refresh_dropped, claimed_by, given_back}
-use Rattle.wk_job_rules.specs.Steps.{all_queued, after_serving, cursor_behind, next_served, reach_of_save, rows_of_jobs, by_number}
-use Rattle.wk_job_rules.specs.Users.{users}
+use Rattle.wk_wiki_rules.specs.Jobs.{RefreshEntry, FanEntry, JobLists, IsNumbered, IsOneATitle, is_held_by, pages_of, first_fan, first_queued, page_held_by, refresh_queued, refresh_dropped, claimed_by, given_back}
+use Rattle.wk_wiki_rules.specs.Steps.{all_queued, after_serving, cursor_behind, next_served, reach_of_save, rows_of_jobs, by_number}
+use Rattle.wk_wiki_rules.specs.Users.{users}
 use Rattle.wk_table_rules.specs.JobTable.{refresh_row}
-use Rattle.wk_job_rules.proofs.JobLemmas.{IsNumbered-queued}
+use Rattle.wk_wiki_rules.proofs.JobLemmas.{IsNumbered-queued}
 use Rattle.wk_view_rules.specs.Rows.{rows}
-use Rattle.wk_state_rules.specs.States.{State, title_at, stored_at, world_of}
-use Rattle.wk_state_rules.specs.Events.{Save, Claim, Done, Back, Fan, stored_with, with_saved, with_refreshed, with_jobs, step_by}
-use Rattle.wk_state_rules.specs.Lives.{reopened}
-use Rattle.wk_state_rules.specs.Tables.{tables_of, page_row, revision_row, link_rows, rows_of_pages}
-use Rattle.wk_state_laws.specs.Kept.{IsKept}
-use Rattle.wk_state_laws.proofs.SavedHistory.{Stands, text-own}
-use Rattle.wk_state_laws.proofs.Formed.{Within, placed-in}
-use Rattle.wk_state_laws.proofs.Fanned.{fans-all_queued, fans-queued}
-use Rattle.wk_state_laws.proofs.TableHistory.{map-push, pages-old, pages-added}
-use Rattle.wk_state_laws.proofs.TableJobs.{got}
-use Rattle.wk_state_laws.proofs.TableLinks.{page-there, namespace-is}
+use Rattle.wk_wiki_rules.specs.States.{State, title_at, stored_at, world_of}
+use Rattle.wk_wiki_rules.specs.Events.{Save, Claim, Done, Back, Fan, stored_with, with_saved, with_refreshed, with_jobs, step_by}
+use Rattle.wk_wiki_rules.specs.Lives.{reopened}
+use Rattle.wk_wiki_rules.specs.Tables.{tables_of, page_row, revision_row, link_rows, rows_of_pages}
+use Rattle.wk_wiki_laws.specs.Kept.{IsKept}
+use Rattle.wk_wiki_laws.proofs.SavedHistory.{Stands, text-own}
+use Rattle.wk_wiki_laws.proofs.Formed.{Within, placed-in}
+use Rattle.wk_wiki_laws.proofs.Fanned.{fans-all_queued, fans-queued}
+use Rattle.wk_wiki_laws.proofs.TableHistory.{map-push, pages-old, pages-added}
+use Rattle.wk_wiki_laws.proofs.TableJobs.{got}
+use Rattle.wk_wiki_laws.proofs.TableLinks.{page-there, namespace-is}
 use Rattle.wk_view_laws.proofs.PlanLemmas.{title_eq-true}
 use Rattle.wk_wiki_rules.specs.TableChanges.{row_of_fan, refresh_edits, refreshes_edits, fan_edits, saved_revision, saved_page, save_change, refresh_change, refresh_change_without_rows, served_edit, fan_change, job_held_by}
 use Rattle.wk_wiki_laws.specs.Makes.{Makes}

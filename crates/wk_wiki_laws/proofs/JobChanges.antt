@@ -10,11 +10,11 @@ use Rattle.wk_text_rules.specs.Titles.{PageTitle}
 use Rattle.wk_table_rules.specs.Rows.{JobColumns, StoreTables}
 use Rattle.wk_table_rules.specs.Changes.{TableEdit, add_job, set_job, drop_job, applied, edited, edit_fits, fits, with_job, without_job}
 use Rattle.wk_table_rules.specs.JobTable.{refresh_row}
-use Rattle.wk_job_rules.specs.Jobs.{RefreshEntry, FanEntry, JobLists, IsNumbered, numbers_of, has_refresh, refresh_queued}
-use Rattle.wk_job_rules.specs.Steps.{all_queued, by_number, rows_of_jobs}
-use Rattle.wk_job_rules.proofs.Lists.{map-map}
-use Rattle.wk_job_rules.proofs.JobLemmas.{IsNumbered-queued}
-use Rattle.wk_job_laws.proofs.Order.{by_number-map}
+use Rattle.wk_wiki_rules.specs.Jobs.{RefreshEntry, FanEntry, JobLists, IsNumbered, numbers_of, has_refresh, refresh_queued}
+use Rattle.wk_wiki_rules.specs.Steps.{all_queued, by_number, rows_of_jobs}
+use Rattle.wk_wiki_rules.proofs.Lists.{map-map}
+use Rattle.wk_wiki_rules.proofs.JobLemmas.{IsNumbered-queued}
+use Rattle.wk_table_laws.proofs.Order.{by_number-map}
 use Rattle.wk_wiki_rules.specs.TableChanges.{row_of_fan, refresh_edits, refreshes_edits}
 use Rattle.wk_wiki_laws.specs.Makes.{Makes}
 use Rattle.wk_wiki_laws.proofs.JobOrder.{each-weaker, Apart, Apart-by_number, by_number-greatest, all-below, each-by_number, any-by_number, by_number-filter, replaced, found-within, set-replaces, remove-filters}

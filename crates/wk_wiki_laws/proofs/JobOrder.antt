@@ -7,10 +7,10 @@ use Rattle.std.proofs.lemmas.Bool.{cases_Bool, and_from, ltb-true, ltb-false, lt
 use Rattle.std.proofs.lemmas.List.Sums.{fold-append}
 use Rattle.std.proofs.lemmas.List.Sorted.{IsPermutation-map, list_any-IsPermutation}
 use Rattle.std.proofs.lemmas.Map.Keys.{IsDistinct-IsPermutation}
-use Rattle.wk_job_rules.specs.Steps.{placed, by_number}
-use Rattle.wk_job_rules.proofs.JobLemmas.{by_number-permutes}
-use Rattle.wk_job_rules.proofs.Lists.{eqb_flips}
-use Rattle.wk_job_laws.proofs.Order.{each-placed, filter_map-by_number}
+use Rattle.wk_wiki_rules.specs.Steps.{placed, by_number}
+use Rattle.wk_wiki_rules.proofs.JobLemmas.{by_number-permutes}
+use Rattle.wk_wiki_rules.proofs.Lists.{eqb_flips}
+use Rattle.wk_table_laws.proofs.Order.{each-placed, filter_map-by_number}
 
 -- ---- each of a list
 

@@ -8,15 +8,15 @@ use Rattle.std.proofs.lemmas.List.Elements.{filter-append, filter_agree}
 use Rattle.std.proofs.lemmas.List.Folds.{list_any-append}
 use Rattle.std.proofs.lemmas.List.Sums.{fold-append}
 use Rattle.wk_text_rules.specs.Titles.{PageTitle, title_eq}
-use Rattle.wk_row_rules.specs.declared.Reach.{Reach}
-use Rattle.wk_row_rules.specs.PageRows.{PageRows}
+use Rattle.wk_page_rules.specs.declared.Reach.{Reach}
+use Rattle.wk_page_rules.specs.PageRows.{PageRows}
 use Rattle.wk_table_rules.specs.Rows.{JobColumns, StoreTables}
 use Rattle.wk_table_rules.specs.Changes.{TableEdit, add_job, set_job, drop_job}
-use Rattle.wk_job_rules.specs.Jobs.{RefreshEntry, FanEntry, JobLists, IsNumbered, IsOneAPage, IsOneATitle, is_queued, has_fan, wider, first_claimed, jobs_of, jobs_of_others, queued_again, set_anew, refresh_dropped, fan_set, fan_moved, fan_dropped, claimed_by, given_back}
-use Rattle.wk_job_rules.specs.Steps.{placed, by_number, rows_of_jobs, reopened_jobs}
-use Rattle.wk_job_rules.specs.Users.{some_page_names}
-use Rattle.wk_job_rules.proofs.Lists.{eqb_flips, map-map}
-use Rattle.wk_job_laws.proofs.Order.{by_number-map, by_number-twice}
+use Rattle.wk_wiki_rules.specs.Jobs.{RefreshEntry, FanEntry, JobLists, IsNumbered, IsOneAPage, IsOneATitle, is_queued, has_fan, wider, first_claimed, jobs_of, jobs_of_others, queued_again, set_anew, refresh_dropped, fan_set, fan_moved, fan_dropped, claimed_by, given_back}
+use Rattle.wk_wiki_rules.specs.Steps.{placed, by_number, rows_of_jobs, reopened_jobs}
+use Rattle.wk_wiki_rules.specs.Users.{some_page_names}
+use Rattle.wk_wiki_rules.proofs.Lists.{eqb_flips, map-map}
+use Rattle.wk_table_laws.proofs.Order.{by_number-map, by_number-twice}
 use Rattle.wk_view_laws.proofs.PlanLemmas.{title_eq-true, title_eq-same}
 use Rattle.wk_wiki_rules.specs.TableChanges.{row_of_fan, fan_edits}
 use Rattle.wk_wiki_laws.specs.Makes.{Makes}

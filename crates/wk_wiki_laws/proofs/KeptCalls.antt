@@ -1,11 +1,11 @@
 -- What a wiki keeps, over the events that calls make.
 use Rattle.std.proofs.Common.{◌≡◌, ℕ, List, [], length, Some}
 use Rattle.wk_page_rules.specs.Verdict.{MostHeld}
-use Rattle.wk_state_rules.specs.States.{State}
-use Rattle.wk_state_rules.specs.Events.{Event, step_by}
-use Rattle.wk_state_laws.specs.Kept.{IsKept}
-use Rattle.wk_state_laws.specs.Reached.{IsWithinFull}
-use Rattle.wk_state_laws.proofs.Kept.{IsKept-step}
+use Rattle.wk_wiki_rules.specs.States.{State}
+use Rattle.wk_wiki_rules.specs.Events.{Event, step_by}
+use Rattle.wk_wiki_laws.specs.Kept.{IsKept}
+use Rattle.wk_wiki_laws.specs.Reached.{IsWithinFull}
+use Rattle.wk_wiki_laws.proofs.KeptStates.{IsKept-step}
 use Rattle.wk_wiki_rules.specs.Calls.{CallsMake, IsMade, no_call, one_more}
 
 pub kept-step : (served : ℕ) (most : MostHeld) (state next : State) (journal : ℕ) (event : Event) → IsWithinFull most → IsMade most state journal event → step_by served state journal event ≡ Some next → IsKept state → IsKept next

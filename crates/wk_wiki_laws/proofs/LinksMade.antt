@@ -5,7 +5,7 @@ use Rattle.std.specs.List.{AllByRecursion, enumerate_from, position_or_len}
 use Rattle.std.proofs.Math.Numerals.{one-add}
 use Rattle.std.proofs.lemmas.Bool.{cases_Bool, eqb-true, eqb-false, eq-eqb, ne_eqb, lt-ltb, le-ltb}
 use Rattle.std.proofs.lemmas.List.Elements.{filter-append}
-use Rattle.wk_row_rules.specs.PageRows.{PageRows, no_rows}
+use Rattle.wk_page_rules.specs.PageRows.{PageRows, no_rows}
 use Rattle.wk_table_rules.specs.Changes.{with_rows_of}
 use Rattle.wk_wiki_laws.proofs.JobOrder.{each-append, each-weaker}
 

@@ -8,20 +8,20 @@ use Rattle.std.proofs.lemmas.List.Sums.{sum_by-cons}
 use Rattle.std.proofs.lemmas.Option.{option_and_then_some}
 use Rattle.wk_text_rules.specs.Titles.{PageTitle}
 use Rattle.wk_page_rules.specs.Verdict.{EditAsked, MostHeld, accept, is_journal_full, judged, max_job, max_pages}
-use Rattle.wk_row_rules.specs.PageRows.{PageRows, names}
-use Rattle.wk_job_rules.specs.Jobs.{FanEntry, JobLists, IsNumbered, first_queued, numbers_of, page_held_by, claimed_by, given_back, fan_dropped, fan_moved, with_first_cursor}
-use Rattle.wk_job_rules.specs.Steps.{all_queued, after_serving, cursor_behind, next_served}
-use Rattle.wk_job_rules.specs.Users.{users}
-use Rattle.wk_state_rules.specs.States.{State}
-use Rattle.wk_state_rules.specs.Events.{Event, Save, Claim, Done, Back, Fan, with_jobs, with_refreshed, step_by}
-use Rattle.wk_state_rules.specs.Lives.{replay_from, reopened}
-use Rattle.wk_state_rules.specs.Verdicts.{journal_use, verdict_in}
-use Rattle.wk_state_laws.specs.Kept.{FanFits, IsKept}
-use Rattle.wk_state_laws.specs.WellFormed.{IsWellFormed}
-use Rattle.wk_state_laws.proofs.Fanned.{fans-all_queued}
-use Rattle.wk_state_laws.proofs.Formed.{Within, users-within, IsWellFormed-step}
-use Rattle.wk_state_laws.proofs.Kept.{greatest-within, next-all_queued}
-use Rattle.wk_state_laws.proofs.Served.{found, uses, users-is}
+use Rattle.wk_page_rules.specs.PageRows.{PageRows, names}
+use Rattle.wk_wiki_rules.specs.Jobs.{FanEntry, JobLists, IsNumbered, first_queued, numbers_of, page_held_by, claimed_by, given_back, fan_dropped, fan_moved, with_first_cursor}
+use Rattle.wk_wiki_rules.specs.Steps.{all_queued, after_serving, cursor_behind, next_served}
+use Rattle.wk_wiki_rules.specs.Users.{users}
+use Rattle.wk_wiki_rules.specs.States.{State}
+use Rattle.wk_wiki_rules.specs.Events.{Event, Save, Claim, Done, Back, Fan, with_jobs, with_refreshed, step_by}
+use Rattle.wk_wiki_rules.specs.Lives.{replay_from, reopened}
+use Rattle.wk_wiki_rules.specs.Verdicts.{journal_use, verdict_in}
+use Rattle.wk_wiki_laws.specs.Kept.{FanFits, IsKept}
+use Rattle.wk_wiki_laws.specs.WellFormed.{IsWellFormed}
+use Rattle.wk_wiki_laws.proofs.Fanned.{fans-all_queued}
+use Rattle.wk_wiki_laws.proofs.Formed.{Within, users-within, IsWellFormed-step}
+use Rattle.wk_wiki_laws.proofs.KeptStates.{greatest-within, next-all_queued}
+use Rattle.wk_wiki_laws.proofs.Served.{found, uses, users-is}
 use Rattle.wk_wiki_rules.specs.Entries.{is_save}
 use Rattle.wk_wiki_rules.specs.Room.{is_fan_refused, tickets_out}
 use Rattle.wk_wiki_laws.specs.Numbers.{pages_ahead}

@@ -5,7 +5,7 @@ use Rattle.std.specs.List.{AllByRecursion}
 use Rattle.std.proofs.lemmas.Bool.{cases_Bool, and_parts, eqb-true, eqb-false, ne_eqb}
 use Rattle.std.proofs.lemmas.List.{length-append}
 use Rattle.wk_page_rules.specs.Verdict.{max_pages}
-use Rattle.wk_row_rules.specs.PageRows.{PageRows}
+use Rattle.wk_page_rules.specs.PageRows.{PageRows}
 use Rattle.wk_table_rules.specs.Rows.{PageColumns}
 use Rattle.wk_table_rules.specs.GoodStore.{has_good_id}
 use Rattle.wk_table_laws.specs.EachGood.{GoodAfter}

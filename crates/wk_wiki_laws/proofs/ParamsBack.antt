@@ -11,8 +11,8 @@ use Rattle.std.proofs.lemmas.Slice.Eq.{bytes_eq-Decides}
 use Rattle.std.proofs.lemmas.Str.Parse.{IsNumeralModel, numerals_by_fold}
 use Rattle.wk_text_rules.specs.Decimal.{decimal_number, digits_value, is_decimal}
 use Rattle.wk_text_rules.specs.Titles.{is_colon}
-use Rattle.wk_row_rules.specs.declared.Reach.{Reach}
-use Rattle.wk_row_rules.specs.declared.Reach.TheVariants.{Text, Both}
+use Rattle.wk_page_rules.specs.declared.Reach.{Reach}
+use Rattle.wk_page_rules.specs.declared.Reach.TheVariants.{Text, Both}
 use Rattle.wk_table_rules.specs.JobTable.{FanParams, fan_params, params_text, reach_called, reach_word}
 
 -- ---- numbers

@@ -2,9 +2,9 @@
 use Rattle.std.proofs.Common.{◌≡◌, ℕ, ◌+◌, List, [], ◌∷◌, ◌++◌, length, Option, Some, None, refl, sym, ap, ◌∙◌, arith}
 use Rattle.std.specs.Prelude.{option_and_then}
 use Rattle.wk_page_rules.specs.Verdict.{MostHeld}
-use Rattle.wk_state_rules.specs.States.{State}
-use Rattle.wk_state_rules.specs.Events.{Event, step_by}
-use Rattle.wk_state_rules.specs.Lives.{replay_from, replay_by}
+use Rattle.wk_wiki_rules.specs.States.{State}
+use Rattle.wk_wiki_rules.specs.Events.{Event, step_by}
+use Rattle.wk_wiki_rules.specs.Lives.{replay_from, replay_by}
 use Rattle.wk_wiki_rules.specs.Calls.{CallsMake, no_call, one_more}
 
 pub replay-append : (served : ℕ) (start : State) (journal : ℕ) (first second : List Event)

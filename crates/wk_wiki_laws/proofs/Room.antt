@@ -6,12 +6,12 @@ use Rattle.std.proofs.lemmas.List.{length-append}
 use Rattle.wk_text_rules.specs.Titles.{PageTitle}
 use Rattle.wk_page_rules.specs.History.{can_save, page_exists, page_to_save}
 use Rattle.wk_page_rules.specs.Verdict.{MostHeld, Verdict, refuse, no_change, accept, with_room, judged, journal_full, is_journal_full, max_job}
-use Rattle.wk_job_rules.specs.Jobs.{FanEntry, first_queued, first_fan, page_held_by, claimed_by, given_back}
-use Rattle.wk_job_rules.specs.Steps.{after_serving, by_number, next_served, reach_of_save}
-use Rattle.wk_state_rules.specs.States.{State}
-use Rattle.wk_state_rules.specs.Events.{Event, Save, Claim, Done, Back, Fan, stored_with, with_saved, with_refreshed, with_jobs, step_by}
-use Rattle.wk_state_rules.specs.Lives.{reopened}
-use Rattle.wk_state_rules.specs.Verdicts.{journal_use}
+use Rattle.wk_wiki_rules.specs.Jobs.{FanEntry, first_queued, first_fan, page_held_by, claimed_by, given_back}
+use Rattle.wk_wiki_rules.specs.Steps.{after_serving, by_number, next_served, reach_of_save}
+use Rattle.wk_wiki_rules.specs.States.{State}
+use Rattle.wk_wiki_rules.specs.Events.{Event, Save, Claim, Done, Back, Fan, stored_with, with_saved, with_refreshed, with_jobs, step_by}
+use Rattle.wk_wiki_rules.specs.Lives.{reopened}
+use Rattle.wk_wiki_rules.specs.Verdicts.{journal_use}
 use Rattle.wk_wiki_rules.specs.Calls.{IsMade, by_save, by_claim, by_finish, by_give_back, by_fan, CallsMake, no_call, one_more}
 use Rattle.wk_wiki_rules.specs.Room.{tickets_out, HasRoom}
 use Rattle.wk_wiki_laws.proofs.TicketsOut.{out, out-queued, out-all_queued, out-claimed, out-again, out-dropped, out-given_back, out-one, refreshes-saved, refreshes-served}

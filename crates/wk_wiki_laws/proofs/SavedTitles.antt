@@ -8,8 +8,8 @@ use Rattle.std.proofs.lemmas.List.Sums.{prefix_len-le-length}
 use Rattle.wk_text_rules.specs.Titles.{PageTitle, title_eq}
 use Rattle.wk_page_rules.specs.History.{History, Page, next_revision, page_to_save, with_current, saved}
 use Rattle.wk_view_laws.proofs.PlanLemmas.{title_eq-true}
-use Rattle.wk_state_rules.specs.States.{title_at}
-use Rattle.wk_state_laws.proofs.Saved.{pages-saved}
+use Rattle.wk_wiki_rules.specs.States.{title_at}
+use Rattle.wk_wiki_laws.proofs.Saved.{pages-saved}
 
 abbrev titled : Option Page → PageTitle
 titled o = unwrap_or (option_map (λ (page : Page). page.title) o) (record { ns = pos 0; key = [] })

@@ -6,10 +6,10 @@ use Rattle.std.proofs.lemmas.Bool.{or_parts}
 use Rattle.std.proofs.lemmas.List.{take-append-drop}
 use Rattle.std.proofs.lemmas.List.Folds.{list_any-append}
 use Rattle.std.proofs.lemmas.Option.{option_and_then_some}
-use Rattle.wk_state_rules.specs.States.{State}
-use Rattle.wk_state_rules.specs.Events.{Event, Save, Claim, Done, Back, Fan, step_by}
-use Rattle.wk_state_rules.specs.Lives.{replay_from, replay_by}
-use Rattle.wk_state_laws.proofs.Histories.{history-claimed, history-refreshed, history-given_back, history-fanned}
+use Rattle.wk_wiki_rules.specs.States.{State}
+use Rattle.wk_wiki_rules.specs.Events.{Event, Save, Claim, Done, Back, Fan, step_by}
+use Rattle.wk_wiki_rules.specs.Lives.{replay_from, replay_by}
+use Rattle.wk_wiki_laws.proofs.Histories.{history-claimed, history-refreshed, history-given_back, history-fanned}
 use Rattle.wk_wiki_rules.specs.Entries.{is_save, KeepsSeal}
 use Rattle.wk_wiki_laws.proofs.Parts.{replay-append}
 

@@ -11,7 +11,7 @@ use Rattle.std.proofs.lemmas.Slice.Eq.{bytes_eq-Decides}
 use Rattle.wk_text_rules.specs.Titles.{PageTitle, title_eq, is_normal, is_page_title}
 use Rattle.wk_page_rules.specs.History.{History, Page, page_number}
 use Rattle.wk_page_rules.specs.Verdict.{max_pages}
-use Rattle.wk_row_rules.specs.PageRows.{PageRows}
+use Rattle.wk_page_rules.specs.PageRows.{PageRows}
 use Rattle.wk_table_rules.specs.Rows.{StoreTables, PageColumns, LinkColumns, CategoryColumns, RedirectColumns, JobColumns, category_title, newest_version}
 use Rattle.wk_table_rules.specs.Changes.{set_version, has_page, namespace_of, link_row, category_row, redirect_row}
 use Rattle.wk_table_rules.specs.JobTable.{FanParams, refresh_cmd, fan_cmd, fan_params}
@@ -23,19 +23,19 @@ use Rattle.wk_table_laws.proofs.JobRows.{is_good_kind, is_alone_good, may_follow
 use Rattle.wk_table_laws.proofs.Links.{row_lt-rise}
 use Rattle.wk_table_laws.proofs.Pairs.{Pairs, Passes-from_good}
 use Rattle.wk_table_laws.proofs.SavedRows.{ids-above, ids-within}
-use Rattle.wk_job_rules.specs.Jobs.{RefreshEntry, FanEntry, JobLists}
-use Rattle.wk_job_rules.specs.Steps.{by_number, refresh_of_row, fan_of_row, rows_of_jobs, jobs_of_tables}
-use Rattle.wk_job_laws.specs.InOrder.{Rises}
-use Rattle.wk_job_laws.proofs.Order.{by_number-rising}
+use Rattle.wk_wiki_rules.specs.Jobs.{RefreshEntry, FanEntry, JobLists}
+use Rattle.wk_wiki_rules.specs.Steps.{by_number, refresh_of_row, fan_of_row, rows_of_jobs, jobs_of_tables}
+use Rattle.wk_table_laws.specs.InOrder.{Rises}
+use Rattle.wk_table_laws.proofs.Order.{by_number-rising}
 use Rattle.wk_view_laws.proofs.PlanLemmas.{title_eq-true}
-use Rattle.wk_state_rules.specs.States.{State, title_at}
-use Rattle.wk_state_rules.specs.Lives.{reopened, opened, all_refreshed}
-use Rattle.wk_state_rules.specs.Tables.{tables_of, state_of, link_rows, rows_of_pages}
-use Rattle.wk_state_laws.specs.Kept.{IsKept}
-use Rattle.wk_state_laws.proofs.GoodJobs.{IsKept-state_of}
-use Rattle.wk_state_laws.proofs.GoodStores.{pages-good, revisions-good}
-use Rattle.wk_state_laws.proofs.ReadBack.{reopened-twice}
-use Rattle.wk_state_laws.proofs.TableLinks.{namespace-is}
+use Rattle.wk_wiki_rules.specs.States.{State, title_at}
+use Rattle.wk_wiki_rules.specs.Lives.{reopened, opened, all_refreshed}
+use Rattle.wk_wiki_rules.specs.Tables.{tables_of, state_of, link_rows, rows_of_pages}
+use Rattle.wk_wiki_laws.specs.Kept.{IsKept}
+use Rattle.wk_wiki_laws.proofs.GoodJobs.{IsKept-state_of}
+use Rattle.wk_wiki_laws.proofs.GoodStores.{pages-good, revisions-good}
+use Rattle.wk_wiki_laws.proofs.ReadBack.{reopened-twice}
+use Rattle.wk_wiki_laws.proofs.TableLinks.{namespace-is}
 use Rattle.wk_wiki_rules.specs.TableChanges.{row_of_fan, refreshes_edits, migration}
 use Rattle.wk_wiki_laws.specs.Makes.{Makes}
 use Rattle.wk_wiki_laws.proofs.JobOrder.{each-weaker, Apart, by_number-parts, found-within}

@@ -7,12 +7,12 @@ use Rattle.std.proofs.lemmas.List.{length-append, append-nil, append_assoc}
 use Rattle.std.proofs.lemmas.Option.{option_and_then_some}
 use Rattle.wk_text_rules.specs.Titles.{PageTitle}
 use Rattle.wk_page_rules.specs.History.{can_save, page_exists, page_to_save}
-use Rattle.wk_job_rules.specs.Jobs.{RefreshEntry, FanEntry, IsOneAPage, is_queued, is_held_by, first_queued, first_fan, jobs_of, jobs_of_others, queued_again, refresh_queued, claimed_by, given_back, page_held_by}
-use Rattle.wk_job_rules.specs.Steps.{all_queued, after_serving, by_number, next_served, reach_of_save}
-use Rattle.wk_job_rules.proofs.JobLemmas.{IsOneAPage-claimed, IsOneAPage-given_back, IsOneAPage-dropped, IsOneAPage-saved, IsOneAPage-served}
-use Rattle.wk_state_rules.specs.States.{State}
-use Rattle.wk_state_rules.specs.Events.{Event, Save, Claim, Done, Back, Fan, stored_with, with_saved, with_refreshed, with_jobs, step_by}
-use Rattle.wk_state_rules.specs.Lives.{replay_from, replay_by, reopened}
+use Rattle.wk_wiki_rules.specs.Jobs.{RefreshEntry, FanEntry, IsOneAPage, is_queued, is_held_by, first_queued, first_fan, jobs_of, jobs_of_others, queued_again, refresh_queued, claimed_by, given_back, page_held_by}
+use Rattle.wk_wiki_rules.specs.Steps.{all_queued, after_serving, by_number, next_served, reach_of_save}
+use Rattle.wk_wiki_rules.proofs.JobLemmas.{IsOneAPage-claimed, IsOneAPage-given_back, IsOneAPage-dropped, IsOneAPage-saved, IsOneAPage-served}
+use Rattle.wk_wiki_rules.specs.States.{State}
+use Rattle.wk_wiki_rules.specs.Events.{Event, Save, Claim, Done, Back, Fan, stored_with, with_saved, with_refreshed, with_jobs, step_by}
+use Rattle.wk_wiki_rules.specs.Lives.{replay_from, replay_by, reopened}
 use Rattle.wk_wiki_rules.specs.Entries.{closes}
 use Rattle.wk_wiki_rules.specs.Room.{tickets_out}
 use Rattle.wk_wiki_laws.specs.Tickets.{tickets_of, IsOpenClaim}

@@ -8,10 +8,10 @@ use Rattle.std.proofs.lemmas.List.{length-append, append-nil}
 use Rattle.std.proofs.lemmas.List.Elements.{filter_map-append}
 use Rattle.std.proofs.lemmas.List.Folds.{find-append}
 use Rattle.std.proofs.lemmas.Option.{slice_get_within}
-use Rattle.wk_job_rules.specs.Jobs.{RefreshEntry, JobLists, is_queued, is_held_by, has_refresh, first_claimed, jobs_of_others, queued_again, refresh_queued}
-use Rattle.wk_job_rules.specs.Steps.{all_queued}
-use Rattle.wk_job_rules.proofs.Lists.{eqb_flips}
-use Rattle.wk_state_rules.specs.Events.{Event, Claim}
+use Rattle.wk_wiki_rules.specs.Jobs.{RefreshEntry, JobLists, is_queued, is_held_by, has_refresh, first_claimed, jobs_of_others, queued_again, refresh_queued}
+use Rattle.wk_wiki_rules.specs.Steps.{all_queued}
+use Rattle.wk_wiki_rules.proofs.Lists.{eqb_flips}
+use Rattle.wk_wiki_rules.specs.Events.{Event, Claim}
 use Rattle.wk_wiki_rules.specs.Entries.{closes}
 use Rattle.wk_wiki_laws.specs.Tickets.{IsOpenClaim}
 use Rattle.wk_wiki_laws.proofs.TicketsOut.{out, out-cons, held-ticket}

@@ -4,10 +4,10 @@ use Rattle.std.specs.Prelude.{find, filter, count_by, option_map, is_some}
 use Rattle.std.proofs.lemmas.Bool.{cases_Bool, cond_both, eqb-true, eq-eqb}
 use Rattle.std.proofs.lemmas.List.Sums.{sum_by-cons, sum_by-append}
 use Rattle.wk_text_rules.specs.Titles.{PageTitle}
-use Rattle.wk_row_rules.specs.declared.Reach.{Reach}
-use Rattle.wk_row_rules.specs.PageRows.{PageRows}
-use Rattle.wk_job_rules.specs.Jobs.{RefreshEntry, FanEntry, JobLists, is_queued, is_claimed, is_held_by, has_refresh, has_fan, first_claimed, jobs_of, jobs_of_others, queued_again, refresh_queued, refresh_dropped, given_back, fan_set, page_held_by}
-use Rattle.wk_job_rules.specs.Steps.{all_queued, after_save, after_serving, next_served}
+use Rattle.wk_page_rules.specs.declared.Reach.{Reach}
+use Rattle.wk_page_rules.specs.PageRows.{PageRows}
+use Rattle.wk_wiki_rules.specs.Jobs.{RefreshEntry, FanEntry, JobLists, is_queued, is_claimed, is_held_by, has_refresh, has_fan, first_claimed, jobs_of, jobs_of_others, queued_again, refresh_queued, refresh_dropped, given_back, fan_set, page_held_by}
+use Rattle.wk_wiki_rules.specs.Steps.{all_queued, after_save, after_serving, next_served}
 
 abbrev pub out : List RefreshEntry → ℕ
 out jobs = count_by is_claimed jobs

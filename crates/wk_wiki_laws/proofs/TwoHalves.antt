@@ -9,13 +9,13 @@ use Rattle.std.proofs.lemmas.List.Folds.{list_any-append}
 use Rattle.std.proofs.lemmas.Slice.Eq.{bytes_eq-Decides}
 use Rattle.wk_text_rules.specs.Titles.{PageTitle, title_eq}
 use Rattle.wk_page_rules.specs.History.{History, Revision}
-use Rattle.wk_row_rules.specs.PageRows.{Member, PageRows, names}
-use Rattle.wk_row_rules.specs.declared.Reach.{Reach}
-use Rattle.wk_row_rules.specs.declared.Reach.TheVariants.{Text, Both}
+use Rattle.wk_page_rules.specs.PageRows.{Member, PageRows, names}
+use Rattle.wk_page_rules.specs.declared.Reach.{Reach}
+use Rattle.wk_page_rules.specs.declared.Reach.TheVariants.{Text, Both}
 use Rattle.wk_view_laws.proofs.PlanLemmas.{title_eq-true, title_eq-same}
-use Rattle.wk_listing_rules.specs.Links.{links_to}
-use Rattle.wk_listing_rules.specs.Names.{admitted, joined, member_eq, AreAmong}
-use Rattle.wk_listing_rules.specs.Revisions.{is_below, is_of_page, newest_below, numbered_revisions, page_revisions_below}
+use Rattle.wk_wiki_rules.specs.Links.{links_to}
+use Rattle.wk_wiki_rules.specs.Names.{admitted, joined, member_eq, AreAmong}
+use Rattle.wk_wiki_rules.specs.Revisions.{is_below, is_of_page, newest_below, numbered_revisions, page_revisions_below}
 
 -- ---- both lists
 

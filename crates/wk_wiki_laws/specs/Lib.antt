@@ -1,3 +1,9 @@
 pub mod Tickets
 pub mod Makes
 pub mod Numbers
+pub mod Saves
+pub mod Conflicts
+pub mod WellFormed
+pub mod Kept
+pub mod FanRuns
+pub mod Reached

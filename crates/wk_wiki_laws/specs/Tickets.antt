@@ -1,7 +1,7 @@
 -- Which tickets are out, by the journal and by the jobs (own).
 use Rattle.std.specs.Prelude.{◌≡◌, ◌≢◌, ℕ, ◌-◌, ◌≤◌, List, slice_get, filter_map, Some}
-use Rattle.wk_job_rules.specs.Jobs.{JobLists}
-use Rattle.wk_state_rules.specs.Events.{Event, Claim}
+use Rattle.wk_wiki_rules.specs.Jobs.{JobLists}
+use Rattle.wk_wiki_rules.specs.Events.{Event, Claim}
 use Rattle.wk_wiki_rules.specs.Entries.{closes}
 
 -- the tickets by which jobs are claimed

@@ -2,11 +2,11 @@
 ghost use Rattle.std.specs.Prelude.{◌≡◌, ◌≢◌, ℕ, ◌+◌, ◌≤◌, ◌==◌, ◌||◌, nat_lt, nat_eq, List, [], ◌∷◌, ◌++◌, length, None, Some, IsSome, option_and_then};
 ghost use Rattle.std.specs.List.{IsDistinct};
 ghost use Rattle.wk_page_rules.specs.Verdict.{MostHeld, is_journal_full, max_job};
-ghost use Rattle.wk_job_rules.specs.Jobs.{IsOneAPage, page_held_by};
-ghost use Rattle.wk_state_rules.specs.States.{State};
-ghost use Rattle.wk_state_rules.specs.Events.{Event, Done, Back, step_by};
-ghost use Rattle.wk_state_rules.specs.Lives.{replay_from, replay_by, reopened};
-ghost use Rattle.wk_state_rules.specs.Verdicts.{journal_use};
+ghost use Rattle.wk_wiki_rules.specs.Jobs.{IsOneAPage, page_held_by};
+ghost use Rattle.wk_wiki_rules.specs.States.{State};
+ghost use Rattle.wk_wiki_rules.specs.Events.{Event, Done, Back, step_by};
+ghost use Rattle.wk_wiki_rules.specs.Lives.{replay_from, replay_by, reopened};
+ghost use Rattle.wk_wiki_rules.specs.Verdicts.{journal_use};
 ghost use Rattle.wk_wiki_rules.specs.Calls.{CallsMake, IsMade};
 ghost use Rattle.wk_wiki_rules.specs.Room.{tickets_out, HasRoom};
 ghost use Rattle.wk_wiki_laws.specs.Tickets.{tickets_of, IsOpenClaim};

@@ -3,12 +3,12 @@ ghost use Rattle.std.specs.Prelude.{◌≡◌, ℕ, List, Some};
 ghost use Rattle.wk_page_rules.specs.Verdict.{MostHeld};
 ghost use Rattle.wk_table_rules.specs.Rows.{StoreTables};
 ghost use Rattle.wk_table_rules.specs.GoodStore.{IsGood};
-ghost use Rattle.wk_state_rules.specs.States.{State, no_state};
-ghost use Rattle.wk_state_rules.specs.Events.{Event, step_by};
-ghost use Rattle.wk_state_rules.specs.Lives.{reopened, opened};
-ghost use Rattle.wk_state_rules.specs.Tables.{tables_of, state_of};
-ghost use Rattle.wk_state_laws.specs.Kept.{IsKept};
-ghost use Rattle.wk_state_laws.specs.Reached.{IsReached, IsWithinFull};
+ghost use Rattle.wk_wiki_rules.specs.States.{State, no_state};
+ghost use Rattle.wk_wiki_rules.specs.Events.{Event, step_by};
+ghost use Rattle.wk_wiki_rules.specs.Lives.{reopened, opened};
+ghost use Rattle.wk_wiki_rules.specs.Tables.{tables_of, state_of};
+ghost use Rattle.wk_wiki_laws.specs.Kept.{IsKept};
+ghost use Rattle.wk_wiki_laws.specs.Reached.{IsReached, IsWithinFull};
 ghost use Rattle.wk_wiki_rules.specs.Calls.{CallsMake, IsMade};
 
 /// What a wiki keeps at all times, one refresh job a page, one fan job a title, numbers of their own, and revisions, pages

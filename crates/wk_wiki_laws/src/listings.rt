@@ -3,11 +3,11 @@ ghost use Rattle.std.specs.Prelude.{◌≡◌, ◌||◌, ◌+◌, ℕ, option_ma
 ghost use Rattle.std.specs.List.{list_any};
 ghost use Rattle.wk_text_rules.specs.Titles.{PageTitle, title_eq};
 ghost use Rattle.wk_page_rules.specs.History.{History};
-ghost use Rattle.wk_row_rules.specs.PageRows.{PageRows, names};
-ghost use Rattle.wk_row_rules.specs.declared.Reach.{Reach};
-ghost use Rattle.wk_listing_rules.specs.Links.{links_to};
-ghost use Rattle.wk_listing_rules.specs.Names.{admitted, AreAmong};
-ghost use Rattle.wk_listing_rules.specs.Revisions.{newest_below, page_revisions_below};
+ghost use Rattle.wk_page_rules.specs.PageRows.{PageRows, names};
+ghost use Rattle.wk_page_rules.specs.declared.Reach.{Reach};
+ghost use Rattle.wk_wiki_rules.specs.Links.{links_to};
+ghost use Rattle.wk_wiki_rules.specs.Names.{admitted, AreAmong};
+ghost use Rattle.wk_wiki_rules.specs.Revisions.{newest_below, page_revisions_below};
 
 /// Between the two halves of a change a page is found by its old names and by its new ones, and by no other.
 pub fn a_page_is_found_by_both()

@@ -1,8 +1,8 @@
 //! Journals that keep a seal.
 ghost use Rattle.std.specs.Prelude.{◌≡◌, ℕ, false, List, ◌++◌, length, take, Some, Option};
-ghost use Rattle.wk_state_rules.specs.States.{State};
-ghost use Rattle.wk_state_rules.specs.Events.{Event};
-ghost use Rattle.wk_state_rules.specs.Lives.{replay_by};
+ghost use Rattle.wk_wiki_rules.specs.States.{State};
+ghost use Rattle.wk_wiki_rules.specs.Events.{Event};
+ghost use Rattle.wk_wiki_rules.specs.Lives.{replay_by};
 ghost use Rattle.wk_wiki_rules.specs.Entries.{is_save, KeepsSeal};
 ghost use Rattle.std.specs.List.{list_any};
 

@@ -3,10 +3,10 @@
 use Rattle.std.specs.Prelude.{◌≡◌, ℕ, false, List, [], ◌∷◌, ◌++◌, length, Option, Some}
 use Rattle.wk_text_rules.specs.Titles.{PageTitle}
 use Rattle.wk_page_rules.specs.Verdict.{EditAsked, MostHeld, accept}
-use Rattle.wk_job_rules.specs.Jobs.{page_held_by}
-use Rattle.wk_state_rules.specs.States.{State}
-use Rattle.wk_state_rules.specs.Events.{Event, Save, Claim, Done, Back, Fan, step_by}
-use Rattle.wk_state_rules.specs.Verdicts.{verdict_in}
+use Rattle.wk_wiki_rules.specs.Jobs.{page_held_by}
+use Rattle.wk_wiki_rules.specs.States.{State}
+use Rattle.wk_wiki_rules.specs.Events.{Event, Save, Claim, Done, Back, Fan, step_by}
+use Rattle.wk_wiki_rules.specs.Verdicts.{verdict_in}
 use Rattle.wk_wiki_rules.specs.Room.{is_claim_refused, is_fan_refused}
 
 -- An event that a call makes in a state, behind a journal of this length, under these limits.

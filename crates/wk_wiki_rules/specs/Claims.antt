@@ -1,8 +1,8 @@
 -- What is told of a claim (own): its ticket, and the title whose rows are to be computed anew.
 use Rattle.std.specs.Prelude.{ℕ, ◌+◌, Option, option_map}
 use Rattle.wk_text_rules.specs.Titles.{PageTitle}
-use Rattle.wk_job_rules.specs.Jobs.{first_queued}
-use Rattle.wk_state_rules.specs.States.{State, title_at}
+use Rattle.wk_wiki_rules.specs.Jobs.{first_queued}
+use Rattle.wk_wiki_rules.specs.States.{State, title_at}
 
 pub record ClaimOutcome : Type 0 where
   -- the number of the claim's entry in the journal, from 1

@@ -3,8 +3,8 @@
 use Rattle.std.specs.Prelude.{◌≡◌, ℕ, ◌+◌, ◌-◌, Bool, true, false, ◌==◌, List, [], ◌∷◌, drop, slice_get, filter_map, Option, Some, None, IsSome, option_map, if◌then◌else◌}
 use Rattle.std.specs.List.{list_any}
 use Rattle.wk_page_rules.specs.History.{History, Revision}
-use Rattle.wk_state_rules.specs.States.{title_at}
-use Rattle.wk_state_rules.specs.Events.{Event, Save, Claim, Done, Back, Fan}
+use Rattle.wk_wiki_rules.specs.States.{title_at}
+use Rattle.wk_wiki_rules.specs.Events.{Event, Save, Claim, Done, Back, Fan}
 use Rattle.wk_wiki_rules.specs.declared.Entry.{Entry}
 use Rattle.wk_wiki_rules.specs.declared.Entry.TheVariants as entry
 

@@ -1,9 +1,9 @@
 -- What is told of a fan (own): its title, how many pages it served, and how many refresh jobs it queued for them.
 use Rattle.std.specs.Prelude.{ℕ, not, length, count_by, Option, option_map}
 use Rattle.wk_text_rules.specs.Titles.{PageTitle}
-use Rattle.wk_job_rules.specs.Jobs.{FanEntry, first_fan, has_refresh}
-use Rattle.wk_job_rules.specs.Steps.{next_served}
-use Rattle.wk_state_rules.specs.States.{State}
+use Rattle.wk_wiki_rules.specs.Jobs.{FanEntry, first_fan, has_refresh}
+use Rattle.wk_wiki_rules.specs.Steps.{next_served}
+use Rattle.wk_wiki_rules.specs.States.{State}
 
 pub record FanOutcome : Type 0 where
   pub title : PageTitle

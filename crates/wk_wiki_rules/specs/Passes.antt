@@ -7,9 +7,9 @@ use Rattle.wk_view_rules.specs.Plans.{Outcome, done}
 use Rattle.wk_view_rules.specs.Views.{Expanded, view, shown_text}
 use Rattle.wk_view_rules.specs.Worlds.{World, Read, of_world, page_of, is_read_of, IsHonest}
 use Rattle.wk_view_rules.specs.declared.Kind.TheVariants.{View}
-use Rattle.wk_state_rules.specs.States.{State, world_of}
-use Rattle.wk_state_rules.specs.Events.{Event}
-use Rattle.wk_state_rules.specs.Lives.{state_at}
+use Rattle.wk_wiki_rules.specs.States.{State, world_of}
+use Rattle.wk_wiki_rules.specs.Events.{Event}
+use Rattle.wk_wiki_rules.specs.Lives.{state_at}
 use Rattle.wk_wiki_rules.specs.Starts.{Start}
 
 -- what a caller has seen: the wiki's start, the journal, and the places in it, from 0, of the entries that it made

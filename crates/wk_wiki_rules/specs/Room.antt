@@ -2,9 +2,9 @@
 -- event by which it comes in again.
 use Rattle.std.specs.Prelude.{ℕ, ◌+◌, ◌≤◌, Bool, nat_lt}
 use Rattle.wk_page_rules.specs.Verdict.{MostHeld, is_journal_full}
-use Rattle.wk_job_rules.specs.Jobs.{left}
-use Rattle.wk_state_rules.specs.States.{State}
-use Rattle.wk_state_rules.specs.Verdicts.{journal_use}
+use Rattle.wk_wiki_rules.specs.Jobs.{left}
+use Rattle.wk_wiki_rules.specs.States.{State}
+use Rattle.wk_wiki_rules.specs.Verdicts.{journal_use}
 
 -- how many tickets are out: as many as jobs are claimed
 abbrev pub tickets_out : State → ℕ

@@ -3,7 +3,7 @@ use Rattle.std.specs.Prelude.{ℕ, Bool, ◌==◌, not, List, find, Option, is_s
 use Rattle.wk_text_rules.specs.Titles.{PageTitle}
 use Rattle.wk_view_rules.specs.Worlds.{World, Read, answer_in, mark}
 use Rattle.wk_view_rules.specs.declared.Kind.{Kind}
-use Rattle.wk_state_rules.specs.Events.{Event, Done, Back}
+use Rattle.wk_wiki_rules.specs.Events.{Event, Done, Back}
 
 -- the mark that a read would have now
 abbrev pub present_mark : World → Read → ℕ

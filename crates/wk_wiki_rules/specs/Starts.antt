@@ -3,9 +3,9 @@ use Rattle.std.specs.Prelude.{ℕ, Bool, ◌==◌, List, length, map, find, take
 use Rattle.std.specs.List.{enumerate_from}
 use Rattle.wk_page_rules.specs.History.{History, Page, Revision}
 use Rattle.wk_page_rules.specs.Verdict.{MostHeld}
-use Rattle.wk_row_rules.specs.PageRows.{PageRows}
-use Rattle.wk_job_rules.specs.Jobs.{JobLists}
-use Rattle.wk_state_rules.specs.States.{State}
+use Rattle.wk_page_rules.specs.PageRows.{PageRows}
+use Rattle.wk_wiki_rules.specs.Jobs.{JobLists}
+use Rattle.wk_wiki_rules.specs.States.{State}
 
 -- How a wiki began. No event changes it.
 pub record Start : Type 0 where

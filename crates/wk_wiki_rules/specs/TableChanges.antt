@@ -4,17 +4,17 @@ use Rattle.std.specs.Prelude.{ℕ, ◌==◌, List, [], ◌∷◌, ◌++◌, leng
 use Rattle.std.specs.List.{range_with_len}
 use Rattle.wk_text_rules.specs.Titles.{PageTitle, title_eq}
 use Rattle.wk_page_rules.specs.History.{History, current_revision, next_revision, page_exists, page_to_save}
-use Rattle.wk_row_rules.specs.PageRows.{PageRows}
-use Rattle.wk_row_rules.specs.declared.Reach.{Reach}
+use Rattle.wk_page_rules.specs.PageRows.{PageRows}
+use Rattle.wk_page_rules.specs.declared.Reach.{Reach}
 use Rattle.wk_table_rules.specs.Rows.{PageColumns, RevisionColumns, JobColumns, StoreTables, newest_version}
 use Rattle.wk_table_rules.specs.Changes.{TableEdit, add_revision, set_page, set_rows, add_job, set_job, drop_job, set_version}
 use Rattle.wk_table_rules.specs.JobTable.{refresh_row, fan_row}
-use Rattle.wk_job_rules.specs.Jobs.{RefreshEntry, FanEntry, JobLists, has_refresh, is_held_by, refresh_queued, set_anew}
-use Rattle.wk_job_rules.specs.Steps.{reach_of_save, next_served, cursor_behind}
-use Rattle.wk_job_rules.specs.Users.{some_page_names, users}
-use Rattle.wk_state_rules.specs.States.{State, title_at}
-use Rattle.wk_state_rules.specs.Events.{stored_with}
-use Rattle.wk_state_rules.specs.Tables.{revision_row, state_of}
+use Rattle.wk_wiki_rules.specs.Jobs.{RefreshEntry, FanEntry, JobLists, has_refresh, is_held_by, refresh_queued, set_anew}
+use Rattle.wk_wiki_rules.specs.Steps.{reach_of_save, next_served, cursor_behind}
+use Rattle.wk_wiki_rules.specs.Users.{some_page_names, users}
+use Rattle.wk_wiki_rules.specs.States.{State, title_at}
+use Rattle.wk_wiki_rules.specs.Events.{stored_with}
+use Rattle.wk_wiki_rules.specs.Tables.{revision_row, state_of}
 
 -- ---- jobs
 

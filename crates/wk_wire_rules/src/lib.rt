@@ -4,7 +4,7 @@
 #![tactic(auto)]
 
 /// The method of a request (RFC 9110 section 9). Methods have case, so `get` is another one.
-#[derive(Clone, Copy, Debug, PartialEq, Eq)]
+#[derive(Clone, Copy, PartialEq, Eq)]
 pub enum Method {
     /// `GET`.
     Get,

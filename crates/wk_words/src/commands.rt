@@ -3,7 +3,7 @@ ghost use Rattle.std.specs.Prelude.{◌≡◌, bytes_eq};
 ghost use Rattle.wk_words.specs.Commands.{command_named};
 
 /// A command of the program, which the one word without an option names.
-#[derive(Clone, Copy, Debug, PartialEq, Eq)]
+#[derive(Clone, Copy, PartialEq, Eq)]
 pub enum Command {
     /// `script`: the lines of the input are answered one after the other.
     Script,

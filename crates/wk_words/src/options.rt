@@ -9,7 +9,7 @@ use clap::builder::ValueParser;
 use std::alloc::{AllocError, Global};
 
 /// An option whose value is a number.
-#[derive(Clone, Copy, Debug)]
+#[derive(Clone, Copy)]
 pub(crate) struct NumberOption {
     /// Its name, which stands behind two hyphens.
     pub(crate) name: &'static str,

@@ -20,7 +20,7 @@ use wk_bytes::decimal;
 use wk_memory::Memory;
 
 /// What a legal command line asks for. Each option has the value that is given, or its default.
-#[derive(Clone, Copy, Debug, PartialEq, Eq)]
+#[derive(Clone, Copy, PartialEq, Eq)]
 pub struct CommandLine<'a> {
     /// What to do.
     pub command: Command,

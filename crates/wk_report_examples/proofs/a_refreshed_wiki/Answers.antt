@@ -1,10 +1,10 @@
 use Rattle.std.proofs.Common.{◌≡◌, Some, refl}
-use Rattle.wk_job_rules.specs.Steps.{fan_pages}
-use Rattle.wk_state_rules.specs.Lives.{replay_by}
-use Rattle.wk_state_rules.specs.States.{no_state}
-use Rattle.wk_state_laws.proofs.Always.{IsSound-replayed}
-use Rattle.wk_state_laws.proofs.Formed.{IsWellFormed-none}
-use Rattle.wk_state_laws.proofs.Sound.{IsSound-none}
+use Rattle.wk_wiki_rules.specs.Steps.{fan_pages}
+use Rattle.wk_wiki_rules.specs.Lives.{replay_by}
+use Rattle.wk_wiki_rules.specs.States.{no_state}
+use Rattle.wk_wiki_laws.proofs.Always.{IsSound-replayed}
+use Rattle.wk_wiki_laws.proofs.Formed.{IsWellFormed-none}
+use Rattle.wk_wiki_laws.proofs.Sound.{IsSound-none}
 use Rattle.wk_report_rules.specs.Computing.{computing}
 use Rattle.wk_report_examples.specs.Wikis.{life, lived}
 use Rattle.wk_report_examples.proofs.a_refreshed_wiki.Goals as goal

@@ -5,9 +5,10 @@ use Rattle.wk_request.specs.Asked.{request_asked}
 use Rattle.wk_answer_rules.specs.Saves.{Answered}
 use Rattle.wk_answer_rules.specs.Answers.{answer_to_request}
 use Rattle.wk_answer_laws.proofs.Points.{request-none}
-use Rattle.wk_answer.specs.Saved.{IsActed}
+use Rattle.wk_saving.specs.Saved.{IsActed}
+use Rattle.wk_saving.proofs.SaveAnswers.{read-acted}
+use Rattle.wk_answer.proofs.EarlyAnswers.{early-acted}
 use Rattle.wk_answer.proofs.ReadFacts.{not-early}
-use Rattle.wk_answer.proofs.SaveAnswers.{early-acted, read-acted}
 use Rattle.wk_answer.proofs.requests.act.Goals as goal
 
 pub returns-then-not-asks_to_save-clause-acted : goal.returns-then-not-asks_to_save-clause-acted

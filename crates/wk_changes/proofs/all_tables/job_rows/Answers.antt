@@ -2,8 +2,8 @@ use Rattle.std.proofs.Common.{◌≡◌, ◌++◌, List, map, ap, ap₂, ◌∙�
 use Rattle.std.specs.List.Sorted.{IsPermutation}
 use Rattle.std.proofs.lemmas.List.Sorted.{IsNonDecreasingBy-from_sort_by_key}
 use Rattle.wk_table_rules.specs.Rows.{JobColumns}
-use Rattle.wk_job_rules.specs.Jobs.{JobLists, RefreshEntry}
-use Rattle.wk_state_rules.specs.States.{title_at}
+use Rattle.wk_wiki_rules.specs.Jobs.{JobLists, RefreshEntry}
+use Rattle.wk_wiki_rules.specs.States.{title_at}
 use Rattle.wk_wiki_rules.specs.TableChanges.{row_of_fan}
 use Rattle.wk_wiki_laws.proofs.JobChanges.{row_of, rows_in}
 use Rattle.wk_changes.proofs.SortedJobs.{sorted-rows}

@@ -1,6 +1,6 @@
 use Rattle.std.proofs.Common.{◌≡◌, ◌++◌, map, take}
 use Rattle.wk_table_rules.specs.JobTable.{refresh_row}
-use Rattle.wk_state_rules.specs.States.{title_at}
+use Rattle.wk_wiki_rules.specs.States.{title_at}
 use Rattle.wk_changes.proofs.all_tables.push_refreshes.Given as goal
 
 abbrev pub invariant-loop-job : goal.invariant-loop-job

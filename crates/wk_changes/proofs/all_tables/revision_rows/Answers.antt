@@ -1,5 +1,5 @@
 use Rattle.std.proofs.Common.{◌<◌, length, ◌∙◌, arith}
-use Rattle.wk_state_rules.specs.Tables.{revision_row}
+use Rattle.wk_wiki_rules.specs.Tables.{revision_row}
 use Rattle.wk_changes.proofs.NumberedRows.{push-row}
 use Rattle.wk_changes.proofs.all_tables.revision_rows.Goals as goal
 

@@ -2,8 +2,8 @@ use Rattle.std.proofs.Common.{◌≡◌, ◌∷◌, [], cond, map, Some, sym, ap
 use Rattle.std.specs.Option.{option_copied}
 use Rattle.std.proofs.lemmas.List.{map-append}
 use Rattle.wk_table_rules.specs.Changes.{drop_job, set_job}
-use Rattle.wk_job_rules.specs.Jobs.{FanEntry, first_fan}
-use Rattle.wk_job_rules.specs.Steps.{cursor_behind, fan_pages}
+use Rattle.wk_wiki_rules.specs.Jobs.{FanEntry, first_fan}
+use Rattle.wk_wiki_rules.specs.Steps.{cursor_behind, fan_pages}
 use Rattle.wk_tables.specs.Edits.{edit_of}
 use Rattle.wk_wiki_rules.specs.TableChanges.{row_of_fan}
 use Rattle.wk_changes.specs.Parts.{parts}

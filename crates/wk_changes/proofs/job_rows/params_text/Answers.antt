@@ -2,8 +2,8 @@ use Rattle.std.proofs.Common.{◌≡◌, ℕ, ◌≤◌, ◌<◌, ◌^◌, ◌�
 use Rattle.std.specs.Fmt.{decimal}
 use Rattle.std.proofs.lemmas.Fmt.{length-decimal-le}
 use Rattle.std.proofs.lemmas.List.{length-append}
-use Rattle.wk_row_rules.specs.declared.Reach.{Reach}
-use Rattle.wk_row_rules.specs.declared.Reach.TheVariants.{Text, Both}
+use Rattle.wk_page_rules.specs.declared.Reach.{Reach}
+use Rattle.wk_page_rules.specs.declared.Reach.TheVariants.{Text, Both}
 use Rattle.wk_table_rules.specs.JobTable.{params_text, reach_word}
 use Rattle.wk_changes.proofs.job_rows.params_text.Goals as goal
 

@@ -3,8 +3,8 @@ use Rattle.std.proofs.lemmas.List.{append-nil, map-append}
 use Rattle.wk_table_rules.specs.Rows.{JobColumns}
 use Rattle.wk_table_rules.specs.Changes.{add_job}
 use Rattle.wk_table_rules.specs.JobTable.{refresh_row}
-use Rattle.wk_job_rules.specs.Jobs.{has_refresh}
-use Rattle.wk_state_rules.specs.States.{title_at}
+use Rattle.wk_wiki_rules.specs.Jobs.{has_refresh}
+use Rattle.wk_wiki_rules.specs.States.{title_at}
 use Rattle.wk_tables.specs.Edits.{edit_of}
 use Rattle.wk_tables.specs.declared.change.RowEdit.TheVariants.{AddJob}
 use Rattle.wk_changes.proofs.HeldJob.{has-is}

@@ -1,9 +1,9 @@
 use Rattle.std.proofs.Common.{◌<◌, ◌++◌, List, length, take, get_or, sym, ap, ◌∙◌, arith}
 use Rattle.std.proofs.lemmas.List.{length-take-le}
 use Rattle.wk_table_rules.specs.Changes.{TableEdit}
-use Rattle.wk_job_rules.specs.Jobs.{JobLists}
-use Rattle.wk_job_rules.specs.Steps.{all_queued}
-use Rattle.wk_state_rules.specs.States.{title_at}
+use Rattle.wk_wiki_rules.specs.Jobs.{JobLists}
+use Rattle.wk_wiki_rules.specs.Steps.{all_queued}
+use Rattle.wk_wiki_rules.specs.States.{title_at}
 use Rattle.wk_wiki_rules.specs.TableChanges.{refresh_edits}
 use Rattle.wk_changes.proofs.RefreshEdits.{edits-more, queued-more, has-kept, next-within}
 use Rattle.wk_changes.proofs.job_rows.refreshes_edits.Goals as goal

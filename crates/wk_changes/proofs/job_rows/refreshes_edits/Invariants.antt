@@ -1,6 +1,6 @@
 use Rattle.std.proofs.Common.{◌≡◌, map, take}
-use Rattle.wk_job_rules.specs.Steps.{all_queued}
-use Rattle.wk_state_rules.specs.States.{title_at}
+use Rattle.wk_wiki_rules.specs.Steps.{all_queued}
+use Rattle.wk_wiki_rules.specs.States.{title_at}
 use Rattle.wk_wiki_rules.specs.TableChanges.{refreshes_edits}
 use Rattle.wk_tables.specs.Edits.{edit_of}
 use Rattle.wk_changes.proofs.job_rows.refreshes_edits.Given as goal

@@ -1,5 +1,5 @@
 use Rattle.std.proofs.Common.{◌≡◌, Option, Some, IsSome, sym, ap, ◌∙◌, subst}
-use Rattle.wk_job_rules.specs.Jobs.{RefreshEntry}
+use Rattle.wk_wiki_rules.specs.Jobs.{RefreshEntry}
 use Rattle.wk_changes.proofs.HeldJob.{held-by-page, there}
 use Rattle.wk_changes.proofs.refreshes.job_number.Goals as goal
 

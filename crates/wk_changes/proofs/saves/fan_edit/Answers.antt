@@ -3,7 +3,7 @@ use Rattle.std.specs.Prelude.{find}
 use Rattle.wk_text_rules.specs.Titles.{PageTitle, title_eq}
 use Rattle.wk_table_rules.specs.Rows.{JobColumns}
 use Rattle.wk_table_rules.specs.Changes.{add_job, set_job}
-use Rattle.wk_job_rules.specs.Jobs.{FanEntry, wider}
+use Rattle.wk_wiki_rules.specs.Jobs.{FanEntry, wider}
 use Rattle.wk_wiki_rules.specs.TableChanges.{row_of_fan}
 use Rattle.wk_changes.proofs.FanEdits.{unwanted, found, added}
 use Rattle.wk_changes.proofs.saves.fan_edit.Goals as goal

@@ -1,5 +1,5 @@
 use Rattle.std.proofs.Common.{◌≡◌, ℕ, ◌+◌, true, false, ap}
-use Rattle.wk_job_rules.specs.Jobs.{has_refresh}
+use Rattle.wk_wiki_rules.specs.Jobs.{has_refresh}
 use Rattle.wk_changes.proofs.HeldJob.{has-is}
 use Rattle.wk_changes.proofs.saves.number_behind.Goals as goal
 

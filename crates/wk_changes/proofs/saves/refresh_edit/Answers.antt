@@ -2,7 +2,7 @@ use Rattle.std.proofs.Common.{◌≡◌, ℕ, true, false, ◌∷◌, [], refl, 
 use Rattle.wk_table_rules.specs.Rows.{JobColumns}
 use Rattle.wk_table_rules.specs.Changes.{add_job}
 use Rattle.wk_table_rules.specs.JobTable.{refresh_row}
-use Rattle.wk_job_rules.specs.Jobs.{has_refresh}
+use Rattle.wk_wiki_rules.specs.Jobs.{has_refresh}
 use Rattle.wk_changes.proofs.HeldJob.{has-is}
 use Rattle.wk_changes.proofs.saves.refresh_edit.Goals as goal
 

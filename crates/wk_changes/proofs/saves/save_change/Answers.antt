@@ -1,7 +1,7 @@
 use Rattle.std.proofs.Common.{◌≡◌, ℕ, eqb, not, map, is_some, sym, ap, ap₂, ◌∙◌, rules}
 use Rattle.std.specs.Option.{option_copied, option_to_list}
 use Rattle.wk_page_rules.specs.History.{page_exists}
-use Rattle.wk_job_rules.specs.Steps.{reach_of_save}
+use Rattle.wk_wiki_rules.specs.Steps.{reach_of_save}
 use Rattle.wk_tables.specs.Edits.{edit_of}
 use Rattle.wk_changes.specs.Parts.{parts}
 use Rattle.wk_changes.proofs.FanEdits.{save-by}

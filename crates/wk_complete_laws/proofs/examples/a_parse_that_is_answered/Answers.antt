@@ -1,7 +1,7 @@
 use Rattle.std.proofs.Common.{◌≡◌, Some, lit≤, refl, sym, subst, ◌∙◌, true}
 use Rattle.wk_answer_rules.specs.Computing.{computing}
 use Rattle.wk_page_rules.specs.History.{page_exists}
-use Rattle.wk_state_rules.specs.States.{State}
+use Rattle.wk_wiki_rules.specs.States.{State}
 use Rattle.wk_wiki_rules.specs.Passes.{state_seen}
 use Rattle.wk_session_rules.specs.Replies.{read}
 use Rattle.wk_complete_laws.specs.Example.{saved_a, seen_behind, title_a}

@@ -1,6 +1,6 @@
 use Rattle.std.proofs.Common.{lit≤, refl}
 use Rattle.wk_answer_rules.specs.Computing.{computing}
-use Rattle.wk_state_rules.specs.States.{no_state}
+use Rattle.wk_wiki_rules.specs.States.{no_state}
 use Rattle.wk_session_rules.specs.Replies.{saved}
 use Rattle.wk_complete_laws.specs.Example.{save_a}
 use Rattle.wk_complete_laws.proofs.examples.an_edit_that_is_answered.Goals as goal

@@ -1,4 +1,4 @@
-use Rattle.wk_state_rules.specs.States.{world_of}
+use Rattle.wk_wiki_rules.specs.States.{world_of}
 use Rattle.wk_wiki_rules.specs.Staleness.{event_of_finish}
 use Rattle.wk_core.specs.Answers.{event_of_answer}
 use Rattle.wk_complete_laws.proofs.Completing.{finish-answer, finish-event, given-back, made-by, no-rise, still-whole}

@@ -1,6 +1,6 @@
 use Rattle.wk_revs.specs.Edit.{edit_asked}
 use Rattle.wk_core.specs.Seen.{verdict_now}
-use Rattle.wk_state_rules.specs.Verdicts.{event_of}
+use Rattle.wk_wiki_rules.specs.Verdicts.{event_of}
 use Rattle.wk_complete_laws.proofs.Completing.{no-rise, save-answer, save-event, save-nothing, start-kept, still-whole}
 use Rattle.wk_complete_laws.proofs.wikis.granted_edits_are_saved.Goals as goal
 

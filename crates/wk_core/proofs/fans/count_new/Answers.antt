@@ -4,7 +4,7 @@ use Rattle.std.specs.List.{list_any}
 use Rattle.std.proofs.lemmas.Bool.{cases_Bool}
 use Rattle.std.proofs.lemmas.List.Sums.{count_by_more_no, count_by_more_yes}
 use Rattle.std.proofs.Math.Seq.{take-length}
-use Rattle.wk_job_rules.specs.Jobs.{RefreshEntry, has_refresh}
+use Rattle.wk_wiki_rules.specs.Jobs.{RefreshEntry, has_refresh}
 use Rattle.wk_core.proofs.fans.count_new.Goals as goal
 use Rattle.wk_core.proofs.fans.count_new.Goals.{then-is_none, else-is_none}
 

@@ -1,6 +1,6 @@
 use Rattle.std.proofs.Common.{◌≡◌, ℕ, ◌≤◌, not, take}
 use Rattle.std.specs.Prelude.{count_by}
-use Rattle.wk_job_rules.specs.Jobs.{has_refresh}
+use Rattle.wk_wiki_rules.specs.Jobs.{has_refresh}
 use Rattle.wk_core.proofs.fans.count_new.Given as goal
 
 abbrev pub invariant-loop-page : goal.invariant-loop-page

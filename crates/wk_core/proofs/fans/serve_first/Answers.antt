@@ -1,9 +1,9 @@
 use Rattle.std.proofs.Common.{◌≡◌, List, length, Some, refl, sym, ap, ◌∙◌, subst}
 use Rattle.wk_table_rules.specs.Changes.{TableEdit}
-use Rattle.wk_job_rules.specs.Jobs.{first_fan}
-use Rattle.wk_job_rules.specs.Steps.{after_fan, after_serving, fan_pages}
-use Rattle.wk_state_rules.specs.Events.{Fan, with_jobs}
-use Rattle.wk_state_rules.specs.Tables.{tables_of}
+use Rattle.wk_wiki_rules.specs.Jobs.{first_fan}
+use Rattle.wk_wiki_rules.specs.Steps.{after_fan, after_serving, fan_pages}
+use Rattle.wk_wiki_rules.specs.Events.{Fan, with_jobs}
+use Rattle.wk_wiki_rules.specs.Tables.{tables_of}
 use Rattle.wk_wiki_rules.specs.declared.Entry.TheVariants as entry
 use Rattle.wk_life_laws.specs.Lives.{Life, journal_of}
 use Rattle.wk_life_laws.specs.Next.{IsNext, with_entry}

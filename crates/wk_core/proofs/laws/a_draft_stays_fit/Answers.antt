@@ -1,6 +1,6 @@
-use Rattle.wk_job_rules.specs.Steps.{fan_pages}
-use Rattle.wk_state_laws.proofs.HonestReads.{IsHonest-stepped}
-use Rattle.wk_call_laws.proofs.Marks.{honest-now}
+use Rattle.wk_wiki_rules.specs.Steps.{fan_pages}
+use Rattle.wk_wiki_laws.proofs.HonestReads.{IsHonest-stepped}
+use Rattle.wk_life_laws.proofs.Marks.{honest-now}
 use Rattle.wk_core.proofs.laws.a_draft_stays_fit.Goals as goal
 
 pub returns-clause-present : goal.returns-clause-present

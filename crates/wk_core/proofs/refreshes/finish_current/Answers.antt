@@ -1,6 +1,6 @@
 use Rattle.std.proofs.Common.{◌≡◌, Some, refl, sym, ap, ◌∙◌, subst}
-use Rattle.wk_job_rules.specs.Jobs.{page_held_by}
-use Rattle.wk_state_rules.specs.Events.{Back}
+use Rattle.wk_wiki_rules.specs.Jobs.{page_held_by}
+use Rattle.wk_wiki_rules.specs.Events.{Back}
 use Rattle.wk_life_laws.specs.Lives.{Life}
 use Rattle.wk_life_laws.specs.Next.{IsNext}
 use Rattle.wk_core.proofs.RefreshFacts.{back-tables}

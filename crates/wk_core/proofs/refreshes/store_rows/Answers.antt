@@ -1,11 +1,11 @@
 use Rattle.std.proofs.Common.{◌≡◌, ℕ, true, List, Some, refl, sym, ap, ◌∙◌, subst}
-use Rattle.wk_row_rules.specs.PageRows.{PageRows}
+use Rattle.wk_page_rules.specs.PageRows.{PageRows}
 use Rattle.wk_view_rules.specs.Rows.{rows}
 use Rattle.wk_table_rules.specs.Changes.{TableEdit}
-use Rattle.wk_job_rules.specs.Jobs.{IsOneAPage, JobLists, RefreshEntry, has_refresh, page_held_by}
-use Rattle.wk_state_rules.specs.States.{State, stored_at, title_at, world_of}
-use Rattle.wk_state_rules.specs.Events.{Done, with_refreshed}
-use Rattle.wk_state_rules.specs.Tables.{tables_of}
+use Rattle.wk_wiki_rules.specs.Jobs.{IsOneAPage, JobLists, RefreshEntry, has_refresh, page_held_by}
+use Rattle.wk_wiki_rules.specs.States.{State, stored_at, title_at, world_of}
+use Rattle.wk_wiki_rules.specs.Events.{Done, with_refreshed}
+use Rattle.wk_wiki_rules.specs.Tables.{tables_of}
 use Rattle.wk_wiki_rules.specs.TableChanges.{job_held_by, refresh_change_without_rows}
 use Rattle.wk_wiki_rules.specs.declared.Entry.TheVariants as entry
 use Rattle.wk_wiki_laws.specs.Makes.{Makes}

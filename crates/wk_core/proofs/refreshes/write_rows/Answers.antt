@@ -1,8 +1,8 @@
 use Rattle.std.proofs.Common.{◌≡◌, sym, ap, ◌∙◌}
-use Rattle.wk_row_rules.specs.PageRows.{PageRows}
-use Rattle.wk_listing_rules.specs.Names.{admitted}
+use Rattle.wk_page_rules.specs.PageRows.{PageRows}
+use Rattle.wk_wiki_rules.specs.Names.{admitted}
 use Rattle.wk_index.specs.Held.{rows_of}
-use Rattle.wk_state_rules.specs.States.{State}
+use Rattle.wk_wiki_rules.specs.States.{State}
 use Rattle.wk_core.proofs.RefreshFacts.{between-new, between-old, between-there, refused-rows, written-rows}
 use Rattle.wk_core.proofs.refreshes.write_rows.Goals as goal
 

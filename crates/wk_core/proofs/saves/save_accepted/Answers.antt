@@ -4,9 +4,9 @@ use Rattle.wk_text_rules.specs.Titles.{PageTitle}
 use Rattle.wk_page_rules.specs.History.{History, current_revision, next_revision, page_exists, page_to_save}
 use Rattle.wk_table_rules.specs.Rows.{StoreTables}
 use Rattle.wk_table_rules.specs.Changes.{TableEdit, fits}
-use Rattle.wk_state_rules.specs.Events.{Save, with_saved}
-use Rattle.wk_state_rules.specs.Tables.{tables_of}
-use Rattle.wk_state_laws.proofs.Kept.{accepted}
+use Rattle.wk_wiki_rules.specs.Events.{Save, with_saved}
+use Rattle.wk_wiki_rules.specs.Tables.{tables_of}
+use Rattle.wk_wiki_laws.proofs.KeptStates.{accepted}
 use Rattle.wk_wiki_rules.specs.SaveOutcomes.{SaveOutcome, changed, created, save_numbers}
 use Rattle.wk_wiki_rules.specs.TableChanges.{save_change}
 use Rattle.wk_wiki_rules.specs.declared.Entry.TheVariants as entry

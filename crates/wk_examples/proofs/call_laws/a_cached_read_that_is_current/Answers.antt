@@ -2,16 +2,16 @@ use Rattle.std.proofs.Common.{◌≡◌, Some, drop, refl, take, true}
 use Rattle.std.proofs.lemmas.List.Elements.{All-from_recursion}
 use Rattle.wk_view_rules.specs.Views.{view}
 use Rattle.wk_view_rules.specs.Worlds.{Read, fits_kind, of_world}
-use Rattle.wk_job_rules.specs.Steps.{fan_pages}
-use Rattle.wk_state_rules.specs.Lives.{replay_from}
-use Rattle.wk_state_rules.specs.States.{no_state, world_of}
-use Rattle.wk_state_laws.specs.WellFormed.{IsWellFormed}
-use Rattle.wk_state_laws.proofs.Formed.{IsWellFormed-none}
+use Rattle.wk_wiki_rules.specs.Steps.{fan_pages}
+use Rattle.wk_wiki_rules.specs.Lives.{replay_from}
+use Rattle.wk_wiki_rules.specs.States.{no_state, world_of}
+use Rattle.wk_wiki_laws.specs.WellFormed.{IsWellFormed}
+use Rattle.wk_wiki_laws.proofs.Formed.{IsWellFormed-none}
 use Rattle.wk_view_rules.specs.Plans.{done}
 use Rattle.wk_wiki_rules.specs.Computing.{computing}
-use Rattle.wk_call_laws.specs.Caches.{IsLastingEntry}
-use Rattle.wk_call_laws.proofs.LastingEntries.{lasting-made, lasting-replayed}
-use Rattle.wk_call_laws.proofs.Since.{IsSoundSince-replayed}
+use Rattle.wk_life_laws.specs.Caches.{IsLastingEntry}
+use Rattle.wk_life_laws.proofs.LastingEntries.{lasting-made, lasting-replayed}
+use Rattle.wk_life_laws.proofs.Since.{IsSoundSince-replayed}
 use Rattle.wk_examples.specs.Cached.{cached}
 use Rattle.wk_examples.specs.Wikis.{title_p, race, race_6, race_12}
 use Rattle.wk_examples.proofs.call_laws.a_cached_read_that_is_current.Goals as goal

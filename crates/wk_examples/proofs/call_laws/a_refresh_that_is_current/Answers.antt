@@ -4,11 +4,11 @@ use Rattle.std.specs.Prelude.{Some}
 use Rattle.wk_page_rules.specs.History.{text_of_revision}
 use Rattle.wk_view_rules.specs.Views.{reads}
 use Rattle.wk_view_rules.specs.Worlds.{Read, HasItsText, ask, page_of, of_world}
-use Rattle.wk_job_rules.specs.Steps.{fan_pages}
-use Rattle.wk_state_rules.specs.States.{no_state, world_of}
-use Rattle.wk_state_laws.proofs.Formed.{IsWellFormed-none}
+use Rattle.wk_wiki_rules.specs.Steps.{fan_pages}
+use Rattle.wk_wiki_rules.specs.States.{no_state, world_of}
+use Rattle.wk_wiki_laws.proofs.Formed.{IsWellFormed-none}
 use Rattle.wk_wiki_rules.specs.Computing.{computing}
-use Rattle.wk_call_laws.proofs.Since.{IsSoundSince-replayed}
+use Rattle.wk_life_laws.proofs.Since.{IsSoundSince-replayed}
 use Rattle.wk_examples.specs.Wikis.{title_p, race, race_6, race_11}
 use Rattle.wk_examples.proofs.call_laws.a_refresh_that_is_current.Goals as goal
 

@@ -1,13 +1,13 @@
 use Rattle.std.proofs.Common.{◌≡◌, false, true, [], ◌∷◌, refl, ap, inl, inr, take}
-use Rattle.wk_job_rules.specs.Steps.{fan_pages}
-use Rattle.wk_row_rules.specs.PageRows.{PageRows, no_rows}
-use Rattle.wk_state_rules.specs.States.{State, no_state}
-use Rattle.wk_state_laws.specs.WellFormed.{IsWellFormed}
-use Rattle.wk_state_laws.proofs.Formed.{IsWellFormed-none}
-use Rattle.wk_state_laws.proofs.Sound.{IsSound-none}
+use Rattle.wk_wiki_rules.specs.Steps.{fan_pages}
+use Rattle.wk_page_rules.specs.PageRows.{PageRows, no_rows}
+use Rattle.wk_wiki_rules.specs.States.{State, no_state}
+use Rattle.wk_wiki_laws.specs.WellFormed.{IsWellFormed}
+use Rattle.wk_wiki_laws.proofs.Formed.{IsWellFormed-none}
+use Rattle.wk_wiki_laws.proofs.Sound.{IsSound-none}
 use Rattle.wk_wiki_rules.specs.Computing.{computing}
-use Rattle.wk_call_laws.specs.Sound.{IsSoundSince}
-use Rattle.wk_call_laws.proofs.Since.{IsSoundSince-replayed, IsSoundSince-start}
+use Rattle.wk_life_laws.specs.Sound.{IsSoundSince}
+use Rattle.wk_life_laws.proofs.Since.{IsSoundSince-replayed, IsSoundSince-start}
 use Rattle.wk_examples.specs.Stores.{title_t}
 use Rattle.wk_examples.specs.Wikis.{title_p, title_u, at, race, race_5, race_12}
 use Rattle.wk_examples.proofs.call_laws.soundness_of_a_start.Goals as goal

@@ -2,7 +2,7 @@ use Rattle.std.proofs.Common.{codes, lit≤, refl, take}
 use Rattle.std.proofs.lemmas.List.Elements.{All-from_recursion}
 use Rattle.wk_wiki_rules.specs.Computing.{computing}
 use Rattle.wk_wiki_rules.specs.Entries.{entries_from}
-use Rattle.wk_call_laws.specs.Standing.{EntryStands}
+use Rattle.wk_life_laws.specs.Standing.{EntryStands}
 use Rattle.wk_examples.specs.Wikis.{race, race_5, written}
 use Rattle.wk_examples.proofs.call_laws.what_is_kept_of_a_start.Goals as goal
 

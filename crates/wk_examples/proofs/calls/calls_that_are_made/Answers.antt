@@ -1,11 +1,11 @@
 use Rattle.std.proofs.Common.{◌≡◌, ◌≤◌, ℕ, ◌∷◌, [], Some, None, refl, lit≤, codes, arith, zero, suc}
 use Rattle.std.specs.Prelude.{slice_get}
 use Rattle.std.specs.List.{IsDistinct}
-use Rattle.wk_job_rules.specs.Steps.{fan_pages}
-use Rattle.wk_state_rules.specs.States.{no_state}
-use Rattle.wk_state_rules.specs.Events.{Event, Save, Claim, Done}
-use Rattle.wk_state_laws.specs.Reached.{stepped, empty}
-use Rattle.wk_state_laws.proofs.Reached.{IsKept-reached}
+use Rattle.wk_wiki_rules.specs.Steps.{fan_pages}
+use Rattle.wk_wiki_rules.specs.States.{no_state}
+use Rattle.wk_wiki_rules.specs.Events.{Event, Save, Claim, Done}
+use Rattle.wk_wiki_laws.specs.Reached.{stepped, empty}
+use Rattle.wk_wiki_laws.proofs.Reached.{IsKept-reached}
 use Rattle.wk_wiki_rules.specs.Calls.{no_call, one_more, by_save, by_claim, by_finish}
 use Rattle.wk_wiki_rules.specs.Computing.{computing}
 use Rattle.wk_wiki_rules.specs.Entries.{closes}

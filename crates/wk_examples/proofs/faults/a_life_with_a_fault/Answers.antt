@@ -1,8 +1,8 @@
 use Rattle.std.proofs.Common.{[], ◌∷◌, Some, refl, arith}
 use Rattle.wk_page_rules.specs.Verdict.{full_limits}
-use Rattle.wk_state_rules.specs.States.{no_state}
-use Rattle.wk_state_laws.specs.Reached.{IsWithinFull}
-use Rattle.wk_state_laws.proofs.Kept.{IsKept-none}
+use Rattle.wk_wiki_rules.specs.States.{no_state}
+use Rattle.wk_wiki_laws.specs.Reached.{IsWithinFull}
+use Rattle.wk_wiki_laws.proofs.KeptStates.{IsKept-none}
 use Rattle.wk_script_rules.specs.Computing.{computing as scripts}
 use Rattle.wk_script_rules.specs.Runs.{WikiScriptRun, as_answered, save_failed, over, timed}
 use Rattle.wk_script_laws.specs.Lives.{IsLife}

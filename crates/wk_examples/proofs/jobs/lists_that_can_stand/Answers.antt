@@ -1,7 +1,7 @@
 use Rattle.std.proofs.Common.{ℕ, ◌<◌, ◌≤◌, ◌∷◌, [], refl, lit<, lit≤}
 use Rattle.std.proofs.lemmas.List.Elements.{All-from_recursion}
 use Rattle.std.specs.List.{IsDistinct}
-use Rattle.wk_job_rules.specs.Computing.{computing}
+use Rattle.wk_wiki_rules.specs.JobComputing.{computing}
 use Rattle.wk_examples.proofs.jobs.lists_that_can_stand.Goals as goal
 
 pub returns-clause-found : goal.returns-clause-found

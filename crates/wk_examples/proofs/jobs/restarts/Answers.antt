@@ -1,5 +1,5 @@
 use Rattle.std.proofs.Common.{refl}
-use Rattle.wk_job_rules.specs.Computing.{computing}
+use Rattle.wk_wiki_rules.specs.JobComputing.{computing}
 use Rattle.wk_examples.proofs.jobs.restarts.Goals as goal
 
 pub returns-clause-reopened : goal.returns-clause-reopened

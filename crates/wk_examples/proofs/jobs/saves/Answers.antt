@@ -1,5 +1,5 @@
 use Rattle.std.proofs.Common.{refl}
-use Rattle.wk_job_rules.specs.Computing.{computing}
+use Rattle.wk_wiki_rules.specs.JobComputing.{computing}
 use Rattle.wk_examples.proofs.jobs.saves.Goals as goal
 
 pub returns-clause-nobody_names_it : goal.returns-clause-nobody_names_it

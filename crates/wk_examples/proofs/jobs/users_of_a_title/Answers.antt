@@ -1,5 +1,5 @@
 use Rattle.std.proofs.Common.{refl}
-use Rattle.wk_job_rules.specs.Computing.{computing}
+use Rattle.wk_wiki_rules.specs.JobComputing.{computing}
 use Rattle.wk_examples.proofs.jobs.users_of_a_title.Goals as goal
 
 pub returns-clause-by_templates : goal.returns-clause-by_templates

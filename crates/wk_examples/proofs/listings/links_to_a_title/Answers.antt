@@ -1,5 +1,5 @@
 use Rattle.std.proofs.Common.{refl}
-use Rattle.wk_listing_rules.specs.Computing.{computing}
+use Rattle.wk_wiki_rules.specs.ListingComputing.{computing}
 use Rattle.wk_examples.proofs.listings.links_to_a_title.Goals as goal
 
 pub returns-clause-all : goal.returns-clause-all

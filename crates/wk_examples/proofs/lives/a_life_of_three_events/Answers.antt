@@ -1,5 +1,5 @@
 use Rattle.std.proofs.Common.{codes, lit≤, None, refl, Some, true}
-use Rattle.wk_state_rules.specs.Events.{Claim, Done}
+use Rattle.wk_wiki_rules.specs.Events.{Claim, Done}
 use Rattle.wk_wiki_rules.specs.Computing.{computing}
 use Rattle.wk_life_laws.specs.Next.{Begins, IsNext}
 use Rattle.wk_life_laws.proofs.Lives.{claimed_life, done_life, empty_life, saved_life, sealed_life}

@@ -1,5 +1,5 @@
 use Rattle.std.proofs.Common.{refl, lit≤, arith, ◌≡◌, true, false}
-use Rattle.wk_state_rules.specs.Computing.{computing}
+use Rattle.wk_wiki_rules.specs.StateComputing.{computing}
 use Rattle.wk_examples.specs.Stores.{title_a}
 use Rattle.wk_examples.proofs.runs.a_conflict.Goals as goal
 

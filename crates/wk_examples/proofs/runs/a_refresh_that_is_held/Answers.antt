@@ -1,11 +1,11 @@
 use Rattle.std.proofs.Common.{◌∷◌, [], Some, refl}
-use Rattle.wk_job_rules.specs.Steps.{fan_pages}
-use Rattle.wk_state_rules.specs.Computing.{computing}
-use Rattle.wk_state_rules.specs.States.{no_state}
-use Rattle.wk_state_rules.specs.Events.{Save, Claim}
-use Rattle.wk_state_laws.proofs.Formed.{IsWellFormed-none}
+use Rattle.wk_wiki_rules.specs.Steps.{fan_pages}
+use Rattle.wk_wiki_rules.specs.StateComputing.{computing}
+use Rattle.wk_wiki_rules.specs.States.{no_state}
+use Rattle.wk_wiki_rules.specs.Events.{Save, Claim}
+use Rattle.wk_wiki_laws.proofs.Formed.{IsWellFormed-none}
 use Rattle.wk_examples.specs.Wikis.{title_p, members_text, members_2}
-use Rattle.wk_call_laws.proofs.Since.{IsSoundSince-replayed}
+use Rattle.wk_life_laws.proofs.Since.{IsSoundSince-replayed}
 use Rattle.wk_examples.proofs.runs.a_refresh_that_is_held.Goals as goal
 
 pub returns-clause-formed : goal.returns-clause-formed

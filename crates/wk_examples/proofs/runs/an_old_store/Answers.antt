@@ -1,7 +1,7 @@
 use Rattle.std.proofs.Common.{refl}
-use Rattle.wk_state_rules.specs.Computing.{computing}
-use Rattle.wk_state_laws.proofs.Opened.{IsSound-opened_old}
-use Rattle.wk_state_laws.proofs.GoodOpened.{IsWellFormed-opened}
+use Rattle.wk_wiki_rules.specs.StateComputing.{computing}
+use Rattle.wk_wiki_laws.proofs.Opened.{IsSound-opened_old}
+use Rattle.wk_wiki_laws.proofs.GoodOpened.{IsWellFormed-opened}
 use Rattle.wk_examples.specs.Wikis.{old_tables}
 use Rattle.wk_examples.proofs.runs.an_old_store.Goals as goal
 

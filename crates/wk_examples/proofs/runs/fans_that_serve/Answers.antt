@@ -1,10 +1,10 @@
 use Rattle.std.proofs.Common.{◌≡◌, ◌-◌, ℕ, zero, suc, false, eqb, refl, arith, ◌∷◌, []}
 use Rattle.std.specs.Prelude.{slice_get, unwrap_or}
 use Rattle.std.proofs.lemmas.Bool.{ne_eqb}
-use Rattle.wk_row_rules.specs.declared.Reach.TheVariants.{Both}
-use Rattle.wk_row_rules.specs.PageRows.{no_rows, names}
-use Rattle.wk_state_rules.specs.Computing.{computing}
-use Rattle.wk_state_laws.specs.FanRuns.{ends, goes_on}
+use Rattle.wk_page_rules.specs.declared.Reach.TheVariants.{Both}
+use Rattle.wk_page_rules.specs.PageRows.{no_rows, names}
+use Rattle.wk_wiki_rules.specs.StateComputing.{computing}
+use Rattle.wk_wiki_laws.specs.FanRuns.{ends, goes_on}
 use Rattle.wk_examples.specs.Queues.{fan}
 use Rattle.wk_examples.specs.Stores.{title_t}
 use Rattle.wk_examples.specs.Wikis.{users_13}

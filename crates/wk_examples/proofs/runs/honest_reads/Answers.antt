@@ -3,8 +3,8 @@ use Rattle.std.proofs.lemmas.List.Elements.{All-from_recursion}
 use Rattle.wk_page_rules.specs.History.{text_of_revision}
 use Rattle.wk_view_rules.specs.Views.{reads}
 use Rattle.wk_view_rules.specs.Worlds.{Read, HasItsText, page_of, of_world}
-use Rattle.wk_state_rules.specs.Computing.{computing}
-use Rattle.wk_state_rules.specs.States.{world_of}
+use Rattle.wk_wiki_rules.specs.StateComputing.{computing}
+use Rattle.wk_wiki_rules.specs.States.{world_of}
 use Rattle.wk_examples.specs.Wikis.{title_p, race_4}
 use Rattle.wk_examples.proofs.runs.honest_reads.Goals as goal
 

@@ -1,14 +1,14 @@
 use Rattle.std.proofs.Common.{◌∷◌, [], Some, None, refl, lit≤, sym, subst, codes}
-use Rattle.wk_job_rules.specs.Steps.{fan_pages}
-use Rattle.wk_state_rules.specs.Computing.{computing}
-use Rattle.wk_state_rules.specs.States.{no_state}
-use Rattle.wk_state_rules.specs.Events.{Save, Claim, Done}
-use Rattle.wk_state_rules.specs.Soundness.{IsSound}
-use Rattle.wk_state_laws.specs.Reached.{IsReached, empty, loaded, stepped}
-use Rattle.wk_state_laws.proofs.Sound.{IsSound-none, IsSound-reopened}
-use Rattle.wk_state_laws.proofs.Formed.{IsWellFormed-none}
-use Rattle.wk_state_laws.proofs.Always.{IsSound-replayed}
-use Rattle.wk_state_laws.proofs.Reached.{state_of-reached}
+use Rattle.wk_wiki_rules.specs.Steps.{fan_pages}
+use Rattle.wk_wiki_rules.specs.StateComputing.{computing}
+use Rattle.wk_wiki_rules.specs.States.{no_state}
+use Rattle.wk_wiki_rules.specs.Events.{Save, Claim, Done}
+use Rattle.wk_wiki_rules.specs.Soundness.{IsSound}
+use Rattle.wk_wiki_laws.specs.Reached.{IsReached, empty, loaded, stepped}
+use Rattle.wk_wiki_laws.proofs.Sound.{IsSound-none, IsSound-reopened}
+use Rattle.wk_wiki_laws.proofs.Formed.{IsWellFormed-none}
+use Rattle.wk_wiki_laws.proofs.Always.{IsSound-replayed}
+use Rattle.wk_wiki_laws.proofs.Reached.{state_of-reached}
 use Rattle.wk_wiki_rules.specs.Calls.{by_save, by_claim, by_finish}
 use Rattle.wk_examples.specs.Wikis.{title_p, members_text, members_1, members_2, members_3, edit_of_a, small, old_tables, opened_0, opened_1, opened_2}
 use Rattle.wk_examples.proofs.runs.reached_states.Goals as goal

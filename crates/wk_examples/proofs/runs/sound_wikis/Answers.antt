@@ -1,14 +1,14 @@
 use Rattle.std.proofs.Common.{◌≡◌, ◌∷◌, [], ◌++◌, Some, refl, codes}
-use Rattle.wk_state_rules.specs.Computing.{computing}
-use Rattle.wk_state_rules.specs.States.{no_state}
-use Rattle.wk_state_rules.specs.Events.{Save}
-use Rattle.wk_state_rules.specs.Lives.{replay_by}
-use Rattle.wk_state_laws.proofs.Sound.{IsSound-none}
-use Rattle.wk_state_laws.proofs.Formed.{IsWellFormed-none}
-use Rattle.wk_state_laws.proofs.Always.{IsSound-lives, IsSound-replayed}
+use Rattle.wk_wiki_rules.specs.StateComputing.{computing}
+use Rattle.wk_wiki_rules.specs.States.{no_state}
+use Rattle.wk_wiki_rules.specs.Events.{Save}
+use Rattle.wk_wiki_rules.specs.Lives.{replay_by}
+use Rattle.wk_wiki_laws.proofs.Sound.{IsSound-none}
+use Rattle.wk_wiki_laws.proofs.Formed.{IsWellFormed-none}
+use Rattle.wk_wiki_laws.proofs.Always.{IsSound-lives, IsSound-replayed}
 use Rattle.wk_examples.specs.Stores.{title_t}
 use Rattle.wk_examples.specs.Wikis.{race, race_12, users_journal, users_9, users_10}
-use Rattle.wk_call_laws.proofs.Since.{IsSoundSince-replayed}
+use Rattle.wk_life_laws.proofs.Since.{IsSoundSince-replayed}
 use Rattle.wk_examples.proofs.runs.sound_wikis.Goals as goal
 
 race-lives : goal.returns-clause-lived

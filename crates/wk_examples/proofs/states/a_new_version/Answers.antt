@@ -1,5 +1,5 @@
 use Rattle.std.proofs.Common.{refl}
-use Rattle.wk_state_rules.specs.Computing.{computing}
+use Rattle.wk_wiki_rules.specs.StateComputing.{computing}
 use Rattle.wk_examples.proofs.states.a_new_version.Goals as goal
 
 pub returns-clause-good : goal.returns-clause-good

@@ -1,5 +1,5 @@
 use Rattle.std.proofs.Common.{refl}
-use Rattle.wk_state_rules.specs.Computing.{computing}
+use Rattle.wk_wiki_rules.specs.StateComputing.{computing}
 use Rattle.wk_examples.proofs.states.a_restart.Goals as goal
 
 pub returns-clause-page_saved : goal.returns-clause-page_saved

@@ -1,7 +1,7 @@
 use Rattle.std.proofs.Common.{◌∷◌, [], Some, refl, lit≤, codes}
 use Rattle.wk_table_rules.specs.Computing.{computing}
-use Rattle.wk_row_rules.specs.declared.Reach.TheVariants.{Text, Both}
-use Rattle.wk_row_rules.specs.PageRows.{no_rows}
+use Rattle.wk_page_rules.specs.declared.Reach.TheVariants.{Text, Both}
+use Rattle.wk_page_rules.specs.PageRows.{no_rows}
 use Rattle.wk_table_rules.specs.JobTable.{fan_row, refresh_row}
 use Rattle.wk_table_laws.specs.Premises.{nothing, saves_page, adds_page, sets_rows, adds_job, sets_job, drops_job, raises_version}
 use Rattle.wk_examples.specs.Stores.{deletion, main, member, page, page_a, revision, title_a, title_b, title_t}

@@ -1,6 +1,6 @@
 use Rattle.std.proofs.Common.{◌≡◌, ◌+◌, ◌-◌, ◌≤◌, vec_len}
 use Rattle.std.specs.List.{All}
-use Rattle.wk_row_rules.specs.PageRows.{no_rows}
+use Rattle.wk_page_rules.specs.PageRows.{no_rows}
 use Rattle.wk_index.proofs.blanks.fill.Given as goal
 
 abbrev pub invariant-loop-blanks : goal.invariant-loop-blanks

@@ -1,6 +1,6 @@
 use Rattle.std.proofs.Common.{◌≡◌, take}
 use Rattle.wk_text_rules.specs.Titles.{title_eq}
-use Rattle.wk_listing_rules.specs.Names.{joined}
+use Rattle.wk_wiki_rules.specs.Names.{joined}
 use Rattle.wk_index.proofs.joined.joined_titles.Given as goal
 
 abbrev pub invariant-loop-title : goal.invariant-loop-title

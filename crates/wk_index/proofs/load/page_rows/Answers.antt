@@ -4,7 +4,7 @@ use Rattle.std.specs.Option.{option_map}
 use Rattle.std.specs.List.{All, filter, list_any}
 use Rattle.std.proofs.lemmas.List.Elements.{All-filter}
 use Rattle.wk_text_rules.specs.Titles.{PageTitle, is_normal, title_eq}
-use Rattle.wk_row_rules.specs.PageRows.{Member, PageRows}
+use Rattle.wk_page_rules.specs.PageRows.{Member, PageRows}
 use Rattle.wk_table_rules.specs.Rows.{category_title}
 use Rattle.wk_table_rules.specs.Stored.{member_of, rows_of_page}
 use Rattle.wk_table_rows.specs.Members.{member_of as member_of_triple}

@@ -1,6 +1,6 @@
 use Rattle.std.proofs.Common.{◌∙◌, sym, refl}
 use Rattle.wk_table_rows.specs.Members.{member_of}
-use Rattle.wk_listing_rules.specs.Names.{member_eq}
+use Rattle.wk_wiki_rules.specs.Names.{member_eq}
 use Rattle.wk_index.proofs.OrderLaws.{any-at_place, any-at_none}
 use Rattle.wk_index.proofs.PagesLaws.{any-map}
 use Rattle.wk_index.proofs.lookup.has_member.Goals as goal

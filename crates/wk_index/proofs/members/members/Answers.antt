@@ -2,7 +2,7 @@ use Rattle.std.proofs.Common.{◌≡◌, ◌∙◌, false, not, ◌&&◌, ap, sy
 use Rattle.std.specs.Prelude.{flat_map}
 use Rattle.std.specs.List.{filter}
 use Rattle.std.specs.Ordering.{is_le}
-use Rattle.wk_listing_rules.specs.Members.{members_behind}
+use Rattle.wk_wiki_rules.specs.Members.{members_behind}
 use Rattle.wk_index.specs.Entries.{entry_cmp}
 use Rattle.wk_index.specs.Listing.{members_from, page_members}
 use Rattle.wk_index.proofs.MembersLaws.{IsRun, from_first, listing-ends, listing-full, listing-goes_on, listing-other, listing-starts, own_entries, run-of}

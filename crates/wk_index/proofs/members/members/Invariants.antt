@@ -1,6 +1,6 @@
 use Rattle.std.proofs.Common.{◌≡◌}
 use Rattle.std.specs.Prelude.{flat_map}
-use Rattle.wk_listing_rules.specs.Members.{members_behind}
+use Rattle.wk_wiki_rules.specs.Members.{members_behind}
 use Rattle.wk_index.specs.Listing.{members_from, page_members}
 use Rattle.wk_index.proofs.MembersLaws.{IsRun, own_entries}
 use Rattle.wk_index.proofs.members.members.Given as goal

@@ -1,7 +1,7 @@
 use Rattle.std.proofs.Common.{◌≡◌, ◌∙◌, ◌++◌, List, map, ap, sym, subst}
 use Rattle.std.specs.Result.{IfOk}
 use Rattle.wk_table_rows.specs.Members.{member_of}
-use Rattle.wk_listing_rules.specs.Members.{MemberPage}
+use Rattle.wk_wiki_rules.specs.Members.{MemberPage}
 use Rattle.wk_index.specs.Listing.{members_from}
 use Rattle.wk_index.specs.Named.{rows_at}
 use Rattle.wk_index.proofs.MembersLaws.{page_members-none, page_members-some}

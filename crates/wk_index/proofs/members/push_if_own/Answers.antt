@@ -1,6 +1,6 @@
 use Rattle.std.proofs.Common.{◌≡◌, ◌∙◌, ◌++◌, ◌∷◌, List, ap, sym, subst}
 use Rattle.std.specs.Result.{IfOk}
-use Rattle.wk_listing_rules.specs.Members.{MemberPage}
+use Rattle.wk_wiki_rules.specs.Members.{MemberPage}
 use Rattle.wk_index.specs.Listing.{members_from}
 use Rattle.wk_index.proofs.MembersLaws.{own-none, own-one}
 use Rattle.wk_index.proofs.members.push_if_own.Goals as goal

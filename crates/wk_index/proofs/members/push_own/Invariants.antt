@@ -1,5 +1,5 @@
 use Rattle.std.proofs.Common.{◌≡◌, ◌++◌, List, drop}
-use Rattle.wk_listing_rules.specs.Members.{MemberPage}
+use Rattle.wk_wiki_rules.specs.Members.{MemberPage}
 use Rattle.wk_index.specs.Listing.{members_from, own_members}
 use Rattle.wk_index.proofs.members.push_own.Given as goal
 

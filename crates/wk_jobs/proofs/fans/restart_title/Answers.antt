@@ -1,7 +1,7 @@
 use Rattle.std.proofs.Common.{Bool, set, sym, ap, ◌∙◌}
 use Rattle.std.proofs.lemmas.List.Quantifiers.{position-Some}
 use Rattle.wk_text_rules.specs.Titles.{PageTitle, title_eq}
-use Rattle.wk_job_rules.specs.Jobs.{FanEntry}
+use Rattle.wk_wiki_rules.specs.Jobs.{FanEntry}
 use Rattle.wk_jobs.proofs.FanLists.{anew-none, anew-set}
 use Rattle.wk_jobs.proofs.Places.{position-absent, position-found}
 use Rattle.wk_jobs.proofs.fans.restart_title.Goals as goal

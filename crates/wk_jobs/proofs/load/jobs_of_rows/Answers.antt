@@ -6,7 +6,7 @@ use Rattle.wk_table_rules.specs.GoodStore.{has_good_id, has_good_title}
 use Rattle.wk_table_rules.specs.Stored.{history_of}
 use Rattle.wk_table_laws.specs.EachGood.{EachGood}
 use Rattle.wk_table_laws.proofs.FirstBad.{KeepsRules-from_good}
-use Rattle.wk_job_rules.specs.Jobs.{JobLists}
+use Rattle.wk_wiki_rules.specs.Jobs.{JobLists}
 use Rattle.wk_jobs.specs.Loaded.{CanBeFan, CanBeRefresh, number_in, jobs_so_far, with_row}
 use Rattle.wk_jobs.proofs.Loaded.{all-rows, read-at, row-added, row-bound, row-fan, row-next, row-refresh}
 use Rattle.wk_jobs.proofs.load.jobs_of_rows.Goals as goal

@@ -1,5 +1,5 @@
-use Rattle.wk_state_rules.specs.Verdicts.{journal_use}
-use Rattle.wk_call_laws.proofs.Accepted.{can_save-verdict}
+use Rattle.wk_wiki_rules.specs.Verdicts.{journal_use}
+use Rattle.wk_life_laws.proofs.Accepted.{can_save-verdict}
 use Rattle.wk_life_laws.proofs.NumbersFit.{pages_fit, save_numbers_fit}
 use Rattle.wk_life_laws.proofs.numbers.an_accepted_save_fits.Goals as goal
 

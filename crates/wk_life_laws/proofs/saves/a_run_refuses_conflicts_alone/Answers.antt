@@ -1,5 +1,5 @@
-use Rattle.wk_state_rules.specs.Verdicts.{journal_use}
-use Rattle.wk_state_laws.proofs.Conflicts.{conflict-verdict, verdict-conflict}
+use Rattle.wk_wiki_rules.specs.Verdicts.{journal_use}
+use Rattle.wk_wiki_laws.proofs.Conflicts.{conflict-verdict, verdict-conflict}
 use Rattle.wk_life_laws.proofs.saves.a_run_refuses_conflicts_alone.Goals as goal
 
 pub returns-clause-conflict : goal.returns-clause-conflict

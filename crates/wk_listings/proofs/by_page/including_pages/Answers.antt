@@ -1,9 +1,9 @@
 use Rattle.std.proofs.Common.{◌≡◌, ◌-◌, ◌^◌, ◌≤◌, ℕ, List, true, false, get_or, cond, inl, inr, ap, subst, ◌∙◌, arith}
 use Rattle.std.specs.Prelude.{nat_lt}
 use Rattle.std.proofs.lemmas.Bool.{cases_lt, lt-ltb, le-ltb}
-use Rattle.wk_job_rules.specs.Users.{users}
-use Rattle.wk_row_rules.specs.PageRows.{names}
-use Rattle.wk_row_rules.specs.declared.Reach.TheVariants.{Text}
+use Rattle.wk_wiki_rules.specs.Users.{users}
+use Rattle.wk_page_rules.specs.PageRows.{names}
+use Rattle.wk_page_rules.specs.declared.Reach.TheVariants.{Text}
 use Rattle.wk_listings.proofs.Above.{same-above}
 use Rattle.wk_listings.proofs.by_page.including_pages.Goals as goal
 

@@ -1,7 +1,7 @@
 use Rattle.std.proofs.Common.{◌≡◌, ◌-◌, ◌^◌, ◌≤◌, ℕ, List, true, false, get_or, cond, inl, inr, ap, subst, ◌∙◌, arith}
 use Rattle.std.specs.Prelude.{nat_lt}
 use Rattle.std.proofs.lemmas.Bool.{cases_lt, lt-ltb, le-ltb}
-use Rattle.wk_listing_rules.specs.Links.{linking_pages, links_to}
+use Rattle.wk_wiki_rules.specs.Links.{linking_pages, links_to}
 use Rattle.wk_listings.proofs.Above.{same-above}
 use Rattle.wk_listings.proofs.by_page.linking_pages.Goals as goal
 

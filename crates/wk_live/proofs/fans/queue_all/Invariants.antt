@@ -1,5 +1,5 @@
 use Rattle.std.proofs.Common.{◌≡◌, ◌+◌, ◌≤◌, ◌^◌, length, take}
-use Rattle.wk_job_rules.specs.Steps.{all_queued}
+use Rattle.wk_wiki_rules.specs.Steps.{all_queued}
 use Rattle.wk_live.proofs.fans.queue_all.Given as goal
 
 abbrev pub invariant-loop-page : goal.invariant-loop-page

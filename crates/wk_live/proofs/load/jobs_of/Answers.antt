@@ -4,9 +4,9 @@ use Rattle.std.specs.List.{range_with_len}
 use Rattle.std.proofs.lemmas.Bool.{ne_eqb}
 use Rattle.wk_page_rules.specs.Verdict.{max_pages}
 use Rattle.wk_table_rules.specs.Rows.{PageColumns}
-use Rattle.wk_job_rules.specs.Jobs.{JobLists}
-use Rattle.wk_job_rules.specs.Steps.{all_queued, jobs_of_tables, reopened_jobs}
-use Rattle.wk_state_rules.specs.Lives.{opened}
+use Rattle.wk_wiki_rules.specs.Jobs.{JobLists}
+use Rattle.wk_wiki_rules.specs.Steps.{all_queued, jobs_of_tables, reopened_jobs}
+use Rattle.wk_wiki_rules.specs.Lives.{opened}
 use Rattle.wk_live.proofs.LoadLaws.{first-opened, numbers-fit, pages-fit}
 use Rattle.wk_live.proofs.load.jobs_of.Goals as goal
 

@@ -1,5 +1,5 @@
 use Rattle.std.proofs.Common.{◌≡◌, ◌+◌, ap, sym, ◌∙◌, arith}
-use Rattle.wk_job_rules.specs.Jobs.{JobLists, refresh_queued}
+use Rattle.wk_wiki_rules.specs.Jobs.{JobLists, refresh_queued}
 use Rattle.wk_live.proofs.FanLaws.{next-queued}
 use Rattle.wk_live.proofs.LoadLaws.{queued-more}
 use Rattle.wk_live.proofs.load.queue_pages.Goals as goal

@@ -1,6 +1,6 @@
 use Rattle.std.proofs.Common.{◌≡◌, ◌+◌, ◌≤◌}
 use Rattle.std.specs.List.{range_with_len}
-use Rattle.wk_job_rules.specs.Steps.{all_queued}
+use Rattle.wk_wiki_rules.specs.Steps.{all_queued}
 use Rattle.wk_live.proofs.load.queue_pages.Given as goal
 
 abbrev pub invariant-loop-page : goal.invariant-loop-page

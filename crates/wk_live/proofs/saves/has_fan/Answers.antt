@@ -1,7 +1,7 @@
 use Rattle.std.proofs.Common.{ap, ◌∙◌}
 use Rattle.std.specs.Prelude.{is_some}
 use Rattle.wk_text_rules.specs.Titles.{title_eq}
-use Rattle.wk_job_rules.specs.Jobs.{FanEntry}
+use Rattle.wk_wiki_rules.specs.Jobs.{FanEntry}
 use Rattle.wk_live.proofs.SaveLaws.{some_found}
 use Rattle.wk_live.proofs.saves.has_fan.Goals as goal
 

@@ -1,6 +1,6 @@
 use Rattle.std.proofs.Common.{◌≡◌}
 use Rattle.wk_view_rules.specs.Worlds.{Agrees, of_seen, of_world}
-use Rattle.wk_state_rules.specs.States.{world_of}
+use Rattle.wk_wiki_rules.specs.States.{world_of}
 use Rattle.wk_expand.specs.Steps.{given_text}
 use Rattle.wk_present.proofs.drafts.draft_now.Given as goal
 

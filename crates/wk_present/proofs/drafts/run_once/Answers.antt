@@ -1,6 +1,6 @@
 use Rattle.std.proofs.Common.{◌≡◌, List, subst, sym}
 use Rattle.wk_view_rules.specs.Worlds.{Agrees, Read, of_world}
-use Rattle.wk_state_rules.specs.States.{world_of}
+use Rattle.wk_wiki_rules.specs.States.{world_of}
 use Rattle.wk_present.proofs.DraftLaws.{one-more, present}
 use Rattle.wk_present.proofs.drafts.run_once.Goals as goal
 

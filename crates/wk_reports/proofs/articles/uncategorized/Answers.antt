@@ -1,5 +1,5 @@
 use Rattle.std.proofs.Common.{map}
-use Rattle.wk_state_rules.specs.States.{world_of}
+use Rattle.wk_wiki_rules.specs.States.{world_of}
 use Rattle.wk_report_rules.specs.Pages.{stored_pages}
 use Rattle.wk_report_rules.specs.Reports.{is_uncategorized}
 use Rattle.wk_report_lines.specs.Lines.{line_of}

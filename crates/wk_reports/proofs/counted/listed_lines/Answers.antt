@@ -1,6 +1,6 @@
 use Rattle.std.proofs.Common.{◌≡◌, map, Some, rules}
 use Rattle.std.specs.Prelude.{slice_get}
-use Rattle.wk_state_rules.specs.States.{world_of}
+use Rattle.wk_wiki_rules.specs.States.{world_of}
 use Rattle.wk_report_lines.specs.Lines.{line_of}
 use Rattle.wk_reports.proofs.Found.{entries-whole, entry-next}
 use Rattle.wk_reports.proofs.counted.listed_lines.Goals as goal

@@ -1,5 +1,5 @@
 use Rattle.std.proofs.Common.{◌≡◌, map, take}
-use Rattle.wk_state_rules.specs.States.{world_of}
+use Rattle.wk_wiki_rules.specs.States.{world_of}
 use Rattle.wk_report_lines.specs.Lines.{line_of}
 use Rattle.wk_reports.proofs.Found.{entry_lines}
 use Rattle.wk_reports.proofs.counted.listed_lines.Given as goal

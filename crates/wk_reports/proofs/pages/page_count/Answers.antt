@@ -1,5 +1,5 @@
 use Rattle.std.proofs.Common.{ap, length, sym, ◌∙◌, arith}
-use Rattle.wk_state_laws.proofs.Kept.{few-pages}
+use Rattle.wk_wiki_laws.proofs.KeptStates.{few-pages}
 use Rattle.wk_report_laws.proofs.Walks.{stored-length}
 use Rattle.wk_reports.proofs.pages.page_count.Goals as goal
 

@@ -1,6 +1,6 @@
 use Rattle.std.proofs.Common.{◌≡◌, Some, None, ap, sym, ◌∙◌}
 use Rattle.wk_page_rules.specs.History.{page_number}
-use Rattle.wk_row_rules.specs.PageRows.{PageRows}
+use Rattle.wk_page_rules.specs.PageRows.{PageRows}
 use Rattle.wk_report_laws.proofs.Walks.{redirect-found, redirect-none}
 use Rattle.wk_reports.proofs.redirects.redirect_of.Goals as goal
 

@@ -7,7 +7,7 @@ use Rattle.wk_script_rules.specs.Replies.{claim_entries, nothing_entries}
 use Rattle.wk_script_rules.specs.Runs.{claim_out_of_memory}
 use Rattle.wk_script_rules.specs.ScriptLines.{claim_line}
 use Rattle.wk_script_rules.specs.WikiScripts.{TicketDraft}
-use Rattle.wk_script_tickets.specs.Drafts.{begun}
+use Rattle.wk_script_steps.specs.Drafts.{begun}
 use Rattle.wk_script_steps.specs.Seen.{script_of}
 use Rattle.wk_script_steps.proofs.Calls.{answers-same, claim-shown, claim-told, shows-at, starved-same}
 use Rattle.wk_script_steps.proofs.LineRuns.{claim-full, nothing-claimed}

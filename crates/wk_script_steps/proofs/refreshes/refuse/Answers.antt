@@ -1,5 +1,5 @@
 use Rattle.std.proofs.Common.{length, ap, subst}
-use Rattle.wk_state_rules.specs.Events.{Back}
+use Rattle.wk_wiki_rules.specs.Events.{Back}
 use Rattle.wk_wiki_rules.specs.Claims.{ClaimOutcome}
 use Rattle.wk_answer_rules.specs.ApiErrors.{api_error, nomemory}
 use Rattle.wk_core.specs.Steps.{HasMade}

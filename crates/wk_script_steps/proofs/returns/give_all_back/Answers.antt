@@ -1,6 +1,6 @@
 use Rattle.std.proofs.Common.{◌≡◌, List, [], ◌∷◌, ap, sym, ◌∙◌, subst}
 use Rattle.std.proofs.lemmas.List.{nil_from_length}
-use Rattle.wk_state_rules.specs.Events.{Back}
+use Rattle.wk_wiki_rules.specs.Events.{Back}
 use Rattle.wk_wiki_rules.specs.Claims.{ClaimOutcome}
 use Rattle.wk_core.specs.Steps.{HasMade}
 use Rattle.wk_script_rules.specs.WikiScripts.{TicketDraft}

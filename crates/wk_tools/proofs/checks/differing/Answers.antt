@@ -1,5 +1,5 @@
 use Rattle.std.proofs.Common.{ap, length, arith}
-use Rattle.wk_state_laws.proofs.Kept.{few-pages}
+use Rattle.wk_wiki_laws.proofs.KeptStates.{few-pages}
 use Rattle.wk_tools.proofs.Outdated.{found-after}
 use Rattle.wk_tools.proofs.checks.differing.Goals as goal
 

@@ -1,5 +1,5 @@
 use Rattle.std.proofs.Common.{◌≡◌, ◌⊎◌, ◌+◌, ◌∷◌, [], length, Ok, Err, inl, inr, ap}
-use Rattle.wk_state_rules.specs.Events.{Back, Claim}
+use Rattle.wk_wiki_rules.specs.Events.{Back, Claim}
 use Rattle.wk_core.specs.Seen.{WikiSeen}
 use Rattle.wk_tools.specs.Lived.{HasMadeEach}
 use Rattle.wk_tools.specs.Rounds.{EndsBy, by_refresh, with_nothing, with_return}

@@ -1,6 +1,6 @@
 use Rattle.std.proofs.Common.{◌+◌, ◌∷◌, [], length, arith, rules}
 use Rattle.std.proofs.lemmas.Grind.{common_steps}
-use Rattle.wk_state_rules.specs.Events.{Back, Claim, Done}
+use Rattle.wk_wiki_rules.specs.Events.{Back, Claim, Done}
 use Rattle.wk_tools.specs.Lived.{HasMadeEach}
 use Rattle.wk_tools.proofs.RefreshWork.{back-tickets, done-tickets}
 use Rattle.wk_tools.proofs.refreshes.refresh_here.Goals as goal

@@ -1,6 +1,6 @@
-use Rattle.wk_state_laws.proofs.GoodJobs.{IsKept-opened}
-use Rattle.wk_state_laws.proofs.Kept.{IsKept-none, IsKept-reopened}
-use Rattle.wk_state_laws.proofs.Reached.{IsKept-reached}
+use Rattle.wk_wiki_laws.proofs.GoodJobs.{IsKept-opened}
+use Rattle.wk_wiki_laws.proofs.KeptStates.{IsKept-none, IsKept-reopened}
+use Rattle.wk_wiki_laws.proofs.Reached.{IsKept-reached}
 use Rattle.wk_wiki_laws.proofs.KeptCalls.{kept-step, kept-calls}
 use Rattle.wk_wiki_laws.proofs.StoresOpened.{kept-good}
 use Rattle.wk_wiki_laws.proofs.kept.a_wiki_keeps_its_form.Goals as goal

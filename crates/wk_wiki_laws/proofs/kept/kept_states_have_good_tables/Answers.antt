@@ -1,5 +1,5 @@
-use Rattle.wk_state_laws.proofs.Kept.{IsGood-kept}
-use Rattle.wk_state_laws.proofs.ReadBack.{state-back, opened-is}
+use Rattle.wk_wiki_laws.proofs.KeptStates.{IsGood-kept}
+use Rattle.wk_wiki_laws.proofs.ReadBack.{state-back, opened-is}
 use Rattle.wk_wiki_laws.proofs.kept.kept_states_have_good_tables.Goals as goal
 
 pub returns-clause-good : goal.returns-clause-good

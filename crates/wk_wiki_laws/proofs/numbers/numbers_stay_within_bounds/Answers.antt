@@ -1,4 +1,4 @@
-use Rattle.wk_state_laws.proofs.Kept.{few-pages}
+use Rattle.wk_wiki_laws.proofs.KeptStates.{few-pages}
 use Rattle.wk_wiki_laws.proofs.NumberBounds.{next-at-a-save, next-at-a-fan, numbers-below, cursors-low}
 use Rattle.wk_wiki_laws.proofs.numbers.numbers_stay_within_bounds.Goals as goal
 

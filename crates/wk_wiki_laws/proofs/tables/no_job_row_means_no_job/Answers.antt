@@ -1,4 +1,4 @@
-use Rattle.wk_state_rules.specs.States.{title_at}
+use Rattle.wk_wiki_rules.specs.States.{title_at}
 use Rattle.wk_wiki_laws.proofs.JobsMade.{no-rows-no-jobs, no-jobs-no-rows}
 use Rattle.wk_wiki_laws.proofs.tables.no_job_row_means_no_job.Goals as goal
 

@@ -1,7 +1,7 @@
 use Rattle.std.proofs.Common.{◌≡◌, ℕ, ◌+◌, ◌-◌, ◌≤◌, false, List, [], ◌∷◌, ◌++◌, length, Some, sym, ap, ◌∙◌, subst, arith}
 use Rattle.std.specs.Prelude.{IsSome, vec_capacity}
-use Rattle.wk_job_rules.specs.Jobs.{claimed_by, first_queued}
-use Rattle.wk_state_rules.specs.Events.{Claim, with_jobs}
+use Rattle.wk_wiki_rules.specs.Jobs.{claimed_by, first_queued}
+use Rattle.wk_wiki_rules.specs.Events.{Claim, with_jobs}
 use Rattle.wk_wiki_rules.specs.Room.{is_claim_refused}
 use Rattle.wk_wiki_rules.specs.declared.Entry.TheVariants as entry
 use Rattle.wk_life_laws.specs.Lives.{journal_of}

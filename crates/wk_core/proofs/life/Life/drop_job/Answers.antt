@@ -1,9 +1,9 @@
 use Rattle.std.proofs.Common.{◌≡◌, ℕ, ◌+◌, ◌≤◌, ◌<◌, List, [], ◌∷◌, ◌++◌, length, Some, sym, ap, ◌∙◌, subst, arith}
 use Rattle.std.specs.Prelude.{vec_capacity}
 use Rattle.wk_view_rules.specs.Rows.{rows}
-use Rattle.wk_job_rules.specs.Jobs.{page_held_by}
-use Rattle.wk_state_rules.specs.States.{stored_at, title_at, world_of}
-use Rattle.wk_state_rules.specs.Events.{Done}
+use Rattle.wk_wiki_rules.specs.Jobs.{page_held_by}
+use Rattle.wk_wiki_rules.specs.States.{stored_at, title_at, world_of}
+use Rattle.wk_wiki_rules.specs.Events.{Done}
 use Rattle.wk_wiki_rules.specs.declared.Entry.TheVariants as entry
 use Rattle.wk_wiki_laws.proofs.TicketsOut.{out-one}
 use Rattle.wk_life_laws.specs.Next.{IsNext, with_entry}

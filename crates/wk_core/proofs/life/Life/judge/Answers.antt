@@ -1,6 +1,6 @@
 use Rattle.std.proofs.Common.{◌≡◌, false, length, Some, sym, ap, ◌∙◌, subst}
 use Rattle.wk_page_rules.specs.Verdict.{accept, is_journal_full, judged}
-use Rattle.wk_state_rules.specs.Verdicts.{journal_use}
+use Rattle.wk_wiki_rules.specs.Verdicts.{journal_use}
 use Rattle.wk_life_laws.specs.Lives.{journal_of}
 use Rattle.wk_life_laws.proofs.RunRoom.{accepted_in}
 use Rattle.wk_revs.specs.Edit.{edit_asked, most_held}

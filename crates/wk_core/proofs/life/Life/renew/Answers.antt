@@ -1,9 +1,9 @@
 use Rattle.std.proofs.Common.{◌≡◌, ℕ, false, List, [], None, refl, sym, ap, ◌∙◌, subst}
 use Rattle.std.specs.Prelude.{vec_capacity}
 use Rattle.wk_page_rules.specs.Verdict.{MostHeld}
-use Rattle.wk_state_rules.specs.States.{State}
-use Rattle.wk_state_rules.specs.Lives.{reopened}
-use Rattle.wk_state_rules.specs.Tables.{tables_of}
+use Rattle.wk_wiki_rules.specs.States.{State}
+use Rattle.wk_wiki_rules.specs.Lives.{reopened}
+use Rattle.wk_wiki_rules.specs.Tables.{tables_of}
 use Rattle.wk_wiki_laws.proofs.ChangesMade.{reopened-tables}
 use Rattle.wk_wiki_rules.specs.Starts.{StartKept, kept_of}
 use Rattle.wk_wiki_rules.specs.declared.Entry.{Entry}

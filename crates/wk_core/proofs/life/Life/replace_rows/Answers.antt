@@ -1,12 +1,12 @@
 use Rattle.std.proofs.Common.{◌≡◌, ℕ, ◌+◌, ◌≤◌, ◌<◌, true, List, [], ◌∷◌, ◌++◌, length, Some, refl, sym, ap, ◌∙◌, subst, arith}
 use Rattle.std.specs.Prelude.{IsSome, vec_capacity}
-use Rattle.wk_row_rules.specs.PageRows.{PageRows}
+use Rattle.wk_page_rules.specs.PageRows.{PageRows}
 use Rattle.wk_view_rules.specs.Rows.{rows}
 use Rattle.wk_table_rules.specs.Changes.{TableEdit}
-use Rattle.wk_job_rules.specs.Jobs.{JobLists, IsOneAPage, RefreshEntry, has_claimed, has_refresh, page_held_by, refresh_dropped}
-use Rattle.wk_state_rules.specs.States.{State, stored_at, title_at, world_of}
-use Rattle.wk_state_rules.specs.Events.{Done, with_refreshed}
-use Rattle.wk_state_rules.specs.Tables.{tables_of}
+use Rattle.wk_wiki_rules.specs.Jobs.{JobLists, IsOneAPage, RefreshEntry, has_claimed, has_refresh, page_held_by, refresh_dropped}
+use Rattle.wk_wiki_rules.specs.States.{State, stored_at, title_at, world_of}
+use Rattle.wk_wiki_rules.specs.Events.{Done, with_refreshed}
+use Rattle.wk_wiki_rules.specs.Tables.{tables_of}
 use Rattle.wk_wiki_rules.specs.TableChanges.{job_held_by, refresh_change}
 use Rattle.wk_wiki_rules.specs.declared.Entry.TheVariants as entry
 use Rattle.wk_wiki_laws.specs.Makes.{Makes}
@@ -14,7 +14,7 @@ use Rattle.wk_wiki_laws.proofs.TicketsOut.{out-one}
 use Rattle.wk_life_laws.specs.Lives.{Life}
 use Rattle.wk_life_laws.specs.Next.{IsNext, with_entry}
 use Rattle.wk_life_laws.proofs.Lives.{done_life}
-use Rattle.wk_listing_rules.specs.Names.{with_rows_at}
+use Rattle.wk_wiki_rules.specs.Names.{with_rows_at}
 use Rattle.wk_jobs.specs.HeldJobs.{HeldJobs}
 use Rattle.wk_live.proofs.TicketLaws.{held-is-claimed}
 use Rattle.wk_core.specs.LifeHeld.{LifeHeld, KeepsLife}

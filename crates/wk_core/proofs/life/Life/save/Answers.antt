@@ -1,6 +1,6 @@
 use Rattle.std.proofs.Common.{◌≡◌, ℕ, ◌+◌, ◌-◌, ◌≤◌, List, [], ◌∷◌, ◌++◌, length, None, sym, ap, ◌∙◌, subst, arith}
 use Rattle.std.specs.Prelude.{vec_capacity}
-use Rattle.wk_state_rules.specs.Events.{Save}
+use Rattle.wk_wiki_rules.specs.Events.{Save}
 use Rattle.wk_wiki_rules.specs.declared.Entry.TheVariants as entry
 use Rattle.wk_life_laws.specs.Next.{IsNext, with_entry}
 use Rattle.wk_core.specs.Accepted.{IsAccepted}

@@ -1,6 +1,6 @@
 use Rattle.std.proofs.Common.{◌≡◌, Some, None, sym, ap, ◌∙◌}
-use Rattle.wk_job_rules.specs.Jobs.{first_queued}
-use Rattle.wk_state_rules.specs.States.{page_at}
+use Rattle.wk_wiki_rules.specs.Jobs.{first_queued}
+use Rattle.wk_wiki_rules.specs.States.{page_at}
 use Rattle.wk_jobs.specs.HeldJobs.{HeldJobs}
 use Rattle.wk_revs.specs.Revs.{Stored}
 use Rattle.wk_core.specs.LifeInside.{held}

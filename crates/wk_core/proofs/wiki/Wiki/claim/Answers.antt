@@ -1,8 +1,8 @@
 use Rattle.std.proofs.Common.{◌≡◌, refl, subst, sym, ap, ◌∙◌}
-use Rattle.wk_job_rules.specs.Jobs.{first_queued}
-use Rattle.wk_state_rules.specs.States.{title_at}
-use Rattle.wk_state_rules.specs.Events.{Claim}
-use Rattle.wk_state_rules.specs.Tables.{tables_of}
+use Rattle.wk_wiki_rules.specs.Jobs.{first_queued}
+use Rattle.wk_wiki_rules.specs.States.{title_at}
+use Rattle.wk_wiki_rules.specs.Events.{Claim}
+use Rattle.wk_wiki_rules.specs.Tables.{tables_of}
 use Rattle.wk_wiki_rules.specs.Claims.{ClaimOutcome}
 use Rattle.wk_core.specs.Tickets.{IsOut}
 use Rattle.wk_core.proofs.TicketFacts.{claimed-out, titled-page}

@@ -1,6 +1,6 @@
 use Rattle.std.proofs.Common.{subst}
-use Rattle.wk_state_laws.specs.Saves.{Continues, saves}
-use Rattle.wk_call_laws.specs.Sound.{IsSoundSince}
+use Rattle.wk_wiki_laws.specs.Saves.{Continues, saves}
+use Rattle.wk_life_laws.specs.Sound.{IsSoundSince}
 use Rattle.wk_life_laws.specs.Lives.{journal_of, start_of}
 use Rattle.wk_life_laws.proofs.RunFacts.{run_continues, run_sound}
 use Rattle.wk_core.specs.Seen.{WikiSeen}

@@ -1,4 +1,4 @@
-use Rattle.wk_state_rules.specs.Events.{Fan}
+use Rattle.wk_wiki_rules.specs.Events.{Fan}
 use Rattle.wk_core.proofs.CacheFacts.{lasting-event}
 use Rattle.wk_core.proofs.wiki.Wiki.fan.Goals as goal
 

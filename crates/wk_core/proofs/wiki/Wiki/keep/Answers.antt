@@ -1,5 +1,5 @@
 use Rattle.std.proofs.Common.{subst, sym}
-use Rattle.wk_call_laws.specs.Caches.{IsLastingEntry}
+use Rattle.wk_life_laws.specs.Caches.{IsLastingEntry}
 use Rattle.wk_cache.specs.Entries.{entry_kept}
 use Rattle.wk_core.specs.Seen.{WikiSeen}
 use Rattle.wk_core.proofs.CacheFacts.{put-lasting}

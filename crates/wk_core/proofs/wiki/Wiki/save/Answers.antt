@@ -1,4 +1,4 @@
-use Rattle.wk_state_rules.specs.Events.{Save}
+use Rattle.wk_wiki_rules.specs.Events.{Save}
 use Rattle.wk_core.specs.Seen.{seen}
 use Rattle.wk_core.proofs.CacheFacts.{lasting-call}
 use Rattle.wk_core.proofs.wiki.Wiki.save.Goals as goal

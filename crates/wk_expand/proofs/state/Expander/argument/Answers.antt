@@ -15,7 +15,7 @@ pub returns-in-Some : goal.returns-in-Some
 returns-in-Some c =
     λ seen p h.
     let s = c.args.self.now in
-    let b = binding-some (caller_tree s) c.look.result (bound_to p.frame c.made_or.result.now) c.in-Some.bound c.in-Some.is (c.look.ensures.bound p.viewed p.frame (frame-here s c.args.node p h)) in
+    let b = binding-some (caller_tree s) c.look.result (bound_to p.frame c.made_or.result.now) c.in-Some.bound c.in-Some.is (c.look.ensures.bound p.frame (frame-here s c.args.node p h).shows) in
     let bound : bound_to p.frame (trimmed_output c.args.name.now) ≡ Some b.0 = ap (bound_to p.frame) (sym (c.made_or.ensures ∙ c.in_ok-made.ensures)) ∙ b.1 in
     leads-in seen p (argument_output p.inner p.viewed p.frame c.args.name.now (parts_at p)) (argument_value p.inner p.viewed p.frame b.0) s c.in_ok-value.field-0 c.value.new.self
     (argument-bound p.inner p.viewed p.frame c.args.name.now (parts_at p) b.0 bound)
@@ -26,7 +26,7 @@ returns-then-parts-eq0 c =
     λ seen p h.
     let s = c.args.self.now in
     let count : c.parts.result ≡ length (parts_at p) = count-here s c.args.node p h c.tree.result.now c.parts.result c.tree.ensures c.parts.ensures in
-    let free : bound_to p.frame (trimmed_output c.args.name.now) ≡ None = ap (bound_to p.frame) (sym (c.made_or.ensures ∙ c.in_ok-made.ensures)) ∙ binding-none (caller_tree s) c.look.result (bound_to p.frame c.made_or.result.now) c.in_default.is (c.look.ensures.bound p.viewed p.frame (frame-here s c.args.node p h)) in
+    let free : bound_to p.frame (trimmed_output c.args.name.now) ≡ None = ap (bound_to p.frame) (sym (c.made_or.ensures ∙ c.in_ok-made.ensures)) ∙ binding-none (caller_tree s) c.look.result (bound_to p.frame c.made_or.result.now) c.in_default.is (c.look.ensures.bound p.frame (frame-here s c.args.node p h).shows) in
     leads-give s c.args.node p h seen (argument_output p.inner p.viewed p.frame c.args.name.now (parts_at p)) c.in_ok-braced.field-0 (all_plain (codes "{{{") ++ c.args.name.now ++ all_plain (codes "}}}"))
     (argument-written p.inner p.viewed p.frame c.args.name.now (parts_at p) free (sym count ∙ c.if-parts-eq0.true))
     c.in_ok-braced.ensures
@@ -39,7 +39,7 @@ returns c =
     λ seen p h.
     let s = c.args.self.now in
     let q = part-within s c.args.node p h c.tree.result.now c.parts.result 0 c.tree.ensures c.parts.ensures (omega (arith, c.if-parts-eq0.false)) in
-    let free : bound_to p.frame (trimmed_output c.args.name.now) ≡ None = ap (bound_to p.frame) (sym (c.made_or.ensures ∙ c.in_ok-made.ensures)) ∙ binding-none (caller_tree s) c.look.result (bound_to p.frame c.made_or.result.now) c.in_default.is (c.look.ensures.bound p.viewed p.frame (frame-here s c.args.node p h)) in
+    let free : bound_to p.frame (trimmed_output c.args.name.now) ≡ None = ap (bound_to p.frame) (sym (c.made_or.ensures ∙ c.in_ok-made.ensures)) ∙ binding-none (caller_tree s) c.look.result (bound_to p.frame c.made_or.result.now) c.in_default.is (c.look.ensures.bound p.frame (frame-here s c.args.node p h).shows) in
     let whole = whole_part p.inner p.viewed p.frame q.0 in
     let before = c.new-before.result in
     leads-in seen p (argument_output p.inner p.viewed p.frame c.args.name.now (parts_at p)) (whole_behind p q.0 before give) s c.whole.result s

@@ -6,7 +6,7 @@ use Rattle.wk_view_rules.specs.Expand.{with_bindings}
 use Rattle.wk_view_rules.specs.Expansions.{Expansion, Output, ◌>>=◌}
 use Rattle.wk_view_rules.specs.Frames.{Binding}
 use Rattle.wk_expand.specs.Stack.{IsBinder, IsBoundNext, included_with, parts_at}
-use Rattle.wk_expand.specs.declared.levels.Bound.{Bound}
+use Rattle.wk_frames.specs.declared.levels.Bound.{Bound}
 use Rattle.wk_expand.specs.declared.stack.Inclusion.{Inclusion}
 use Rattle.wk_expand.specs.declared.stack.Waiting.TheVariants.{Binding as BindingOf}
 use Rattle.wk_expand.proofs.BindLaws.{bindings-end}

@@ -4,12 +4,14 @@ use Rattle.wk_text_rules.specs.Marked.{plain_text_of, trimmed_output}
 use Rattle.wk_view_rules.specs.Expand.{with_bindings}
 use Rattle.wk_view_rules.specs.Expansions.{Expansion, Output, ◌>>=◌}
 use Rattle.wk_view_rules.specs.Frames.{Binding}
-use Rattle.wk_expand.specs.Levels.{HasLists}
+use Rattle.wk_frames.specs.Levels.{HasLists}
 use Rattle.wk_expand.specs.Stack.{included_with, parts_at, text_at}
-use Rattle.wk_expand.specs.State.{IsBinding, ShowsBindings, current}
+use Rattle.wk_frames.specs.Frames.{IsBinding, ShowsBindings}
+use Rattle.wk_expand.specs.State.{current}
 use Rattle.wk_expand.specs.Items.{IsPlainName}
-use Rattle.wk_expand.specs.declared.levels.Bound.{Bound}
-use Rattle.wk_expand.proofs.BindLaws.{behind_plain as behind_named, bindings-bare, bindings-behind, drop-next, has-more, shows-more}
+use Rattle.wk_frames.specs.declared.levels.Bound.{Bound}
+use Rattle.wk_frames.proofs.BindLaws.{has-more, shows-more}
+use Rattle.wk_expand.proofs.BindLaws.{behind_plain as behind_named, bindings-bare, bindings-behind, drop-next}
 use Rattle.wk_expand.proofs.LeadLaws.{part-here, part-there, text-here}
 use Rattle.wk_expand.proofs.PartLaws.{bare, named, some_of, value-there}
 use Rattle.wk_expand.proofs.PlainLaws.{behind-plain, name-plain}

@@ -4,8 +4,9 @@ use Rattle.wk_tree_rules.specs.Tree.{tree}
 use Rattle.wk_tree_rules.specs.declared.Mode.TheVariants as mode
 use Rattle.wk_view_rules.specs.Expansions.{Expansion, Output, inclusion_within_limit, ◌>>=◌}
 use Rattle.wk_expand.specs.Stack.{included_with}
-use Rattle.wk_expand.specs.State.{ShowsBindings, progress_of}
-use Rattle.wk_expand.specs.declared.levels.Level.{Level}
+use Rattle.wk_frames.specs.Frames.{ShowsBindings}
+use Rattle.wk_expand.specs.State.{progress_of}
+use Rattle.wk_frames.specs.declared.levels.Level.{Level}
 use Rattle.wk_expand.proofs.LeadLaws.{frame-here, text-here}
 use Rattle.wk_expand.proofs.PageLaws.{frame-entered, list-entered}
 use Rattle.wk_expand.proofs.RunLaws.{passes-at}

@@ -5,15 +5,16 @@ use Rattle.wk_tree.specs.declared.item.NodeId.{NodeId}
 use Rattle.wk_view_rules.specs.Expand.{behind_bare_item, switch_output}
 use Rattle.wk_view_rules.specs.Expansions.{Output, argument_within_limit, give, inclusion_within_limit, ◌>>=◌}
 use Rattle.wk_view_rules.specs.Words.{named_item}
-use Rattle.wk_expand.specs.Bindings.{named_binding}
-use Rattle.wk_expand.specs.Levels.{HasLists, LevelsShown}
+use Rattle.wk_frames.specs.Bindings.{named_binding}
+use Rattle.wk_frames.specs.Levels.{HasLists, LevelsShown}
 use Rattle.wk_expand.specs.Searches.{behind_turned, search_of}
 use Rattle.wk_expand.specs.Stack.{AreWithin, IsHere, IsRest, Place, Waits, parts_at, searched, text_at}
-use Rattle.wk_expand.specs.State.{ShowsBindings, current}
+use Rattle.wk_frames.specs.Frames.{ShowsBindings}
+use Rattle.wk_expand.specs.State.{current}
 use Rattle.wk_expand.specs.declared.stack.Waiting.{Waiting}
 use Rattle.wk_expand.specs.declared.stack.Waiting.TheVariants.{Part as PartOf}
 use Rattle.wk_expand.specs.declared.state.Expander.{Expander}
-use Rattle.wk_expand.proofs.BindLaws.{has-named, shows-named}
+use Rattle.wk_frames.proofs.BindLaws.{has-named, shows-named}
 use Rattle.wk_expand.proofs.LeadLaws.{leads-in, leads-list, node-here, waits-here}
 use Rattle.wk_expand.proofs.PartLaws.{some_of}
 use Rattle.wk_expand.proofs.RunLaws.{passes-as, passes-in, passes-levels}

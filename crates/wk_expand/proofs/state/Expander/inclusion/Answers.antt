@@ -26,22 +26,22 @@ pub returns-then-is_within-clause-finds : goal.returns-then-is_within-clause-fin
 returns-then-is_within-clause-finds c =
     λ viewed frame is inner parts.
     gives-here c.args.seen.now (inclusion inner viewed frame c.args.title.now parts) c.args.self.now (loop_error c.args.title.now) c.in_ok-loop_error.field-0
-    (inclusion-loop inner viewed frame c.args.title.now parts (sym c.is_virtual.ensures ∙ c.if-is_virtual.false) (sym (c.is_within.ensures viewed frame is) ∙ c.if-is_within.true))
+    (inclusion-loop inner viewed frame c.args.title.now parts (sym c.is_virtual.ensures ∙ c.if-is_virtual.false) (sym (c.is_within.ensures frame is.shows) ∙ c.if-is_within.true))
     c.in_ok-loop_error.ensures
 
 pub returns-then-is_deep-clause-finds : goal.returns-then-is_deep-clause-finds
 returns-then-is_deep-clause-finds c =
     λ viewed frame is inner parts.
     gives-here c.args.seen.now (inclusion inner viewed frame c.args.title.now parts) c.args.self.now (depth_error c.args.title.now) c.in_ok-depth_error.field-0
-    (inclusion-deep inner viewed frame c.args.title.now parts (sym c.is_virtual.ensures ∙ c.if-is_virtual.false) (sym (c.is_within.ensures viewed frame is) ∙ c.if-is_within.false) (sym (c.is_deep.ensures viewed frame is) ∙ c.if-is_deep.true))
+    (inclusion-deep inner viewed frame c.args.title.now parts (sym c.is_virtual.ensures ∙ c.if-is_virtual.false) (sym (c.is_within.ensures frame is.shows) ∙ c.if-is_within.false) (sym (c.is_deep.ensures frame is.shows) ∙ c.if-is_deep.true))
     c.in_ok-depth_error.ensures
 
 pub returns-in_err-text-clause-finds : goal.returns-in_err-text-clause-finds
 returns-in_err-text-clause-finds c =
     λ viewed frame is inner parts.
     let real : is_virtual c.args.title.now ≡ false = sym c.is_virtual.ensures ∙ c.if-is_virtual.false in
-    let outside : is_within frame c.args.title.now ≡ false = sym (c.is_within.ensures viewed frame is) ∙ c.if-is_within.false in
-    let shallow : nat_le most_depth (length frame) ≡ false = sym (c.is_deep.ensures viewed frame is) ∙ c.if-is_deep.false in
+    let outside : is_within frame c.args.title.now ≡ false = sym (c.is_within.ensures frame is.shows) ∙ c.if-is_within.false in
+    let shallow : nat_le most_depth (length frame) ≡ false = sym (c.is_deep.ensures frame is.shows) ∙ c.if-is_deep.false in
     let p = err_from_is_err_and c.from_residual-in_err-text.result c.from_residual-in_err-text.ensures.1 in
     leads-err c.args.seen.now (inclusion inner viewed frame c.args.title.now parts) c.args.self.now (found_rest inner viewed frame c.args.title.now parts) c.from_residual-in_err-text.result c.answer.new.self c.in_err-text.field-0.0 p.0 p.1 p.2
     (inclusion-stops inner viewed frame c.args.title.now parts c.args.seen.now c.args.self.now c.in_err-text.field-0.0 real outside shallow c.in_err-text.ensures.leads)
@@ -50,8 +50,8 @@ pub returns-in_ok-included_text-in-Page-Some-clause-finds : goal.returns-in_ok-i
 returns-in_ok-included_text-in-Page-Some-clause-finds c =
     λ viewed frame is inner parts.
     let real : is_virtual c.args.title.now ≡ false = sym c.is_virtual.ensures ∙ c.if-is_virtual.false in
-    let outside : is_within frame c.args.title.now ≡ false = sym (c.is_within.ensures viewed frame is) ∙ c.if-is_within.false in
-    let shallow : nat_le most_depth (length frame) ≡ false = sym (c.is_deep.ensures viewed frame is) ∙ c.if-is_deep.false in
+    let outside : is_within frame c.args.title.now ≡ false = sym (c.is_within.ensures frame is.shows) ∙ c.if-is_within.false in
+    let shallow : nat_le most_depth (length frame) ≡ false = sym (c.is_deep.ensures frame is.shows) ∙ c.if-is_deep.false in
     let target = by_text inner viewed frame c.args.title.now parts in
     let whole = inclusion inner viewed frame c.args.title.now parts in
     let come = inclusion-comes inner viewed frame c.args.title.now parts c.args.seen.now c.args.self.now c.answer.new.self (answer_of c.in_ok-text.field-0) real outside shallow c.in_ok-text.ensures.leads in
@@ -68,8 +68,8 @@ pub returns-in_ok-link_text-in-Page-None-clause-finds : goal.returns-in_ok-link_
 returns-in_ok-link_text-in-Page-None-clause-finds c =
     λ viewed frame is inner parts.
     let real : is_virtual c.args.title.now ≡ false = sym c.is_virtual.ensures ∙ c.if-is_virtual.false in
-    let outside : is_within frame c.args.title.now ≡ false = sym (c.is_within.ensures viewed frame is) ∙ c.if-is_within.false in
-    let shallow : nat_le most_depth (length frame) ≡ false = sym (c.is_deep.ensures viewed frame is) ∙ c.if-is_deep.false in
+    let outside : is_within frame c.args.title.now ≡ false = sym (c.is_within.ensures frame is.shows) ∙ c.if-is_within.false in
+    let shallow : nat_le most_depth (length frame) ≡ false = sym (c.is_deep.ensures frame is.shows) ∙ c.if-is_deep.false in
     let target = by_text inner viewed frame c.args.title.now parts in
     let whole = inclusion inner viewed frame c.args.title.now parts in
     let come = inclusion-comes inner viewed frame c.args.title.now parts c.args.seen.now c.args.self.now c.answer.new.self (answer_of c.in_ok-text.field-0) real outside shallow c.in_ok-text.ensures.leads in
@@ -83,8 +83,8 @@ pub returns-in_ok-link_text-in-Exists-clause-finds : goal.returns-in_ok-link_tex
 returns-in_ok-link_text-in-Exists-clause-finds c =
     λ viewed frame is inner parts.
     let real : is_virtual c.args.title.now ≡ false = sym c.is_virtual.ensures ∙ c.if-is_virtual.false in
-    let outside : is_within frame c.args.title.now ≡ false = sym (c.is_within.ensures viewed frame is) ∙ c.if-is_within.false in
-    let shallow : nat_le most_depth (length frame) ≡ false = sym (c.is_deep.ensures viewed frame is) ∙ c.if-is_deep.false in
+    let outside : is_within frame c.args.title.now ≡ false = sym (c.is_within.ensures frame is.shows) ∙ c.if-is_within.false in
+    let shallow : nat_le most_depth (length frame) ≡ false = sym (c.is_deep.ensures frame is.shows) ∙ c.if-is_deep.false in
     let target = by_text inner viewed frame c.args.title.now parts in
     let whole = inclusion inner viewed frame c.args.title.now parts in
     let come = inclusion-comes inner viewed frame c.args.title.now parts c.args.seen.now c.args.self.now c.answer.new.self (answer_of c.in_ok-text.field-0) real outside shallow c.in_ok-text.ensures.leads in

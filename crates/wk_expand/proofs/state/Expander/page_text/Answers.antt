@@ -5,9 +5,10 @@ use Rattle.wk_view_rules.specs.Expansions.{charged, give}
 use Rattle.wk_view_rules.specs.Texts.{node_error}
 use Rattle.wk_expand.specs.Running.{ComesTo}
 use Rattle.wk_expand.specs.Stack.{parts_at, text_at}
-use Rattle.wk_expand.specs.Levels.{HasLists}
-use Rattle.wk_expand.specs.State.{ShowsBindings, current}
-use Rattle.wk_expand.proofs.BindLaws.{has-none, shows-none}
+use Rattle.wk_frames.specs.Levels.{HasLists}
+use Rattle.wk_frames.specs.Frames.{ShowsBindings}
+use Rattle.wk_expand.specs.State.{current}
+use Rattle.wk_frames.proofs.BindLaws.{has-none, shows-none}
 use Rattle.wk_expand.proofs.LeadLaws.{here-later, leads-behind, leads-comes}
 use Rattle.wk_expand.proofs.NodeLaws.{node-there}
 use Rattle.wk_expand.proofs.PageLaws.{charged-as, included-is, run_text}

@@ -13,8 +13,9 @@ use Rattle.wk_view_rules.specs.Worlds.{Seen}
 use Rattle.wk_expand.specs.Items.{IsPlainText}
 use Rattle.wk_expand.specs.Running.{ComesTo}
 use Rattle.wk_expand.specs.Stack.{IsHere, Place}
-use Rattle.wk_expand.specs.State.{IsBinding, caller_tree, progress_of}
-use Rattle.wk_expand.specs.declared.levels.Bound.{Bound}
+use Rattle.wk_frames.specs.Frames.{IsBinding}
+use Rattle.wk_expand.specs.State.{caller_tree, progress_of}
+use Rattle.wk_frames.specs.declared.levels.Bound.{Bound}
 use Rattle.wk_expand.specs.declared.state.Expander.{Expander}
 use Rattle.wk_expand.proofs.LeadLaws.{frame-here, here-later, leads-comes}
 use Rattle.wk_expand.proofs.PlainLaws.{counted, value-plain}

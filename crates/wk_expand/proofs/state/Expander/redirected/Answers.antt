@@ -17,13 +17,13 @@ pub returns-then-is_within-clause-finds : goal.returns-then-is_within-clause-fin
 returns-then-is_within-clause-finds c =
     λ viewed frame is inner parts.
     gives-here c.args.seen.now (redirected inner viewed frame c.args.title.now c.args.target.now parts) c.args.self.now (loop_error c.args.target.now) c.in_ok-loop_error.field-0
-    (redirected-loop inner viewed frame c.args.title.now parts c.args.target.now (sym (c.is_within.ensures viewed frame is) ∙ c.if-is_within.true))
+    (redirected-loop inner viewed frame c.args.title.now parts c.args.target.now (sym (c.is_within.ensures frame is.shows) ∙ c.if-is_within.true))
     c.in_ok-loop_error.ensures
 
 pub returns-in_err-text-clause-finds : goal.returns-in_err-text-clause-finds
 returns-in_err-text-clause-finds c =
     λ viewed frame is inner parts.
-    let outside : is_within frame c.args.target.now ≡ false = sym (c.is_within.ensures viewed frame is) ∙ c.if-is_within.false in
+    let outside : is_within frame c.args.target.now ≡ false = sym (c.is_within.ensures frame is.shows) ∙ c.if-is_within.false in
     let p = err_from_is_err_and c.from_residual-in_err-text.result c.from_residual-in_err-text.ensures.1 in
     leads-err c.args.seen.now (redirected inner viewed frame c.args.title.now c.args.target.now parts) c.args.self.now (found_rest inner viewed frame c.args.title.now parts) c.from_residual-in_err-text.result c.answer.new.self c.in_err-text.field-0.0 p.0 p.1 p.2
     (redirected-stops inner viewed frame c.args.title.now parts c.args.seen.now c.args.self.now c.args.target.now c.in_err-text.field-0.0 outside c.in_err-text.ensures.leads)
@@ -31,7 +31,7 @@ returns-in_err-text-clause-finds c =
 pub returns-in_ok-share-in-Page-Some-clause-finds : goal.returns-in_ok-share-in-Page-Some-clause-finds
 returns-in_ok-share-in-Page-Some-clause-finds c =
     λ viewed frame is inner parts.
-    let outside : is_within frame c.args.target.now ≡ false = sym (c.is_within.ensures viewed frame is) ∙ c.if-is_within.false in
+    let outside : is_within frame c.args.target.now ≡ false = sym (c.is_within.ensures frame is.shows) ∙ c.if-is_within.false in
     let target = by_target inner viewed frame c.args.title.now parts c.args.target.now in
     let whole = redirected inner viewed frame c.args.title.now c.args.target.now parts in
     let come = redirected-comes inner viewed frame c.args.title.now parts c.args.seen.now c.args.self.now c.answer.new.self c.args.target.now (answer_of c.in_ok-text.field-0) outside c.in_ok-text.ensures.leads in
@@ -43,7 +43,7 @@ returns-in_ok-share-in-Page-Some-clause-finds c =
 pub returns-in_ok-link_text-in-Page-None-clause-finds : goal.returns-in_ok-link_text-in-Page-None-clause-finds
 returns-in_ok-link_text-in-Page-None-clause-finds c =
     λ viewed frame is inner parts.
-    let outside : is_within frame c.args.target.now ≡ false = sym (c.is_within.ensures viewed frame is) ∙ c.if-is_within.false in
+    let outside : is_within frame c.args.target.now ≡ false = sym (c.is_within.ensures frame is.shows) ∙ c.if-is_within.false in
     let target = by_target inner viewed frame c.args.title.now parts c.args.target.now in
     let whole = redirected inner viewed frame c.args.title.now c.args.target.now parts in
     let come = redirected-comes inner viewed frame c.args.title.now parts c.args.seen.now c.args.self.now c.answer.new.self c.args.target.now (answer_of c.in_ok-text.field-0) outside c.in_ok-text.ensures.leads in
@@ -56,7 +56,7 @@ returns-in_ok-link_text-in-Page-None-clause-finds c =
 pub returns-in_ok-link_text-in-Exists-clause-finds : goal.returns-in_ok-link_text-in-Exists-clause-finds
 returns-in_ok-link_text-in-Exists-clause-finds c =
     λ viewed frame is inner parts.
-    let outside : is_within frame c.args.target.now ≡ false = sym (c.is_within.ensures viewed frame is) ∙ c.if-is_within.false in
+    let outside : is_within frame c.args.target.now ≡ false = sym (c.is_within.ensures frame is.shows) ∙ c.if-is_within.false in
     let target = by_target inner viewed frame c.args.title.now parts c.args.target.now in
     let whole = redirected inner viewed frame c.args.title.now c.args.target.now parts in
     let come = redirected-comes inner viewed frame c.args.title.now parts c.args.seen.now c.args.self.now c.answer.new.self c.args.target.now (answer_of c.in_ok-text.field-0) outside c.in_ok-text.ensures.leads in

@@ -1,6 +1,6 @@
 use Rattle.std.proofs.Common.{◌∙◌, ap, sym, subst, arith}
 use Rattle.std.specs.Option.{IsSome}
-use Rattle.wk_listing_rules.specs.Names.{admitted, with_rows_at}
+use Rattle.wk_wiki_rules.specs.Names.{admitted, with_rows_at}
 use Rattle.wk_index.specs.Held.{rows_of}
 use Rattle.wk_index.specs.Named.{rows_at}
 use Rattle.wk_index.proofs.FindsLaws.{FindsAll-admitted, FindsAll-kept}

@@ -1,6 +1,6 @@
 use Rattle.std.proofs.Common.{sym, subst, arith}
 use Rattle.std.specs.Option.{IsSome}
-use Rattle.wk_listing_rules.specs.Names.{AreAmong}
+use Rattle.wk_wiki_rules.specs.Names.{AreAmong}
 use Rattle.wk_index.specs.Found.{SparesAll}
 use Rattle.wk_index.specs.Held.{rows_of}
 use Rattle.wk_index.specs.Named.{rows_at}

@@ -1,5 +1,5 @@
 use Rattle.std.proofs.Common.{◌∙◌, map, ap, sym, subst}
-use Rattle.wk_row_rules.specs.PageRows.{Member}
+use Rattle.wk_page_rules.specs.PageRows.{Member}
 use Rattle.wk_table_rows.specs.Members.{member_of}
 use Rattle.wk_index.specs.InOrder.{IsInOrder}
 use Rattle.wk_index.proofs.EntryLaws.{entries-of}

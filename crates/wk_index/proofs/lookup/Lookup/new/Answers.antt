@@ -1,6 +1,6 @@
 use Rattle.std.proofs.Common.{◌∙◌, map, ap, subst}
 use Rattle.wk_text_rules.specs.Titles.{PageTitle}
-use Rattle.wk_row_rules.specs.PageRows.{Member}
+use Rattle.wk_page_rules.specs.PageRows.{Member}
 use Rattle.wk_table_rows.specs.Members.{member_of}
 use Rattle.wk_index.specs.InOrder.{IsInOrder}
 use Rattle.wk_index.proofs.OrderLaws.{order-triples}

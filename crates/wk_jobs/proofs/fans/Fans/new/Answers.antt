@@ -1,7 +1,7 @@
 use Rattle.std.proofs.Common.{map, sym, subst, arith}
 use Rattle.std.specs.List.{IsDistinct}
 use Rattle.wk_text_rules.specs.Titles.{title_eq}
-use Rattle.wk_job_rules.specs.Jobs.{FanEntry}
+use Rattle.wk_wiki_rules.specs.Jobs.{FanEntry}
 use Rattle.wk_jobs.proofs.fans.Fans.new.Goals as goal
 
 pub invariant_of-result : goal.invariant_of-result

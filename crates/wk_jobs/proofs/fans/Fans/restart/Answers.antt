@@ -1,6 +1,6 @@
 use Rattle.std.proofs.Common.{◌≡◌, length, map, sym, ap, ◌∙◌, subst}
 use Rattle.std.proofs.lemmas.List.{length-map}
-use Rattle.wk_job_rules.specs.Jobs.{set_anew}
+use Rattle.wk_wiki_rules.specs.Jobs.{set_anew}
 use Rattle.wk_jobs.proofs.FanLists.{TitlesApart, TitlesApart-anew}
 use Rattle.wk_jobs.proofs.Written.{items-written}
 use Rattle.wk_jobs.proofs.fans.Fans.restart.Goals as goal

@@ -1,4 +1,4 @@
-use Rattle.wk_job_rules.proofs.JobLemmas.{IsNumbered-claimed}
+use Rattle.wk_wiki_rules.proofs.JobLemmas.{IsNumbered-claimed}
 use Rattle.wk_jobs.specs.Held.{held}
 use Rattle.wk_jobs.proofs.Numbered.{numbered-refreshes}
 use Rattle.wk_jobs.proofs.jobs.Jobs.claim_first.Goals as goal

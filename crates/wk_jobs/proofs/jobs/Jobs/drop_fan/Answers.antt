@@ -1,4 +1,4 @@
-use Rattle.wk_job_rules.proofs.JobLemmas.{IsNumbered-fan_dropped}
+use Rattle.wk_wiki_rules.proofs.JobLemmas.{IsNumbered-fan_dropped}
 use Rattle.wk_jobs.specs.Held.{held}
 use Rattle.wk_jobs.proofs.Numbered.{numbered-fans}
 use Rattle.wk_jobs.proofs.jobs.Jobs.drop_fan.Goals as goal

@@ -1,4 +1,4 @@
-use Rattle.wk_job_rules.proofs.JobLemmas.{IsNumbered-dropped}
+use Rattle.wk_wiki_rules.proofs.JobLemmas.{IsNumbered-dropped}
 use Rattle.wk_jobs.specs.Held.{held}
 use Rattle.wk_jobs.proofs.Numbered.{numbered-refreshes}
 use Rattle.wk_jobs.proofs.jobs.Jobs.drop_refresh.Goals as goal

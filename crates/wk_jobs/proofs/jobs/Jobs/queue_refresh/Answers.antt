@@ -1,6 +1,6 @@
 use Rattle.std.proofs.Common.{◌≡◌, ◌+◌, [], ◌∷◌, ◌++◌, false, None, sym, ap, ◌∙◌, subst}
-use Rattle.wk_job_rules.specs.Jobs.{RefreshEntry, IsNumbered, has_refresh}
-use Rattle.wk_job_rules.proofs.JobLemmas.{IsNumbered-queued}
+use Rattle.wk_wiki_rules.specs.Jobs.{RefreshEntry, IsNumbered, has_refresh}
+use Rattle.wk_wiki_rules.proofs.JobLemmas.{IsNumbered-queued}
 use Rattle.wk_jobs.specs.Held.{held}
 use Rattle.wk_jobs.proofs.Numbered.{numbered-refreshes, refresh_queued-new}
 use Rattle.wk_jobs.proofs.jobs.Jobs.queue_refresh.Goals as goal

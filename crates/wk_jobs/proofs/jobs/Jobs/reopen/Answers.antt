@@ -1,8 +1,8 @@
 use Rattle.std.proofs.Common.{◌≡◌, ◌+◌, ◌<◌, map, max, sym, ap, ◌∙◌, subst, arith, rules}
 use Rattle.std.specs.List.{fold}
-use Rattle.wk_job_rules.specs.Jobs.{RefreshEntry, FanEntry, IsNumbered, numbers_of, queued_again}
-use Rattle.wk_job_rules.specs.Steps.{by_number, reopened_jobs}
-use Rattle.wk_job_rules.proofs.JobLemmas.{IsNumbered-reopened}
+use Rattle.wk_wiki_rules.specs.Jobs.{RefreshEntry, FanEntry, IsNumbered, numbers_of, queued_again}
+use Rattle.wk_wiki_rules.specs.Steps.{by_number, reopened_jobs}
+use Rattle.wk_wiki_rules.proofs.JobLemmas.{IsNumbered-reopened}
 use Rattle.wk_jobs.specs.Held.{held}
 use Rattle.wk_jobs.proofs.Numbered.{lists_with, greatest-both, next_above-fits, refreshes-apart}
 use Rattle.wk_jobs.proofs.jobs.Jobs.reopen.Goals as goal

@@ -1,5 +1,5 @@
 use Rattle.std.proofs.Common.{◌≡◌, ◌+◌, ◌≤◌, [], ◌∷◌, ◌++◌, false, sym, ap, ◌∙◌, subst}
-use Rattle.wk_job_rules.specs.Jobs.{IsNumbered, has_fan}
+use Rattle.wk_wiki_rules.specs.Jobs.{IsNumbered, has_fan}
 use Rattle.wk_jobs.specs.Held.{held}
 use Rattle.wk_jobs.proofs.Numbered.{lists_with, numbered-fan, numbered-fans}
 use Rattle.wk_jobs.proofs.jobs.Jobs.restore_fan.Goals as goal

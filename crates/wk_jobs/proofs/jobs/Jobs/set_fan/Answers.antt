@@ -2,8 +2,8 @@ use Rattle.std.proofs.Common.{◌≡◌, ◌+◌, [], ◌∷◌, ◌++◌, true,
 use Rattle.std.specs.Prelude.{Result, Ok, Err, OnErr}
 use Rattle.std.specs.List.{list_any}
 use Rattle.wk_text_rules.specs.Titles.{title_eq}
-use Rattle.wk_job_rules.specs.Jobs.{FanEntry, IsNumbered, has_fan, set_anew, fan_set}
-use Rattle.wk_job_rules.proofs.JobLemmas.{IsNumbered-fan_set}
+use Rattle.wk_wiki_rules.specs.Jobs.{FanEntry, IsNumbered, has_fan, set_anew, fan_set}
+use Rattle.wk_wiki_rules.proofs.JobLemmas.{IsNumbered-fan_set}
 use Rattle.wk_jobs.specs.Held.{held}
 use Rattle.wk_jobs.proofs.Numbered.{lists_with, numbered-fans, fan_set-there, fan_set-new}
 use Rattle.wk_jobs.proofs.jobs.Jobs.set_fan.Goals as goal

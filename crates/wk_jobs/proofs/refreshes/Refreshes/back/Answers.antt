@@ -1,6 +1,6 @@
 use Rattle.std.proofs.Common.{◌≡◌, ◌++◌, eqb, ◌&&◌, map, sym, ap, ◌∙◌, subst, arith}
 use Rattle.std.specs.List.{list_any}
-use Rattle.wk_job_rules.specs.Jobs.{is_claimed, jobs_of, jobs_of_others, queued_again}
+use Rattle.wk_wiki_rules.specs.Jobs.{is_claimed, jobs_of, jobs_of_others, queued_again}
 use Rattle.wk_jobs.specs.Entries.{entries, claimed_entry, queued_entry, number_of}
 use Rattle.wk_jobs.proofs.Entries.{IsOne, IsOne-front, IsOne-given_back, claimed-there, given_back-entries, number_of-given_back}
 use Rattle.wk_jobs.proofs.refreshes.Refreshes.back.Goals as goal

@@ -1,7 +1,7 @@
 use Rattle.std.proofs.Common.{◌≡◌, ℕ, ◌+◌, List, [], ◌∷◌, length, drop, option_map, refl, sym, ap, ◌∙◌, subst, arith}
 use Rattle.std.specs.Prelude.{find, Option}
 use Rattle.std.specs.VecDeque.{deque_len}
-use Rattle.wk_job_rules.specs.Jobs.{RefreshEntry, is_queued, first_claimed}
+use Rattle.wk_wiki_rules.specs.Jobs.{RefreshEntry, is_queued, first_claimed}
 use Rattle.wk_jobs.specs.Entries.{entries, number_of}
 use Rattle.wk_jobs.proofs.Entries.{IsOne, IsOne-claimed, first_claimed-entries, first_claimed-none, first_queued-entries, first_queued-none, number_of-first_claimed}
 use Rattle.wk_jobs.proofs.refreshes.Refreshes.claim_first.Goals as goal

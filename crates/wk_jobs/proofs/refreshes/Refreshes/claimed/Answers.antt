@@ -1,6 +1,6 @@
 use Rattle.std.proofs.Common.{◌∙◌, ap, sym}
 use Rattle.std.specs.Prelude.{count_by}
-use Rattle.wk_job_rules.specs.Jobs.{is_claimed}
+use Rattle.wk_wiki_rules.specs.Jobs.{is_claimed}
 use Rattle.wk_jobs.proofs.Entries.{count-claimed}
 use Rattle.wk_jobs.proofs.refreshes.Refreshes.claimed.Goals as goal
 

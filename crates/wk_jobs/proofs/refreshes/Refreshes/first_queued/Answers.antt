@@ -1,6 +1,6 @@
 use Rattle.std.proofs.Common.{◌≡◌, ℕ, ◌<◌, List, [], ◌∷◌, length, get_or, false, true, Some, None, sym, ap, ◌∙◌, arith, refl}
 use Rattle.std.specs.Prelude.{find, option_map}
-use Rattle.wk_job_rules.specs.Jobs.{RefreshEntry, is_queued}
+use Rattle.wk_wiki_rules.specs.Jobs.{RefreshEntry, is_queued}
 use Rattle.wk_jobs.specs.Entries.{entries, queued_entry}
 use Rattle.wk_jobs.specs.declared.refreshes.ClaimedJob.{ClaimedJob}
 use Rattle.wk_jobs.specs.declared.refreshes.QueuedJob.{QueuedJob}

@@ -1,6 +1,6 @@
 use Rattle.std.proofs.Common.{◌∙◌, ap, map, max}
 use Rattle.std.specs.List.{fold}
-use Rattle.wk_job_rules.specs.Jobs.{RefreshEntry}
+use Rattle.wk_wiki_rules.specs.Jobs.{RefreshEntry}
 use Rattle.wk_jobs.specs.declared.refreshes.ClaimedJob.{ClaimedJob}
 use Rattle.wk_jobs.specs.declared.refreshes.QueuedJob.{QueuedJob}
 use Rattle.wk_jobs.proofs.Numbered.{greatest-entries}

@@ -1,7 +1,7 @@
 use Rattle.std.proofs.Common.{◌∙◌, ap, sym, eqb, ◌&&◌, Bool, ℕ}
 use Rattle.std.specs.Prelude.{is_some, position}
 use Rattle.std.specs.List.{list_any}
-use Rattle.wk_job_rules.specs.Jobs.{is_claimed}
+use Rattle.wk_wiki_rules.specs.Jobs.{is_claimed}
 use Rattle.wk_jobs.specs.declared.refreshes.ClaimedJob.{ClaimedJob}
 use Rattle.wk_jobs.proofs.Entries.{claimed-there}
 use Rattle.wk_jobs.proofs.Places.{position-there}

@@ -2,7 +2,7 @@ use Rattle.std.proofs.Common.{◌≡◌, ℕ, Bool, false, eqb, Some, None, opti
 use Rattle.std.specs.Prelude.{position}
 use Rattle.std.specs.List.{list_any}
 use Rattle.std.proofs.lemmas.List.Quantifiers.{position-Some}
-use Rattle.wk_job_rules.specs.Jobs.{RefreshEntry}
+use Rattle.wk_wiki_rules.specs.Jobs.{RefreshEntry}
 use Rattle.wk_jobs.specs.Entries.{claimed_entry, job_of}
 use Rattle.wk_jobs.specs.declared.refreshes.ClaimedJob.{ClaimedJob}
 use Rattle.wk_jobs.proofs.Entries.{job_of-claimed, job_of-queued}

@@ -1,6 +1,6 @@
 use Rattle.std.proofs.Common.{ℕ, Bool, eqb, option_map, ap, sym, ◌∙◌}
 use Rattle.std.specs.Prelude.{find}
-use Rattle.wk_job_rules.specs.Jobs.{RefreshEntry, is_held_by}
+use Rattle.wk_wiki_rules.specs.Jobs.{RefreshEntry, is_held_by}
 use Rattle.wk_jobs.specs.declared.refreshes.ClaimedJob.{ClaimedJob}
 use Rattle.wk_jobs.proofs.Entries.{held-entries}
 use Rattle.wk_jobs.proofs.refreshes.Refreshes.page_held.Goals as goal

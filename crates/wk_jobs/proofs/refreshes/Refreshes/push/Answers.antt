@@ -1,6 +1,6 @@
 use Rattle.std.proofs.Common.{◌≡◌, [], ◌∷◌, ◌++◌, false, eqb, cond, Some, None, sym, ap, ◌∙◌, subst, arith}
 use Rattle.std.specs.List.{list_any}
-use Rattle.wk_job_rules.specs.Jobs.{RefreshEntry}
+use Rattle.wk_wiki_rules.specs.Jobs.{RefreshEntry}
 use Rattle.wk_jobs.specs.Entries.{entries, number_of}
 use Rattle.wk_jobs.proofs.Entries.{IsOne, IsOne-pushed, pushed-entries, number_of-pushed}
 use Rattle.wk_jobs.proofs.refreshes.Refreshes.push.Goals as goal

@@ -1,6 +1,6 @@
 use Rattle.std.proofs.Common.{◌≡◌, eqb, ◌&&◌, cond, None, map, sym, ap, ◌∙◌, subst, arith}
 use Rattle.std.specs.List.{list_any}
-use Rattle.wk_job_rules.specs.Jobs.{is_claimed, jobs_of_others}
+use Rattle.wk_wiki_rules.specs.Jobs.{is_claimed, jobs_of_others}
 use Rattle.wk_jobs.specs.Entries.{entries, claimed_entry, queued_entry, number_of}
 use Rattle.wk_jobs.proofs.Entries.{IsOne, IsOne-front, IsOne-dropped, claimed-there, dropped-entries, number_of-others}
 use Rattle.wk_jobs.proofs.refreshes.Refreshes.remove.Goals as goal

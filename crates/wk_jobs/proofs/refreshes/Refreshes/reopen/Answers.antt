@@ -1,7 +1,7 @@
 use Rattle.std.proofs.Common.{◌≡◌, List, map, sym, ap, ◌∙◌, subst, arith}
 use Rattle.std.specs.VecDeque.{deque_len, deque_capacity}
-use Rattle.wk_job_rules.specs.Jobs.{RefreshEntry, queued_again}
-use Rattle.wk_job_rules.specs.Steps.{by_number}
+use Rattle.wk_wiki_rules.specs.Jobs.{RefreshEntry, queued_again}
+use Rattle.wk_wiki_rules.specs.Steps.{by_number}
 use Rattle.wk_jobs.specs.Entries.{entries, number_of}
 use Rattle.wk_jobs.proofs.Entries.{IsOne}
 use Rattle.wk_jobs.proofs.Sorting.{IsOne-reopened, number_of-reopened}

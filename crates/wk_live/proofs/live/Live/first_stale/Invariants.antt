@@ -1,6 +1,6 @@
 use Rattle.std.proofs.Common.{◌≡◌, drop}
 use Rattle.std.specs.Prelude.{find}
-use Rattle.wk_state_rules.specs.States.{world_of}
+use Rattle.wk_wiki_rules.specs.States.{world_of}
 use Rattle.wk_live.specs.Stale.{is_mark_stale}
 use Rattle.wk_live.proofs.live.Live.first_stale.Given as goal
 

@@ -1,10 +1,10 @@
 use Rattle.std.proofs.Common.{◌++◌, ◌∷◌, [], List, cond, length, ap, sym, ◌∙◌}
 use Rattle.std.specs.Prelude.{is_some}
 use Rattle.wk_page_rules.specs.History.{History, page_exists}
-use Rattle.wk_row_rules.specs.PageRows.{PageRows, no_rows}
-use Rattle.wk_job_rules.specs.Steps.{reach_of_save}
-use Rattle.wk_state_rules.specs.States.{State}
-use Rattle.wk_state_rules.specs.Events.{with_saved}
+use Rattle.wk_page_rules.specs.PageRows.{PageRows, no_rows}
+use Rattle.wk_wiki_rules.specs.Steps.{reach_of_save}
+use Rattle.wk_wiki_rules.specs.States.{State}
+use Rattle.wk_wiki_rules.specs.Events.{with_saved}
 use Rattle.wk_live.specs.HeldState.{HeldState}
 use Rattle.wk_live.specs.Wanted.{fan_of_save}
 use Rattle.wk_live.proofs.SaveLaws.{lengths-saved, saved-state}

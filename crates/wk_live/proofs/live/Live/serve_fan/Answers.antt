@@ -1,7 +1,7 @@
 use Rattle.std.proofs.Common.{◌≡◌, ◌<◌, None, Some, ap, sym, subst, ◌∙◌, List, length}
 use Rattle.std.specs.List.{last_or}
-use Rattle.wk_job_rules.specs.Jobs.{FanEntry, JobLists}
-use Rattle.wk_state_laws.proofs.Fanned.{fans-all_queued}
+use Rattle.wk_wiki_rules.specs.Jobs.{FanEntry, JobLists}
+use Rattle.wk_wiki_laws.proofs.Fanned.{fans-all_queued}
 use Rattle.wk_live.specs.Fanned.{first_fan_served, jobs_served}
 use Rattle.wk_live.specs.HeldState.{HeldState}
 use Rattle.wk_live.proofs.FanLaws.{fan-served}

@@ -1,7 +1,7 @@
 use Rattle.std.proofs.Common.{◌≡◌, true, false, ◌||◌, ap, sym, subst, ◌∙◌}
 use Rattle.std.specs.Prelude.{IfOk}
-use Rattle.wk_job_rules.specs.Jobs.{has_fan}
-use Rattle.wk_job_rules.specs.Users.{some_page_names}
+use Rattle.wk_wiki_rules.specs.Jobs.{has_fan}
+use Rattle.wk_wiki_rules.specs.Users.{some_page_names}
 use Rattle.wk_live.specs.HeldState.{HeldState}
 use Rattle.wk_live.specs.Wanted.{wants_fan}
 use Rattle.wk_live.proofs.live.Live.wants_fan.Goals as goal

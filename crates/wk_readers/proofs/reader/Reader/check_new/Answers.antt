@@ -1,8 +1,8 @@
 use Rattle.std.proofs.Common.{◌≡◌, None, subst}
 use Rattle.std.specs.Prelude.{IfSome}
 use Rattle.wk_cache.specs.declared.kept.Kept.{Kept}
-use Rattle.wk_refreshes.specs.Looks.{IsPresentRead}
-use Rattle.wk_refreshes.specs.Sought.{kept_read}
+use Rattle.wk_shared.specs.Looks.{IsPresentRead}
+use Rattle.wk_shared.specs.Sought.{kept_read}
 use Rattle.wk_readers.proofs.ReaderLaws.{right-behind, right-present, taken-told}
 use Rattle.wk_readers.proofs.reader.Reader.check_new.Goals as goal
 

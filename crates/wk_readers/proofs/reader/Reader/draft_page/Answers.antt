@@ -1,5 +1,5 @@
 use Rattle.std.proofs.Common.{List, None, subst, sym}
-use Rattle.wk_refreshes.specs.Looks.{IsPresentRead}
+use Rattle.wk_shared.specs.Looks.{IsPresentRead}
 use Rattle.wk_cache.specs.declared.kept.Kept.{Kept}
 use Rattle.wk_readers.specs.Reads.{KeepsOrAdds, fresh_entry}
 use Rattle.wk_readers.proofs.reader.Reader.draft_page.Goals as goal

@@ -1,9 +1,0 @@
-pub mod Marks
-pub mod Since
-pub mod Told
-pub mod EntriesBack
-pub mod Accepted
-pub mod Returns
-pub mod KeptAgain
-pub mod CacheEntries
-pub mod LastingEntries

@@ -1,5 +1,0 @@
-use Rattle.wk_call_laws.proofs.CacheEntries.{entry-right}
-use Rattle.wk_call_laws.proofs.caches.a_current_entry_is_right.Goals as goal
-
-pub returns : goal.returns
-returns c = entry-right

@@ -1,5 +1,0 @@
-pub mod Safe
-pub mod Named
-pub mod Texts
-pub mod Fits
-pub mod Ahead

@@ -1,5 +1,0 @@
-use Rattle.wk_command_laws.proofs.Ahead.{pages-ahead}
-use Rattle.wk_command_laws.proofs.fans_serve_each_page_once_at_most.Goals as goal
-
-pub returns : goal.returns
-returns c = pages-ahead

@@ -1,0 +1,4 @@
+pub mod BindLaws
+pub mod FrameLaws
+pub mod LevelLaws
+pub mod TrimLaws

@@ -1,4 +1,0 @@
-pub mod Order
-pub mod RoundTrip
-pub mod FanOrder
-pub mod ClaimOrder

@@ -1,5 +1,0 @@
-use Rattle.wk_job_laws.proofs.RoundTrip.{jobs_of_tables-rows}
-use Rattle.wk_job_laws.proofs.written_jobs_are_read_back.Goals as goal
-
-pub returns : goal.returns
-returns c = jobs_of_tables-rows

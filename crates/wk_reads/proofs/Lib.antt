@@ -1,4 +1,0 @@
-pub mod AnswerLaws
-pub mod ApartLaws
-pub mod KeepLaws
-pub mod LookLaws

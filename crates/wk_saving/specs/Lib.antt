@@ -1,0 +1,4 @@
+pub mod Saved
+pub use Rattle.wk_request.specs.Asked
+pub use Rattle.wk_answer_rules.specs.Answers
+pub use Rattle.wk_listings.specs.Replied

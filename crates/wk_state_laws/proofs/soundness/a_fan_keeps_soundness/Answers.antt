@@ -1,5 +1,0 @@
-use Rattle.wk_state_laws.proofs.Fanned.{IsSound-fanned}
-use Rattle.wk_state_laws.proofs.soundness.a_fan_keeps_soundness.Goals as goal
-
-pub returns : goal.returns
-returns c = IsSound-fanned

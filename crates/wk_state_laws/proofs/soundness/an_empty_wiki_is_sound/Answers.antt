@@ -1,5 +1,0 @@
-use Rattle.wk_state_laws.proofs.Sound.{IsSound-none}
-use Rattle.wk_state_laws.proofs.soundness.an_empty_wiki_is_sound.Goals as goal
-
-pub returns : goal.returns
-returns c = IsSound-none
