@@ -1,4 +1,5 @@
 pub mod Causes
 pub mod Reading
+pub mod Rising
 pub mod SqlKeeper
 pub mod Stored

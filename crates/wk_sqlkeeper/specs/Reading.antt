@@ -7,7 +7,7 @@ use Rattle.sqlite.specs.declared.error.ErrorCode.TheVariants.{OutOfMemory}
 use Rattle.sqlite.specs.declared.error.Error.{Error}
 use Rattle.sqlite.specs.declared.error.Error.TheVariants.{SqliteFailure}
 use Rattle.sqlite.specs.State.{State, Shown}
-use Rattle.wk_sqlkeeper.specs.Stored.{stored_flag}
+use Rattle.wk_sqltables.specs.Entries.{stored_flag}
 
 -- ---- columns
 

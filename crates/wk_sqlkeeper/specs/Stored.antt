@@ -1,18 +1,11 @@
 -- How the rows of a wiki stand in a database, whose numbers are from -2^63 to 2^63 - 1 (own). A row of a query has a
 -- column for each field of the table's row, in the order of the fields.
-use Rattle.std.specs.Prelude.{◌≡◌, ℕ, ℤ, pos, negsuc, ◌-◌, ◌^◌, List, Bool, nat_lt, if◌then◌else◌}
+use Rattle.std.specs.Prelude.{◌≡◌, pos, List}
 use Rattle.sqlite_value.specs.declared.value.Value.{Value}
 use Rattle.sqlite_value.specs.declared.value.Value.TheVariants.{Int, Text}
 use Rattle.sqlite_value.specs.Order.{column}
+use Rattle.wk_sqltables.specs.Entries.{stored_moment, stored_flag}
 use Rattle.wk_table_rules.specs.Rows.{PageColumns, RevisionColumns, LinkColumns, CategoryColumns, RedirectColumns, JobColumns}
-
--- a moment in seconds since 1970, which is that number less 2^64 where it is 2^63 or more
-abbrev pub stored_moment : ℕ → ℤ
-stored_moment seconds = if nat_lt seconds (2 ^ 63) then pos seconds else negsuc (2 ^ 64 - 1 - seconds)
-
--- whether something is so, as 1 or 0
-abbrev pub stored_flag : Bool → ℤ
-stored_flag flag = if flag then pos 1 else pos 0
 
 pub record IsPage (values : List Value) (page : PageColumns) : Type 0 where
   pub id : column values 0 ≡ Int (pos page.page_id)

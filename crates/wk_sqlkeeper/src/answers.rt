@@ -94,6 +94,7 @@ impl Calls {
     ) -> Result<T, KeeperRefusal>
         ensures given { IfOk result (λ value. answer ≡ Ok value) }
         ensures refused { IfErr answer (λ _. IsErr result) }
+        ensures only { IfErr result (λ _. IsErr answer) }
         ensures no_fault { OnOk result (self.new ≡ record self.old { cause = None }) }
         ensures memory { result ≡ Err KeeperRefusal.Memory → self.new ≡ record self.old { made = made; cause = Some SqlCause.Memory } }
         ensures failed { result ≡ Err KeeperRefusal.Failed → self.new ≡ record self.old { faults = one_more self.old.faults; cause = self.new.cause } }

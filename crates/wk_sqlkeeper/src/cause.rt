@@ -35,7 +35,8 @@ pub enum SqlCause {
     /// A row that must be there isn't.
     #[error("a row is missing")]
     NoRow,
-    /// The database refused a statement: what it names isn't there, or stands already, or a transaction is open.
+    /// The database refused a statement: what it names isn't there, or stands already, or a transaction is open. Or the link
+    /// rows of a change are out of order, and no statement was made.
     #[error("the database refused a statement")]
     Statement,
 }

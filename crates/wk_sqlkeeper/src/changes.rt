@@ -1,132 +1,35 @@
 //! A change of the tables as one transaction.
+ghost use Rattle.std.specs.Prelude.{◌≡◌, true, false, IfErr, IsErr, IsTrue, OnErr, OnOk};
+ghost use Rattle.sqlite.specs.Held.{state};
+ghost use Rattle.sqlite.specs.State.{HasCleanDisk};
+ghost use Rattle.wk_table_rules.specs.Rows.{StoreTables};
+ghost use Rattle.wk_table_rules.specs.Changes.{applied, fits};
+ghost use Rattle.wk_sqltables.specs.Edits.{Keeps};
+ghost use Rattle.wk_sqlkeeper.specs.Causes.{cause_of};
+ghost use Rattle.wk_sqlkeeper.specs.Rising.{change_rises};
+
 use crate::answers::Permit;
-use crate::links::set_rows;
-use crate::numbers::{stored_moment, whole};
-use sqlite::types::ValueRef;
-use sqlite::{Alter, Connection, Error, ErrorCode, Transaction};
+use crate::cause::SqlCause;
+use crate::rising::change_rises;
+use sqlite::{Alter, Connection, Constraint, Error, ErrorCode};
 use std::alloc::Global;
-use wk_tables::{Change, JobRow, PageRow, RevisionRow, RowEdit};
+use wk_tables::Change;
 
-fn add_revision<S: Alter>(
-    transaction: &mut Transaction<'_, S>,
-    row: &RevisionRow,
-) -> Result<(), Error> {
-    transaction.execute(
-        "INSERT INTO revision (rev_id, rev_page, rev_parent_id, rev_timestamp, rev_len, rev_gone, rev_text) VALUES (?1, ?2, ?3, ?4, ?5, ?6, ?7)",
-        &[
-            ValueRef::Int(whole(row.rev_id, 0)?),
-            ValueRef::Int(whole(row.rev_page, 1)?),
-            ValueRef::Int(whole(row.rev_parent_id, 2)?),
-            ValueRef::Int(stored_moment(row.rev_timestamp)),
-            ValueRef::Int(whole(row.rev_len, 4)?),
-            ValueRef::Int(i64::from(row.rev_gone)),
-            ValueRef::Text(row.rev_text.as_str().as_bytes()),
-        ],
-    )?;
-    Ok(())
-}
-
-fn set_page<S: Alter>(transaction: &mut Transaction<'_, S>, row: &PageRow) -> Result<(), Error> {
-    transaction.execute(
-        "INSERT INTO page (page_id, page_namespace, page_title, page_latest, page_len) VALUES (?1, ?2, ?3, ?4, ?5) ON CONFLICT (page_id) DO UPDATE SET page_namespace = excluded.page_namespace, page_title = excluded.page_title, page_latest = excluded.page_latest, page_len = excluded.page_len",
-        &[
-            ValueRef::Int(whole(row.page_id, 0)?),
-            ValueRef::Int(row.page_namespace),
-            ValueRef::Text(row.page_title.as_str().as_bytes()),
-            ValueRef::Int(whole(row.page_latest, 3)?),
-            ValueRef::Int(whole(row.page_len, 4)?),
-        ],
-    )?;
-    Ok(())
-}
-
-fn add_job<S: Alter>(transaction: &mut Transaction<'_, S>, row: &JobRow) -> Result<(), Error> {
-    transaction.execute(
-        "INSERT INTO job (job_id, job_cmd, job_namespace, job_title, job_params) VALUES (?1, ?2, ?3, ?4, ?5)",
-        &[
-            ValueRef::Int(whole(row.job_id, 0)?),
-            ValueRef::Text(row.job_cmd.as_str().as_bytes()),
-            ValueRef::Int(row.job_namespace),
-            ValueRef::Text(row.job_title.as_str().as_bytes()),
-            ValueRef::Text(row.job_params.as_str().as_bytes()),
-        ],
-    )?;
-    Ok(())
-}
-
-fn set_job<S: Alter>(transaction: &mut Transaction<'_, S>, row: &JobRow) -> Result<(), Error> {
-    transaction.execute(
-        "UPDATE job SET job_cmd = ?2, job_namespace = ?3, job_title = ?4, job_params = ?5 WHERE job_id = ?1",
-        &[
-            ValueRef::Int(whole(row.job_id, 0)?),
-            ValueRef::Text(row.job_cmd.as_str().as_bytes()),
-            ValueRef::Int(row.job_namespace),
-            ValueRef::Text(row.job_title.as_str().as_bytes()),
-            ValueRef::Text(row.job_params.as_str().as_bytes()),
-        ],
-    )?;
-    Ok(())
-}
-
-fn drop_job<S: Alter>(transaction: &mut Transaction<'_, S>, id: u64) -> Result<(), Error> {
-    transaction.execute(
-        "DELETE FROM job WHERE job_id = ?1",
-        &[ValueRef::Int(whole(id, 0)?)],
-    )?;
-    Ok(())
-}
-
-fn set_version<S: Alter>(
-    alloc: Global,
-    transaction: &mut Transaction<'_, S>,
-    version: u64,
-) -> Result<(), Error> {
-    let value = format!(in alloc; "{version}")?;
-    transaction.execute(
-        "UPDATE site SET site_value = ?1 WHERE site_key = 'version'",
-        &[ValueRef::Text(value.as_bytes())],
-    )?;
-    Ok(())
-}
-
-fn make_edit<S: Alter>(
-    alloc: Global,
-    transaction: &mut Transaction<'_, S>,
-    edit: &RowEdit,
-) -> Result<(), Error> {
-    match edit {
-        RowEdit::AddRevision(row) => add_revision(transaction, row),
-        RowEdit::SetPage(row) => set_page(transaction, row),
-        RowEdit::SetRows(page, rows) => set_rows(transaction, *page, rows),
-        RowEdit::AddJob(row) => add_job(transaction, row),
-        RowEdit::SetJob(row) => set_job(transaction, row),
-        RowEdit::DropJob(id) => drop_job(transaction, *id),
-        RowEdit::SetVersion(version) => set_version(alloc, transaction, *version),
-    }
-}
-
-fn make_edits<S: Alter>(
-    alloc: Global,
-    transaction: &mut Transaction<'_, S>,
-    edits: &[RowEdit],
-) -> Result<(), Error> {
-    for edit in edits {
-        make_edit(alloc, transaction, edit)?;
-    }
-    Ok(())
-}
-
-/// Makes the edits of the change in order, in one transaction, which an edit that is refused rolls back.
+/// Makes the edits of the change in order, in one transaction, which an edit that is refused rolls back. A change whose link
+/// rows don't rise is refused with `ConstraintViolation` before a statement.
 pub fn make_change<S: Alter>(
     alloc: Global,
     connection: &mut Connection<S>,
     change: &Change,
     _: Permit,
-) -> Result<(), Error> {
-    if !connection.is_autocommit() {
-        return Err(Error::SqliteFailure(ErrorCode::TransactionState));
+) -> Result<(), Error>
+    ensures made { HasCleanDisk (state S.Store connection.new) → OnOk result ((tables : StoreTables) → Keeps (state S.Store connection.old) tables → fits tables change.now ≡ true → Keeps (state S.Store connection.new) (applied tables change.now)) }
+    ensures refused { HasCleanDisk (state S.Store connection.new) → IsTrue (state S.Store connection.new).is_open → OnErr result ((tables : StoreTables) → Keeps (state S.Store connection.old) tables → Keeps (state S.Store connection.new) tables) }
+    ensures out_of_order { change_rises change.now ≡ false → IsErr result × (connection.new ≡ connection.old) }
+    ensures cause { change_rises change.now ≡ false → IfErr result (λ error. cause_of error ≡ SqlCause.Statement) }
+{
+    if !change_rises(change) {
+        return Err(Error::SqliteFailure(ErrorCode::ConstraintViolation(Constraint::Check)));
     }
-    let mut transaction = connection.transaction();
-    make_edits(alloc, &mut transaction, &change.edits)?;
-    transaction.commit()
+    wk_sqltables::make_change(alloc, connection, change)
 }

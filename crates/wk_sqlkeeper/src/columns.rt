@@ -3,14 +3,14 @@ ghost use Rattle.std.specs.Prelude.{◌≡◌, pos, IfErr, IfOk};
 ghost use Rattle.sqlite_value.specs.declared.value.Value.TheVariants.{Int, Text as TextValue};
 ghost use Rattle.sqlite_value.specs.Order.{column};
 ghost use Rattle.wk_sqlkeeper.specs.Reading.{HasFlag, HasNumber, HasText, HasWhole, OnlyUnless};
-ghost use Rattle.wk_sqlkeeper.specs.Stored.{stored_flag, stored_moment};
+ghost use Rattle.wk_sqltables.specs.Entries.{stored_flag, stored_moment};
 
 use crate::answers::no_memory;
-use crate::numbers::moment_of;
 use sqlite::types::{Type, ValueRef};
 use sqlite::{Error, Row};
 use std::alloc::Global;
 use wk_bytes::Text;
+use wk_sqltables::moment_of;
 
 /// The texts of a wiki are shorter.
 const TOO_LONG: usize = 1 << 32;

@@ -1,9 +1,14 @@
 //! The keeper over a database.
-ghost use Rattle.std.specs.Prelude.{◌≡◌, ◌↔◌, ◌≤◌, None, Some, true, is_some, IfErr, IfOk, IfSome, IsErr, IsOk, IsSome, OnErr, OnOk};
+ghost use Rattle.std.specs.Prelude.{◌≡◌, ◌↔◌, ◌≤◌, None, Some, true, false, is_some, IfErr, IfOk, IfSome, IsErr, IsOk, IsSome, IsTrue, OnErr, OnOk};
+ghost use Rattle.sqlite.specs.Held.{state};
+ghost use Rattle.sqlite.specs.State.{HasCleanDisk};
 ghost use Rattle.wk_base.specs.Faults.{Rose};
 ghost use Rattle.wk_table_rules.specs.Changes.{applied, fits};
+ghost use Rattle.wk_table_rules.specs.Rows.{StoreTables};
 ghost use Rattle.wk_keeper.specs.CallCounts.{CountsOne};
+ghost use Rattle.wk_sqltables.specs.Edits.{Keeps};
 ghost use Rattle.wk_sqlkeeper.specs.Causes.{cause_of};
+ghost use Rattle.wk_sqlkeeper.specs.Rising.{change_rises};
 ghost use Rattle.wk_sqlkeeper.specs.SqlKeeper.{connection_of, sql_calls, sql_cause, sql_faults, sql_told, sql_whole};
 
 use crate::adoption::make_tables;
@@ -155,7 +160,11 @@ impl<S: Alter + Drop> Keeper for SqlKeeper<S> {
     }
 
     /// Makes the change in one transaction, which is on the disk before the answer is given. `Failed` also comes where a
-    /// number of a row is 2^63 or more, but for moments; `cause` tells why.
+    /// number of a row is 2^63 or more, but for moments, and where a page's link rows aren't in the order of their titles or
+    /// have one twice, which is found before a statement; `cause` tells why.
+    ///
+    /// Whatever tables the database keeps that were made in their own order, at `Ok` it keeps what the change makes of them,
+    /// and after a refusal the same ones, where the disk gives back what was written.
     fn apply(&mut self, change: &Change) -> Result<(), KeeperRefusal>
         requires { IfSome (sql_told self.old) (λ kept. fits kept change.now ≡ true) }
         ensures made { OnOk result (IfSome (sql_told self.old) (λ kept. sql_told self.new ≡ Some (applied kept change.now))) }
@@ -173,6 +182,9 @@ impl<S: Alter + Drop> Keeper for SqlKeeper<S> {
         ensures no_cause { OnOk result (sql_cause self.new ≡ None) }
         ensures why { IsErr result → IsSome (sql_cause self.new) }
         ensures memory { (result ≡ Err KeeperRefusal.Memory) ↔ (sql_cause self.new ≡ Some SqlCause.Memory) }
+        ensures kept { HasCleanDisk (state S.Store (connection_of self.new)) → OnOk result ((tables : StoreTables) → Keeps (state S.Store (connection_of self.old)) tables → fits tables change.now ≡ true → Keeps (state S.Store (connection_of self.new)) (applied tables change.now)) }
+        ensures undone { HasCleanDisk (state S.Store (connection_of self.new)) → IsTrue (state S.Store (connection_of self.new)).is_open → OnErr result ((tables : StoreTables) → Keeps (state S.Store (connection_of self.old)) tables → Keeps (state S.Store (connection_of self.new)) tables) }
+        ensures out_of_order { change_rises change.now ≡ false → (result ≡ Err KeeperRefusal.Failed) × (connection_of self.new ≡ connection_of self.old) × (sql_cause self.new ≡ Some SqlCause.Statement) }
     {
         let made = self.calls.made();
         let permit = self.calls.permit();

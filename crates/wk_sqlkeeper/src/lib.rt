@@ -10,10 +10,9 @@ mod cause;
 mod changes;
 mod columns;
 mod keeper;
-mod links;
 mod loading;
-mod numbers;
 mod order;
+mod rising;
 mod rows;
 mod texts;
 

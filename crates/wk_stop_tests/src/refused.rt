@@ -2,7 +2,9 @@
 use crate::opened::{make_change, new_keeper, rows_of};
 use crate::same::are_both;
 use crate::samples::Step;
-use sqlite::MemStore;
+use crate::stops::opened;
+use sqlite::{Alter, Files};
+use sqlite_disk::Memory;
 use std::alloc::Global;
 use std::test::Fail;
 use wk_keeper::{Keeper, KeeperRefusal};
@@ -24,10 +26,16 @@ static REFUSED: [&[Step]; 5] = [
     &[Step::DropJob(1), Step::DropJob(18446744073709551615)],
 ];
 
+/// Changes in which a page's links aren't in the order of their titles, or have one twice.
+static OUT_OF_ORDER: [&[Step]; 2] = [
+    &[Step::DropJob(1), Step::Rows(1, &["C", "B"])],
+    &[Step::DropJob(1), Step::Rows(1, &["B", "C", "C"])],
+];
+
 /// Whether the change is refused and counted, and the rows are those before.
-fn changes_nothing(
+fn changes_nothing<S: Alter + Drop>(
     alloc: Global,
-    keeper: &mut SqlKeeper<MemStore>,
+    keeper: &mut SqlKeeper<S>,
     steps: &[Step],
 ) -> Result<bool, Fail> {
     let before = rows_of(keeper);
@@ -48,6 +56,40 @@ fn a_refused_change_is_rolled_back(rt: HostRuntime) -> Result<(), Fail> {
             "at change {number}"
         );
     }
+    Ok(())
+}
+
+/// Whether the keeper makes a page, and then refuses and counts each of the changes.
+fn refuses_all<S: Alter + Drop>(
+    alloc: Global,
+    keeper: &mut SqlKeeper<S>,
+    changes: &[&'static [Step]],
+) -> Result<bool, Fail> {
+    let mut refused = make_change(alloc, keeper, &ONE_PAGE)?.is_ok();
+    for steps in changes {
+        refused = changes_nothing(alloc, keeper, *steps)? && refused;
+    }
+    Ok(refused)
+}
+
+/// Whether links out of order are refused over a new store in two files.
+fn refuses_in_files(alloc: Global) -> Result<bool, Fail> {
+    let files = Files {
+        log: Memory::new(alloc),
+        db: Memory::new(alloc),
+    };
+    match opened(alloc, files) {
+        Ok(mut keeper) => refuses_all(alloc, &mut keeper, &OUT_OF_ORDER),
+        Err(_) => Ok(false),
+    }
+}
+
+#[test]
+fn links_out_of_order_are_refused(rt: HostRuntime) -> Result<(), Fail> {
+    let alloc = rt.alloc();
+    let mut keeper = new_keeper(alloc)?;
+    assert!(rt; refuses_all(alloc, &mut keeper, &OUT_OF_ORDER)?);
+    assert!(rt; refuses_in_files(alloc)?);
     Ok(())
 }
 

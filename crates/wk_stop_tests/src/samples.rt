@@ -4,7 +4,7 @@ use std::test::Fail;
 use wk_bytes::Text;
 use wk_memory::Memory;
 use wk_tables::{Change, JobRow, PageLists, PageRow, RevisionRow, RowEdit};
-use wk_title::normalize;
+use wk_title::{Title, normalize};
 
 /// One edit.
 #[derive(Clone, Copy)]
@@ -13,8 +13,8 @@ pub enum Step {
     Revision(u64, u64, u64, u64, &'static str),
     /// The number, the key, the current revision and the length.
     Page(u64, &'static str, u64, u64),
-    /// The page, which links to this title and uses no other.
-    Rows(u32, &'static str),
+    /// The page, which links to these titles, in this order, and uses no other.
+    Rows(u32, &'static [&'static str]),
     /// The number, the command, the key and the parameters.
     Job(u64, &'static str, &'static str, &'static str),
     SetJob(u64, &'static str, &'static str, &'static str),
@@ -81,18 +81,25 @@ fn revision(
     }))
 }
 
-fn rows(alloc: Global, page: u32, link: &'static str) -> Result<RowEdit, Memory> {
-    let Ok(title) = normalize(alloc, link, 0) else {
-        return Err(Memory);
-    };
-    let mut links = Vec::new(alloc);
-    links.push(title)?;
+/// The titles that these texts name, in this order.
+fn titles(alloc: Global, texts: &[&'static str]) -> Result<Vec<Title>, Memory> {
+    let mut titles = Vec::new(alloc);
+    for text in texts {
+        let Ok(title) = normalize(alloc, *text, 0) else {
+            return Err(Memory);
+        };
+        titles.push(title)?;
+    }
+    Ok(titles)
+}
+
+fn rows(alloc: Global, page: u32, links: &[&'static str]) -> Result<RowEdit, Memory> {
     Ok(RowEdit::SetRows(
         page,
         PageLists {
             templates: Vec::new(alloc),
             exists: Vec::new(alloc),
-            links,
+            links: titles(alloc, links)?,
             members: Vec::new(alloc),
             redirect: None,
         },
@@ -106,7 +113,7 @@ fn edit(alloc: Global, step: Step) -> Result<RowEdit, Memory> {
             revision(alloc, id, of, parent, seconds, bytes)
         }
         Step::Page(id, key, latest, len) => page(alloc, id, key, latest, len),
-        Step::Rows(of, link) => rows(alloc, of, link),
+        Step::Rows(of, links) => rows(alloc, of, links),
         Step::Job(id, cmd, key, params) => Ok(RowEdit::AddJob(job(alloc, id, cmd, key, params)?)),
         Step::SetJob(id, cmd, key, params) => {
             Ok(RowEdit::SetJob(job(alloc, id, cmd, key, params)?))

@@ -45,7 +45,7 @@ static SAVES: [&[Step]; 3] = [
         Step::Job(1, "refreshLinks", "A", ""),
         Step::Job(2, "fan", "A", "both:0"),
     ],
-    &[Step::Rows(1, "B"), Step::DropJob(1)],
+    &[Step::Rows(1, &["B"]), Step::DropJob(1)],
     &[
         Step::Revision(2, 1, 1, 2, "[[C]]"),
         Step::Page(1, "A", 2, 5),
@@ -81,7 +81,7 @@ fn copies(alloc: Global, files: &Disks, fuses: Fuses) -> Result<Disks, Fail> {
 }
 
 /// The keeper of the store in the files, or the files where they stop before it is there.
-fn opened<D: Disk + Drop>(
+pub fn opened<D: Disk + Drop>(
     alloc: Global,
     files: Files<D>,
 ) -> Result<SqlKeeper<FileStore<D>>, Files<D>> {

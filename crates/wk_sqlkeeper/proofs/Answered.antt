@@ -1,0 +1,27 @@
+-- What a keeper answers, by what the database answered.
+use Rattle.std.proofs.Common.{◌≡◌, Option, Some, Result, Ok, Err, IfOk, IfErr, OnOk, OnErr, IsErr, refl, sym, ap, subst, ◌∙◌, true≢false}
+use Rattle.sqlite.specs.declared.error.Error.{Error}
+use Rattle.wk_keeper.specs.declared.keeper.KeeperRefusal.{KeeperRefusal}
+use Rattle.wk_keeper.specs.declared.keeper.KeeperRefusal.TheVariants.{Failed, Memory as NoMemory}
+use Rattle.wk_sqlkeeper.specs.declared.cause.SqlCause.{SqlCause}
+use Rattle.wk_sqlkeeper.specs.declared.cause.SqlCause.TheVariants.{Memory, Statement}
+use Rattle.wk_sqlkeeper.specs.Causes.{cause_of}
+
+module _ {A E F : Type 0} (P : Type 0) where
+  pub ok_through : (answer : Result A E) (result : Result A F) → IfOk result (λ value. answer ≡ Ok value) → OnOk answer P → OnOk result P
+  ok_through answer (Ok value) same p = subst (λ (r : Result A E). OnOk r P) same p
+  ok_through answer (Err e) same p = tt
+
+  pub err_through : (answer : Result A E) (result : Result A F) → IfErr result (λ _. IsErr answer) → OnErr answer P → OnErr result P
+  err_through answer (Ok value) same p = tt
+  err_through (Err f) (Err e) same p = p
+  err_through (Ok value) (Err e) same p = absurd (true≢false (sym same))
+
+-- a statement that the database refused is a fault, and its cause is kept
+pub statement_refused : {A : Type 0} (answer : Result A Error) (result : Result A KeeperRefusal) (cause : Option SqlCause) → IsErr answer → IfErr answer (λ error. cause_of error ≡ Statement) → IfErr answer (λ error. cause ≡ Some (cause_of error))
+    → IfErr answer (λ _. IsErr result) → (result ≡ Err NoMemory → cause ≡ Some Memory) → (result ≡ Err Failed) × (cause ≡ Some Statement)
+statement_refused (Ok value) result cause refused of_statement kept told memory = absurd (true≢false (sym refused))
+statement_refused (Err error) (Ok value) cause refused of_statement kept told memory = absurd (true≢false (sym told))
+statement_refused (Err error) (Err Failed) cause refused of_statement kept told memory = (refl, kept ∙ ap Some of_statement)
+statement_refused (Err error) (Err NoMemory) cause refused of_statement kept told memory =
+    absurd (let first = memory refl in let then = kept ∙ ap Some of_statement in cc)

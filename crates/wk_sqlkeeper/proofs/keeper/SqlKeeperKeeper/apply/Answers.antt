@@ -1,0 +1,14 @@
+use Rattle.wk_sqlkeeper.proofs.Answered.{err_through, ok_through, statement_refused}
+use Rattle.wk_sqlkeeper.proofs.keeper.SqlKeeperKeeper.apply.Goals as goal
+
+pub returns-clause-kept : goal.returns-clause-kept
+returns-clause-kept g c clean = ok_through _ c.make_change-answer.result c.answered.result c.answered.ensures.given (c.make_change-answer.ensures.made clean)
+
+pub returns-clause-undone : goal.returns-clause-undone
+returns-clause-undone g c clean is_open = err_through _ c.make_change-answer.result c.answered.result c.answered.ensures.only (c.make_change-answer.ensures.refused clean is_open)
+
+pub returns-clause-out_of_order : goal.returns-clause-out_of_order
+returns-clause-out_of_order g c falls =
+    let refused = c.make_change-answer.ensures.out_of_order falls in
+    let why = statement_refused c.make_change-answer.result c.answered.result _ refused.0 (c.make_change-answer.ensures.cause falls) c.answered.ensures.because c.answered.ensures.refused (λ e. c.answered.ensures.no_memory.1 e) in
+    (why.0, refused.1, why.1)
