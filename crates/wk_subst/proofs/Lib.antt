@@ -1,0 +1,10 @@
+pub mod BindingLaws
+pub mod ItemLaws
+pub mod MachineLaws
+pub mod NameLaws
+pub mod NodeLaws
+pub mod PlanLaws
+pub mod ReadLaws
+pub mod StackLaws
+pub mod StepLaws
+pub mod WorkLaws

@@ -1,0 +1,12 @@
+pub mod Begun
+pub mod Binding
+pub mod Bindings
+pub mod Budget
+pub mod MachineShown
+pub mod Machines
+pub mod Marked
+pub mod Nodes
+pub mod Paused
+pub mod Stack
+pub mod Substituted
+pub mod Work
