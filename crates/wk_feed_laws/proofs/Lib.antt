@@ -1,0 +1,15 @@
+pub mod Json
+pub mod Said
+pub mod Taken
+pub mod TablesBack
+pub mod GoodRows
+pub mod Places
+pub mod SavedAgain
+pub mod Events
+pub mod Numbers
+pub mod Fed
+pub mod Prefixes
+pub mod Starts
+pub mod Made
+pub mod Bytes
+pub mod CutFeeds

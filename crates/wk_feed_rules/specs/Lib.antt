@@ -1,0 +1,5 @@
+pub mod Lines
+pub mod Reading
+pub mod Feeds
+pub mod Taking
+pub mod Computing
