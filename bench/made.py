@@ -95,6 +95,19 @@ def many(templates):
     return "".join("{{Many %d}} " % n for n in range(1, templates + 1)), {f"Many {n}": "x" for n in range(1, templates + 1)}
 
 
+def substituted(sort):
+    """A text of the sort that calls pages by `subst:`, the texts of those that are there by their names, and the names of those that
+    are missing."""
+    if sort == "call":
+        return repeated(ORDINARY.replace("\n", " "), 10_000) + "{{subst:Note|5}}", {"Note": NOTE + repeated("x ", 1000)}, []
+    if sort == "missing":
+        names = [f"Missing {n}" for n in range(10_000)]
+        return "".join("{{subst:%s}}" % it for it in names), {}, names
+    if sort == "values":
+        return "{{subst:Values|%s}}" % repeated("v", 1000), {"Values": "{{{1}}}" * 1000}, []
+    return "{{subst:Chain 1}}", {f"Chain {n}": "{{subst:Chain %d}}" % (n + 1) if n < 40 else "x" for n in range(1, 41)}, []
+
+
 def pages_of(page):
     """The member `pages` of a line that asks the probe to draft Page 1."""
     viewed, included = page

@@ -1,3 +1,4 @@
+mod AskedKinds
 mod ByNumber
 mod EarlyAnswers
 mod JobCounts

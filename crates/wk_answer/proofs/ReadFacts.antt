@@ -23,15 +23,16 @@ use Rattle.wk_life_laws.proofs.Marks.{Answered, exists-now}
 use Rattle.wk_wiki_rules.specs.Passes.{shown_number}
 use Rattle.wk_expand.specs.Drafts.{DraftShown}
 use Rattle.wk_present.specs.Drafted.{IsPresent}
-use Rattle.wk_request_rules.specs.Requests.{Request}
+use Rattle.wk_request_rules.specs.Requests.{Ask, Request, asks_to_save, edit, delete, parse, expand_text, backlinks, embedded, members, changes, revisions, tokens, site_info}
 use Rattle.wk_answer_rules.specs.ApiErrors.{api_error, futurepoint, missingtitle}
 use Rattle.wk_answer_rules.specs.Pages.{PageShown, fails, page_shown, parse_entries, shows}
 use Rattle.wk_answer_rules.specs.Values.{reply_beside}
 use Rattle.wk_answer_rules.specs.Saves.{Answered as Reply, failed_at}
-use Rattle.wk_answer_rules.specs.Answers.{answer_to_ask, answer_to_request}
+use Rattle.wk_answer_rules.specs.Answers.{answer_to_ask, answer_to_request, answer_with_subst}
 use Rattle.wk_answer_laws.proofs.Orders.{early}
+use Rattle.wk_answer_laws.proofs.Points.{read-plain}
 use Rattle.wk_listings.specs.Replied.{value_at}
-use Rattle.wk_answer.specs.Readings.{mark_first, page_answer}
+use Rattle.wk_answer.specs.Readings.{asks_to_expand, mark_first, page_answer}
 use Rattle.wk_answer.proofs.Shown.{page-shown}
 
 -- ---- what is read first
@@ -118,13 +119,43 @@ missing-told view_of state found d revision point result formed end same of_revi
 
 -- ---- least points
 
-pub not-early : (most : MostHeld) (state : State) (journal moment : ℕ) (request : Request) → nat_lt journal request.least ≡ false
-    → answer_to_request most state journal moment request ≡ answer_to_ask most state journal moment request.ask
+-- behind a least point that is reached the flag decides whether a text is transformed
+pub reached-flag : (most : MostHeld) (state : State) (journal moment : ℕ) (request : Request) → nat_lt journal request.least ≡ false
+    → answer_to_request most state journal moment request
+    ≡ cond request.subst (answer_with_subst most state journal moment request.ask) (answer_to_ask most state journal moment request.ask)
 unfolding answer_to_request
-not-early most state journal moment request is = ap (λ b. cond b (failed_at journal (futurepoint journal)) (answer_to_ask most state journal moment request.ask)) is
+reached-flag most state journal moment request is =
+    ap (λ b. cond b (failed_at journal (futurepoint journal)) (cond request.subst (answer_with_subst most state journal moment request.ask) (answer_to_ask most state journal moment request.ask))) is
 
-pub reached-answer : (most : MostHeld) (state : State) (journal moment : ℕ) (request : Request) → request.least ≤ journal → answer_to_request most state journal moment request ≡ answer_to_ask most state journal moment request.ask
-reached-answer most state journal moment request reached = not-early most state journal moment request (le-ltb journal request.least reached)
+either-same : (flag : Bool) (one other : Reply) → one ≡ other → cond flag one other ≡ other
+either-same true one other same = same
+either-same false one other same = refl
+
+-- and no read heeds that
+pub not-early : (most : MostHeld) (state : State) (journal moment : ℕ) (request : Request) → asks_to_save request.ask ≡ false → nat_lt journal request.least ≡ false
+    → answer_to_request most state journal moment request ≡ answer_to_ask most state journal moment request.ask
+not-early most state journal moment request reads is =
+    reached-flag most state journal moment request is
+    ∙ either-same request.subst (answer_with_subst most state journal moment request.ask) (answer_to_ask most state journal moment request.ask) (read-plain most state journal moment request.ask reads)
+
+-- an expansion is no save
+expands-no-save : (ask : Ask) → asks_to_expand ask ≡ true → asks_to_save ask ≡ false
+expands-no-save (edit asked) e = absurd (let f : false ≡ true = e in cc)
+expands-no-save (delete named base) e = absurd (let f : false ≡ true = e in cc)
+expands-no-save (parse named) e = refl
+expands-no-save (expand_text given named) e = refl
+expands-no-save (backlinks listing) e = refl
+expands-no-save (embedded listing) e = refl
+expands-no-save (members listing) e = refl
+expands-no-save (changes listing) e = refl
+expands-no-save (revisions listing content) e = refl
+expands-no-save tokens e = refl
+expands-no-save site_info e = refl
+
+pub reached-answer : (most : MostHeld) (state : State) (journal moment : ℕ) (request : Request) → asks_to_expand request.ask ≡ true → request.least ≤ journal
+    → answer_to_request most state journal moment request ≡ answer_to_ask most state journal moment request.ask
+reached-answer most state journal moment request expands reached =
+    not-early most state journal moment request (expands-no-save request.ask expands) (le-ltb journal request.least reached)
 
 pub early-told : (most : MostHeld) (state : State) (journal moment point : ℕ) (request : Request) (value : Data) → point ≡ journal → nat_lt point request.least ≡ true
     → value ≡ (api_error (futurepoint point) point).value → value ≡ (answer_to_request most state journal moment request).reply.value
@@ -132,12 +163,12 @@ early-told most state journal moment point request value same is told =
     let later : nat_lt journal request.least ≡ true = subst (λ p. nat_lt p request.least ≡ true) same is in
     told ∙ (ap (λ p. (api_error (futurepoint p) p).value) same ∙ sym (ap (λ (answered : Reply). answered.reply.value) (early most state journal moment request later)))
 
-pub reached-told : {V E : Type 0} (view_of : V → Data) (most : MostHeld) (state held : State) (journal moment point : ℕ) (request : Request) (result : Result V E) → held ≡ state → point ≡ journal
+pub reached-told : {V E : Type 0} (view_of : V → Data) (most : MostHeld) (state held : State) (journal moment point : ℕ) (request : Request) (result : Result V E) → asks_to_save request.ask ≡ false → held ≡ state → point ≡ journal
     → nat_lt point request.least ≡ false → IfOk result (λ v. view_of v ≡ (answer_to_ask most held point moment request.ask).reply.value)
     → IfOk result (λ v. view_of v ≡ (answer_to_request most state journal moment request).reply.value)
-reached-told view_of most state held journal moment point request result same same_point is told =
+reached-told view_of most state held journal moment point request result reads same same_point is told =
     let reached : nat_lt journal request.least ≡ false = subst (λ p. nat_lt p request.least ≡ false) same_point is in
     let answered : answer_to_ask most held point moment request.ask ≡ answer_to_request most state journal moment request =
     ap (λ (s : State). answer_to_ask most s point moment request.ask) same
-    ∙ (ap (λ p. answer_to_ask most state p moment request.ask) same_point ∙ sym (not-early most state journal moment request reached)) in
+    ∙ (ap (λ p. answer_to_ask most state p moment request.ask) same_point ∙ sym (not-early most state journal moment request reads reached)) in
     subst (λ (a : Reply). IfOk result (λ v. view_of v ≡ a.reply.value)) answered told

@@ -1,3 +1,4 @@
+pub mod Declined
 pub mod Numbered
 pub mod Readings
 pub use Rattle.wk_request.specs.Asked

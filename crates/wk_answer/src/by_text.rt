@@ -15,9 +15,9 @@ use wk_live::Live;
 use wk_memory::Memory;
 use wk_present::draft_now;
 use wk_replies::{PageShown, expanded, parsed};
-use wk_revs::Revs;
+use wk_revs::{Revs, real_title};
 use wk_rows::rows;
-use wk_saving::{content_too_big, real_title};
+use wk_saving::content_too_big;
 use wk_title::{Title, named};
 
 /// The number of the title's page, 0 where it doesn't exist.

@@ -8,8 +8,9 @@ mod reads;
 mod refusals;
 mod requests;
 
-pub use reading::read_answer;
+pub use reading::{list_answer, read_answer, site_answer};
 pub use reads::read_reply;
-pub use refusals::refused;
-pub use requests::{act, answer};
+pub use refusals::{declined, no_memory};
+pub use requests::{act, act_with, answer};
+pub use wk_revs::real_title;
 pub use wk_saving::error_reply;

@@ -8,7 +8,7 @@ ghost use Rattle.wk_view_rules.specs.Worlds.{of_world};
 ghost use Rattle.wk_wiki_rules.specs.States.{State, world_of};
 ghost use Rattle.wk_wiki_laws.specs.WellFormed.{IsWellFormed};
 ghost use Rattle.wk_wiki_rules.specs.Passes.{shown_number};
-ghost use Rattle.wk_request.specs.Asked.{ask_of, request_asked};
+ghost use Rattle.wk_request.specs.Asked.{ask_of, read_of, request_asked};
 ghost use Rattle.wk_core.specs.declared.outcomes.ReadRefusal.TheVariants.{Future};
 ghost use Rattle.wk_answer_rules.specs.ApiErrors.{api_error, futurepoint};
 ghost use Rattle.wk_answer_rules.specs.Answers.{answer_to_ask, answer_to_request};
@@ -23,7 +23,7 @@ use wk_good_rows::MAX_TEXT;
 use wk_listings::missing_title;
 use wk_memory::Memory;
 use wk_replies::{PageShown, expanded, future_point, parsed};
-use wk_request::{Ask, Request};
+use wk_request::{Asked, ReadAsked, Request};
 use wk_rows::rows;
 use wk_saving::content_too_big;
 
@@ -74,16 +74,14 @@ fn text_reply(alloc: Global, text: &str, read: &PageRead) -> Result<Value, Memor
 }
 
 /// What is told of what was read for a request.
-fn found_reply(alloc: Global, ask: &Ask, read: &PageRead) -> Result<Value, Memory>
-    requires asked { asks_to_expand (ask_of ask.now) ≡ true }
-    requires fit { IsFitRead (ask_of ask.now) (Ok read.now) }
-    ensures { (most : MostHeld) (state : State) (moment : ℕ) → IsRightRead state (ask_of ask.now) (reading_of read.now)
-        → IfOk result (λ v. view v ≡ (answer_to_ask most state read.now.point moment (ask_of ask.now)).reply.value) }
+fn found_reply(alloc: Global, asked: &ReadAsked, read: &PageRead) -> Result<Value, Memory>
+    requires fit { IsFitRead (read_of asked.now) (Ok read.now) }
+    ensures { (most : MostHeld) (state : State) (moment : ℕ) → IsRightRead state (read_of asked.now) (reading_of read.now)
+        → IfOk result (λ v. view v ≡ (answer_to_ask most state read.now.point moment (read_of asked.now)).reply.value) }
 {
-    match ask {
-        Ask::Parse { .. } => page_reply(alloc, read),
-        Ask::Expand { text, .. } => text_reply(alloc, text, read),
-        _ => unreachable!(),
+    match *asked {
+        ReadAsked::Page { .. } => page_reply(alloc, read),
+        ReadAsked::Text { text, .. } => text_reply(alloc, text, read),
     }
 }
 
@@ -118,8 +116,12 @@ pub fn read_reply(
         → read.now ≡ Err (Future latest) → latest < request.now.least
         → IfOk result (λ v. view v ≡ (answer_to_request most state latest moment (request_asked request.now)).reply.value) }
 {
-    match read {
-        Ok(read) => found_reply(alloc, &request.ask, read),
-        Err(refusal) => early_reply(alloc, *refusal),
+    let found = match read {
+        Ok(found) => found,
+        Err(refusal) => return early_reply(alloc, *refusal),
+    };
+    match request.ask.asked() {
+        Asked::Read(asked) => found_reply(alloc, &asked, found),
+        _ => unreachable!(),
     }
 }

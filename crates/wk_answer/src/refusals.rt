@@ -1,9 +1,8 @@
-//! The replies to parameters that ask nothing.
-ghost use Rattle.std.specs.Prelude.{◌≡◌, [], IfOk, Some};
+//! The replies to parameters that ask nothing, and where memory is wanting.
+ghost use Rattle.std.specs.Prelude.{◌≡◌, IfOk};
 ghost use Rattle.serde_json.specs.View.{view};
-ghost use Rattle.wk_request_rules.specs.Requests.{RequestRefusal as Refused, number_of_refusal, parameter_of_refusal};
-ghost use Rattle.wk_request.specs.Refusals.{told};
-ghost use Rattle.wk_answer_rules.specs.ApiErrors.{api_error, request_error};
+ghost use Rattle.wk_answer_rules.specs.ApiErrors.{api_error, nomemory};
+ghost use Rattle.wk_answer.specs.Declined.{IsDeclined};
 ghost use Rattle.wk_answer.specs.Numbered.{error_numbered};
 
 use serde_json::Value;
@@ -29,17 +28,23 @@ fn numbered(alloc: Global, number: u8, parameter: &str, point: u64) -> Result<Va
     }
 }
 
-/// The reply to parameters that ask nothing, by their refusal (MediaWiki's API:Errors and warnings; the order is own). The
-/// refusal `Memory` has no reply.
+/// Memory is wanting, at a point of the journal.
+pub fn no_memory(alloc: Global, point: u64) -> Result<Value, Memory>
+    ensures { IfOk result (λ v. view v ≡ (api_error nomemory point).value) }
+{
+    Ok(error_reply(alloc, "nomemory", "Out of memory.", point)?)
+}
+
+/// The reply to parameters that ask nothing, by their refusal (MediaWiki's API:Errors and warnings; the order is own), or that
+/// memory is wanting, at a point of the journal. `Memory` comes where there is no room for the reply.
 #[tactic(auto, using(crate::proofs::ByNumber::is_numbered))]
-pub fn refused(alloc: Global, refusal: &RequestRefusal, point: u64) -> Result<Value, Memory>
-    ensures { (cause : Refused) → told refusal.now ≡ Some (number_of_refusal cause, parameter_of_refusal cause)
-        → IfOk result (λ v. view v ≡ (api_error (request_error cause) point).value) }
+pub fn declined(alloc: Global, refusal: &RequestRefusal, point: u64) -> Result<Value, Memory>
+    ensures { IsDeclined refusal.now point result }
 {
     match refusal {
         RequestRefusal::Refused { number, parameter } => {
             numbered(alloc, *number, parameter, point)
         }
-        RequestRefusal::Memory => Err(Memory),
+        RequestRefusal::Memory => no_memory(alloc, point),
     }
 }

@@ -25,17 +25,18 @@ use Rattle.wk_wiki_rules.specs.SaveOutcomes.{SaveOutcome, save_outcome, deletion
 use Rattle.wk_wiki_rules.specs.Staleness.{StaleRead, first_stale}
 use Rattle.wk_request_rules.specs.Requests.{Ask, edit, delete, parse, expand_text, backlinks, embedded, members, changes, revisions, tokens, site_info, Listing, RequestRefusal, bad_value, must_be_posted, bad_token, no_title, no_text, bad_integer, ParsedRequest, valid, invalid}
 use Rattle.wk_answer_rules.specs.Values.{ApiReply, Entries, reply_beside}
-use Rattle.wk_answer_rules.specs.ApiErrors.{futurepoint, invalidtitle, invalidcategory, contenttoobig, missingtitle, nomemory, storefault, journalfull, api_error, request_error, save_error}
+use Rattle.wk_answer_rules.specs.ApiErrors.{invalidtitle, invalidcategory, contenttoobig, missingtitle, nomemory, storefault, journalfull, api_error, request_error, save_error}
 use Rattle.wk_answer_rules.specs.Pages.{ReadAnswer, shows, fails, text_shown, parse_entries, page_shown, parse_answer, expand_entries, expanded_in}
 use Rattle.wk_answer_rules.specs.Lists.{listed, backlinks_of, embedding_of, member_entries, members_passed, members_listed, members_of, page_entries, last_listed, change_entries, below, revisions_listed, revision_entries, changes_answer, revisions_of}
-use Rattle.wk_answer_rules.specs.Saves.{Answered, failed_at, edit_entries, delete_entries, outcome_entries, save_answer}
-use Rattle.wk_answer_rules.specs.Answers.{read_at, answer_to_ask, answer_to_request, answer_to_parsed}
+use Rattle.wk_answer_rules.specs.Saves.{Answered, edit_entries, delete_entries, outcome_entries, save_answer}
+use Rattle.wk_answer_rules.specs.Answers.{read_at, answer_to_ask, answer_to_parsed}
 use Rattle.wk_script_rules.specs.ScriptLines.{ScriptLine, empty_line, long_line, api_line, claim_line, read_line, finish_line, giveback_line, fan_line, restart_line, unknown_line}
 use Rattle.wk_script_rules.specs.WikiScripts.{TicketDraft, WikiScript, point_of, after_event, draft_of, drafted, with_read, given_back_by, restarted}
 use Rattle.wk_script_rules.specs.Replies.{LineError, badline, linetoolong, notticket, noread, needsread, line_error, claim_entries, nothing_entries, read_entries, done_entries, stale_entries, giveback_entries, fan_entries, restart_entries}
 use Rattle.wk_script_rules.specs.Steps.{LineStep, replied, refused_line, journal_full_line, after_answer, api_answer, claimed, present_read, finished, read_step, read_by_need, finish_step, finish_by, giveback_step, with_ticket_out, line_step}
 use Rattle.wk_script_rules.specs.Runs.{HasNoFailure}
 use Rattle.wk_answer_laws.specs.Failures.{error_code, is_failure}
+use Rattle.wk_answer_laws.proofs.Points.{request-by}
 
 abbrev pub Calm : ApiReply → Type 0
 Calm reply = is_failure reply.value ≡ false
@@ -161,15 +162,10 @@ ask-calm most state journal moment (revisions listing content) =
 ask-calm most state journal moment tokens = refl
 ask-calm most state journal moment site_info = refl
 
-either-answer : (b : Bool) (one other : Answered) → Calm one.reply → Calm other.reply → Calm (cond b one other).reply
-either-answer true one other first second = first
-either-answer false one other first second = second
-
 pub answer-calm : (most : MostHeld) (state : State) (journal moment : ℕ) (read : ParsedRequest) → Calm (answer_to_parsed most state journal moment read).reply
-unfolding answer_to_request
 answer-calm most state journal moment (invalid refusal) = request-calm refusal journal
 answer-calm most state journal moment (valid request) =
-    either-answer (nat_lt journal request.least) (failed_at journal (futurepoint journal)) (answer_to_ask most state journal moment request.ask) refl (ask-calm most state journal moment request.ask)
+    request-by most state journal moment (λ (answer : Answered). Calm answer.reply) refl refl refl (ask-calm most state journal moment) request
 
 -- ---- lines
 

@@ -22,8 +22,9 @@ use Rattle.wk_answer_rules.specs.Values.{Entries, object_of, items_of, array_of,
 use Rattle.wk_answer_rules.specs.ApiErrors.{ApiError, badvalue, mustbeposted, badtoken, notitle, notext, badinteger, futurepoint, invalidtitle, invalidcategory, contenttoobig, articleexists, missingtitle, editconflict, wikifull, journalfull, nomemory, storefault, ErrorRow, error_row, row_entries, request_error, save_error}
 use Rattle.wk_answer_rules.specs.Pages.{ReadAnswer, shows, fails, text_shown, PageShown, category_value, redirect_entries, parse_entries, page_shown, parse_answer, expand_entries, expanded_in, expand_answer, query_entries, namespace_numbers, namespace_value, statistics_value, site_entries}
 use Rattle.wk_answer_rules.specs.Lists.{continue_entries, last_listed, listed, page_entries, backlinks_of, backlinks_answer, embedding_of, embedded_answer, member_entries, members_passed, members_listed, members_of, members_answer, change_entries, below, revisions_listed, changes_answer, deleted_entries, content_entries, revision_entries, revisions_of, revisions_answer}
-use Rattle.wk_answer_rules.specs.Saves.{Answered, failed_at, edit_entries, delete_entries, outcome_entries, save_answer}
-use Rattle.wk_answer_rules.specs.Answers.{read_at, answer_to_ask, answer_to_request, answer_to_parsed}
+use Rattle.wk_answer_rules.specs.Saves.{Answered, edit_entries, delete_entries, outcome_entries, save_answer}
+use Rattle.wk_answer_rules.specs.Answers.{read_at, answer_to_ask, answer_to_parsed}
+use Rattle.wk_answer_laws.proofs.Points.{request-by}
 
 -- ---- objects and arrays
 
@@ -306,13 +307,8 @@ ask-plain most state journal moment site_info =
       tt,
     )
 
-either-answer : (b : Bool) (one other : Answered) → has_float one.reply.value ≡ false → has_float other.reply.value ≡ false → has_float (cond b one other).reply.value ≡ false
-either-answer true one other first second = first
-either-answer false one other first second = second
-
 pub answer-plain : (most : MostHeld) (state : State) (journal moment : ℕ) (read : ParsedRequest) → has_float (answer_to_parsed most state journal moment read).reply.value ≡ false
-unfolding answer_to_request
 answer-plain most state journal moment (invalid refusal) = error-plain (request_error refusal) journal
 answer-plain most state journal moment (valid request) =
-    either-answer (nat_lt journal request.least) (failed_at journal (futurepoint journal)) (answer_to_ask most state journal moment request.ask)
-    (error-plain (futurepoint journal) journal) (ask-plain most state journal moment request.ask)
+    request-by most state journal moment (λ (answer : Answered). has_float answer.reply.value ≡ false) (error-plain (futurepoint journal) journal)
+    (error-plain invalidtitle journal) (error-plain contenttoobig journal) (ask-plain most state journal moment) request

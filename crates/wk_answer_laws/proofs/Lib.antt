@@ -4,3 +4,4 @@ pub mod Possible
 pub mod Calm
 pub mod Floats
 pub mod Lines
+pub mod Substs

@@ -14,8 +14,9 @@ use Rattle.wk_wiki_rules.specs.SaveOutcomes.{SaveOutcome}
 use Rattle.wk_request_rules.specs.Requests.{Request}
 use Rattle.wk_answer_rules.specs.Values.{Entries}
 use Rattle.wk_answer_rules.specs.ApiErrors.{ApiError, futurepoint, invalidtitle, contenttoobig, articleexists, missingtitle, editconflict, wikifull, journalfull}
-use Rattle.wk_answer_rules.specs.Saves.{failed_at, save_answer}
-use Rattle.wk_answer_rules.specs.Answers.{answer_to_ask, answer_to_request}
+use Rattle.wk_answer_rules.specs.Saves.{Answered, failed_at, save_answer, edit_answer, subst_answer}
+use Rattle.wk_answer_rules.specs.Transforms.{transformed_edit}
+use Rattle.wk_answer_rules.specs.Answers.{answer_to_ask, answer_with_subst, answer_to_request}
 use Rattle.wk_answer_laws.specs.Orders.{first_error, errors_of_an_edit, errors_of_a_change}
 
 -- ---- the verdict, by the truth of its conditions
@@ -127,7 +128,9 @@ module _ (most : MostHeld) (state : State) (journal : ℕ) (edit : EditAsked) wh
 pub early : (most : MostHeld) (state : State) (journal moment : ℕ) (request : Request) → nat_lt journal request.least ≡ true
     → answer_to_request most state journal moment request ≡ failed_at journal (futurepoint journal)
 unfolding answer_to_request
-early most state journal moment request is = ap (λ b. cond b (failed_at journal (futurepoint journal)) (answer_to_ask most state journal moment request.ask)) is
+early most state journal moment request is =
+    ap (λ b. cond b (failed_at journal (futurepoint journal))
+    (cond request.subst (answer_with_subst most state journal moment request.ask) (answer_to_ask most state journal moment request.ask))) is
 
 module _ (entries_of : SaveOutcome → Entries) (most : MostHeld) (state : State) (journal moment : ℕ) (edit : EditAsked) where
   pub bad-title : real_title edit.title ≡ None → save_answer entries_of state journal moment (verdict_in most state journal edit) ≡ failed_at journal invalidtitle
@@ -169,3 +172,25 @@ module _ (entries_of : SaveOutcome → Entries) (most : MostHeld) (state : State
       ∙ change-none entries_of state journal moment (is_none (page_number state.history title) && leb most.pages (length state.history.pages))
       (leb most.revisions (length state.history.revisions)) (ltb most.text (text_bytes state.history + body_bytes (option_map kept edit.body)))
       (full most state journal edit) title (option_map kept edit.body) free)
+
+-- ---- an edit whose text is transformed
+
+module _ (most : MostHeld) (state : State) (journal moment : ℕ) (edit : EditAsked) where
+  -- the answer, by whether the text is too long as it is given
+  abbrev by_size : Bool → Answered
+  by_size big = cond big (failed_at journal contenttoobig) (edit_answer most state journal moment (transformed_edit state edit))
+
+  -- the same, by the title that the edit names
+  abbrev by_name : Option PageTitle → Answered
+  by_name o = elim o as (λ p. Answered) [ None ↦ failed_at journal invalidtitle | Some title ↦ by_size (ltb max_text (body_bytes edit.body)) ]
+
+  pub subst-untitled : real_title edit.title ≡ None → subst_answer most state journal moment edit ≡ failed_at journal invalidtitle
+  subst-untitled none = ap by_name none
+
+  pub subst-too-big : (title : PageTitle) → real_title edit.title ≡ Some title → nat_lt max_text (body_bytes edit.body) ≡ true
+      → subst_answer most state journal moment edit ≡ failed_at journal contenttoobig
+  subst-too-big title named big = ap by_name named ∙ ap by_size big
+
+  pub subst-judged : (title : PageTitle) → real_title edit.title ≡ Some title → nat_lt max_text (body_bytes edit.body) ≡ false
+      → subst_answer most state journal moment edit ≡ edit_answer most state journal moment (transformed_edit state edit)
+  subst-judged title named fits = ap by_name named ∙ ap by_size fits

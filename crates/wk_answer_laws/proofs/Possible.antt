@@ -1,6 +1,6 @@
 -- What a verdict accepts is possible, and so is the event of each answer.
 use Rattle.std.proofs.Common.{◌≡◌, ℕ, pos, Bool, true, false, cond, not, ltb, ◌&&◌, ◌||◌, List, Option, Some, None, refl, sym, ap, ◌∙◌, subst}
-use Rattle.std.specs.Prelude.{IsSome, option_map, is_some, is_none, nat_lt}
+use Rattle.std.specs.Prelude.{IsSome, option_map, is_some, is_none}
 use Rattle.std.proofs.lemmas.Bool.{and_from}
 use Rattle.wk_text_rules.specs.Titles.{PageTitle, normal, is_virtual, is_page_title}
 use Rattle.wk_page_rules.specs.declared.Limit.{Limit}
@@ -20,10 +20,10 @@ use Rattle.wk_wiki_rules.specs.Calls.{IsMade, by_save}
 use Rattle.wk_wiki_rules.specs.SaveOutcomes.{SaveOutcome, deletion}
 use Rattle.wk_request_rules.specs.Requests.{Ask, edit, delete, parse, expand_text, backlinks, embedded, members, changes, revisions, tokens, site_info, ParsedRequest, valid, invalid}
 use Rattle.wk_answer_rules.specs.Values.{Entries}
-use Rattle.wk_answer_rules.specs.ApiErrors.{futurepoint}
+use Rattle.wk_answer_rules.specs.ApiErrors.{ApiError, futurepoint, invalidtitle, contenttoobig}
 use Rattle.wk_answer_rules.specs.Saves.{Answered, failed_at, save_answer, edit_entries, delete_entries}
-use Rattle.wk_answer_rules.specs.Answers.{asks_to_save, answer_to_ask, answer_to_request, answer_to_parsed}
-use Rattle.wk_answer_laws.proofs.Points.{either, ask-none}
+use Rattle.wk_answer_rules.specs.Answers.{asks_to_save, answer_to_ask, answer_to_parsed}
+use Rattle.wk_answer_laws.proofs.Points.{ask-none, request-by}
 
 -- ---- a title that a save can have
 
@@ -74,8 +74,10 @@ has-text true None false e = absurd cc
 has-text false None false e = absurd cc
 
 module _ (h : History) (most : MostHeld) (asked : EditAsked) where
-  judged-at : (t title : PageTitle) (x text : Option (List ℕ)) → IsPageTitle t → judged_at h most asked t x ≡ accept title text → can_save h title text ≡ true
-  judged-at t title x text page is =
+  -- what is accepted is this title and this text, and no page that must be there is missing
+  at-parts : (t title : PageTitle) (x text : Option (List ℕ)) → judged_at h most asked t x ≡ accept title text
+      → (((asked.no_create || is_none x) && not (page_exists h t)) ≡ false) × (t ≡ title) × (x ≡ text)
+  at-parts t title x text is =
       let current = current_revision h t in
       let rest5 = elim (limit_passed h most t x) as (λ p. Verdict) [ None ↦ accept t x | Some limit ↦ refuse (wiki_full limit) ] in
       let rest4 = cond (is_same_text (current_text h t) x) (no_change t) rest5 in
@@ -88,8 +90,13 @@ module _ (h : History) (most : MostHeld) (asked : EditAsked) where
       let four = passes (is_conflict asked.base current) (edit_conflict current) rest4 title text three.1 in
       let five = differs (is_same_text (current_text h t) x) t rest5 title text four.1 in
       let six = limits-accept (limit_passed h most t x) t title x text five in
-      let first : can_save h t x ≡ true = and_from (is_page_title t) (is_some x || page_exists h t) (page-title t page) (has-text asked.no_create x (page_exists h t) three.0) in
-      subst (λ (y : Option (List ℕ)). can_save h title y ≡ true) six.1 (subst (λ (u : PageTitle). can_save h u x ≡ true) six.0 first)
+      (three.0, six.0, six.1)
+
+  judged-at : (t title : PageTitle) (x text : Option (List ℕ)) → IsPageTitle t → judged_at h most asked t x ≡ accept title text → can_save h title text ≡ true
+  judged-at t title x text page is =
+      let parts = at-parts t title x text is in
+      let first : can_save h t x ≡ true = and_from (is_page_title t) (is_some x || page_exists h t) (page-title t page) (has-text asked.no_create x (page_exists h t) parts.0) in
+      subst (λ (y : Option (List ℕ)). can_save h title y ≡ true) parts.2 (subst (λ (u : PageTitle). can_save h u x ≡ true) parts.1 first)
 
   judged-possible : (title : PageTitle) (text : Option (List ℕ)) → judged h most asked ≡ accept title text → can_save h title text ≡ true
   unfolding judged
@@ -101,10 +108,29 @@ module _ (h : History) (most : MostHeld) (asked : EditAsked) where
       by None named is = absurd (let e : refuse invalid_title ≡ accept title text = is in cc)
       by (Some t) named is = judged-at t title (option_map kept asked.body) text (real-page t asked.title named) is
 
+  judged-is : (title : PageTitle) (text : Option (List ℕ)) → judged h most asked ≡ accept title text → (real_title asked.title ≡ Some title) × (option_map kept asked.body ≡ text)
+  unfolding judged
+  judged-is title text is = by (real_title asked.title) refl is
+    where
+      by : (o : Option PageTitle) → real_title asked.title ≡ o
+          → (elim o as (λ p. Verdict) [ None ↦ refuse invalid_title | Some t ↦ judged_at h most asked t (option_map kept asked.body) ]) ≡ accept title text
+          → (real_title asked.title ≡ Some title) × (option_map kept asked.body ≡ text)
+      by None named is = absurd (let e : refuse invalid_title ≡ accept title text = is in cc)
+      by (Some t) named is =
+          let parts = at-parts t title (option_map kept asked.body) text is in
+          (named ∙ ap (λ (u : PageTitle). Some u) parts.1, parts.2)
+
 pub accepted-possible : (most : MostHeld) (state : State) (journal : ℕ) (asked : EditAsked) (title : PageTitle) (text : Option (List ℕ))
     → verdict_in most state journal asked ≡ accept title text → can_save state.history title text ≡ true
 accepted-possible most state journal asked title text is =
     judged-possible state.history most asked title text
+    (accept-judged (is_journal_full most (journal_use state journal)) (judged state.history most asked) title text is)
+
+-- what a verdict accepts is the title that the edit names, and its text as a page keeps it
+pub accepted-is : (most : MostHeld) (state : State) (journal : ℕ) (asked : EditAsked) (title : PageTitle) (text : Option (List ℕ))
+    → verdict_in most state journal asked ≡ accept title text → (real_title asked.title ≡ Some title) × (option_map kept asked.body ≡ text)
+accepted-is most state journal asked title text is =
+    judged-is state.history most asked title text
     (accept-judged (is_journal_full most (journal_use state journal)) (judged state.history most asked) title text is)
 
 -- ---- the event of an answer
@@ -130,6 +156,9 @@ save-event entries_of most state journal moment asked (accept title text) is eve
     let some : Some (Save title text moment) ≡ Some event = made in
     record { asked = asked; title = title; text = text; moment = moment; accepted = is; is = cc; can = accepted-possible most state journal asked title text is }
 
+refused-event : (most : MostHeld) (state : State) (journal : ℕ) (error : ApiError) → Possible most state journal (failed_at journal error)
+refused-event most state journal error event made = absurd (let none : None ≡ Some event = made in cc)
+
 none-made : (most : MostHeld) (state : State) (journal moment : ℕ) (ask : Ask) → asks_to_save ask ≡ false → Possible most state journal (answer_to_ask most state journal moment ask)
 none-made most state journal moment ask reads event made =
     absurd (let none : None ≡ Some event = sym (ask-none most state journal moment ask reads) ∙ made in cc)
@@ -149,11 +178,10 @@ ask-event most state journal moment tokens = none-made most state journal moment
 ask-event most state journal moment site_info = none-made most state journal moment site_info refl
 
 pub event-possible : (most : MostHeld) (state : State) (journal moment : ℕ) (read : ParsedRequest) → Possible most state journal (answer_to_parsed most state journal moment read)
-unfolding answer_to_request
 event-possible most state journal moment (invalid refusal) = λ event made. absurd (let none : None ≡ Some event = made in cc)
 event-possible most state journal moment (valid request) =
-    either (nat_lt journal request.least) (Possible most state journal) (failed_at journal (futurepoint journal)) (answer_to_ask most state journal moment request.ask)
-    (λ early event made. absurd (let none : None ≡ Some event = made in cc)) (λ reached. ask-event most state journal moment request.ask)
+    request-by most state journal moment (Possible most state journal) (refused-event most state journal (futurepoint journal))
+    (refused-event most state journal invalidtitle) (refused-event most state journal contenttoobig) (ask-event most state journal moment) request
 
 pub possible-step : (most : MostHeld) (state : State) (journal : ℕ) (event : Event) → IsPossibleSave most state journal event → IsSome (step state journal event)
 possible-step most state journal event save =

@@ -7,7 +7,7 @@ ghost use Rattle.std.specs.Option.{option_to_list};
 ghost use Rattle.wk_text_rules.specs.Titles.{PageTitle};
 ghost use Rattle.wk_page_rules.specs.History.{current_text};
 ghost use Rattle.wk_page_rules.specs.Kept.{kept};
-ghost use Rattle.wk_page_rules.specs.Verdict.{EditAsked, MostHeld, real_title, is_same_text};
+ghost use Rattle.wk_page_rules.specs.Verdict.{EditAsked, MostHeld, body_bytes, max_text, real_title, is_same_text};
 ghost use Rattle.wk_wiki_rules.specs.States.{State};
 ghost use Rattle.wk_wiki_rules.specs.Events.{Event, Save, step};
 ghost use Rattle.wk_wiki_rules.specs.Soundness.{IsSound};
@@ -15,12 +15,14 @@ ghost use Rattle.wk_wiki_rules.specs.Verdicts.{verdict_in};
 ghost use Rattle.wk_wiki_laws.specs.WellFormed.{IsWellFormed};
 ghost use Rattle.wk_wiki_rules.specs.Calls.{IsMade};
 ghost use Rattle.wk_wiki_rules.specs.SaveOutcomes.{SaveOutcome};
-ghost use Rattle.wk_request_rules.specs.Requests.{Request, ParsedRequest};
+ghost use Rattle.wk_request_rules.specs.Requests.{Request, ParsedRequest, text_to_transform};
 ghost use Rattle.wk_answer_rules.specs.Values.{Entries, ApiReply};
-ghost use Rattle.wk_answer_rules.specs.ApiErrors.{ApiError, futurepoint, invalidtitle};
-ghost use Rattle.wk_answer_rules.specs.Saves.{failed_at, save_answer};
+ghost use Rattle.wk_answer_rules.specs.ApiErrors.{ApiError, contenttoobig, futurepoint, invalidtitle};
+ghost use Rattle.wk_answer_rules.specs.Saves.{edit_answer, failed_at, save_answer, subst_answer};
+ghost use Rattle.wk_answer_rules.specs.Transforms.{transformed_edit};
 ghost use Rattle.wk_answer_rules.specs.Answers.{asks_to_save, answer_to_parsed, answer_to_request};
 ghost use Rattle.wk_answer_laws.specs.Orders.{first_error, errors_of_an_edit, errors_of_a_change};
+ghost use Rattle.wk_answer_laws.specs.Substituted.{IsSubstitutedSave};
 ghost use Rattle.serde_json.specs.Written.{has_float};
 ghost use Rattle.wk_script_rules.specs.ScriptLines.{ScriptLine};
 ghost use Rattle.wk_script_rules.specs.WikiScripts.{WikiScript, point_of};
@@ -54,7 +56,8 @@ pub fn events_are_possible()
 
 /// A least point that isn't reached comes before all else that is asked. Of a save, an edit or a deletion, a bad title
 /// comes next; then the errors up to that of a base that isn't current, in the order of the table; then that nothing
-/// changes; then the limits and the journal's room; and a save that none of them refuses is an event.
+/// changes; then the limits and the journal's room; and a save that none of them refuses is an event. Of an edit whose text is
+/// transformed, a bad title and a text that is too long as it is given come before all that is said of what the text becomes.
 pub fn refusals_come_in_order()
     ensures point { (most : MostHeld) (state : State) (journal moment : ℕ) (request : Request)
         → nat_lt journal request.least ≡ true
@@ -80,6 +83,33 @@ pub fn refusals_come_in_order()
         → first_error (errors_of_a_change most state journal edit title) ≡ None
         → (save_answer entries_of state journal moment (verdict_in most state journal edit)).event
         ≡ Some (Save title (option_map kept edit.body) moment) }
+    ensures subst_title { (most : MostHeld) (state : State) (journal moment : ℕ) (edit : EditAsked)
+        → real_title edit.title ≡ None
+        → subst_answer most state journal moment edit ≡ failed_at journal invalidtitle }
+    ensures subst_size { (most : MostHeld) (state : State) (journal moment : ℕ) (edit : EditAsked) (title : PageTitle)
+        → real_title edit.title ≡ Some title → nat_lt max_text (body_bytes edit.body) ≡ true
+        → subst_answer most state journal moment edit ≡ failed_at journal contenttoobig }
+    ensures subst_judged { (most : MostHeld) (state : State) (journal moment : ℕ) (edit : EditAsked) (title : PageTitle)
+        → real_title edit.title ≡ Some title → nat_lt max_text (body_bytes edit.body) ≡ false
+        → subst_answer most state journal moment edit ≡ edit_answer most state journal moment (transformed_edit state edit) }
+{}
+
+/// The event of an edit whose text is transformed is the save of the page that it names, of what its text becomes in the state
+/// in which the edit is judged, as a page keeps it (MediaWiki's Help:Substitution).
+pub fn a_substituted_save_has_the_transform()
+    ensures { (most : MostHeld) (state : State) (journal moment : ℕ) (request : Request) (text : List ℕ) (event : Event)
+        → text_to_transform request ≡ Some text
+        → (answer_to_request most state journal moment request).event ≡ Some event
+        → IsSubstitutedSave request.ask state text moment event }
+{}
+
+/// A request that gives no text to be transformed, as a read, a deletion or an edit without the flag, is answered as without
+/// the flag `subst` (own).
+pub fn nothing_else_heeds_subst()
+    ensures { (most : MostHeld) (state : State) (journal moment : ℕ) (request : Request)
+        → text_to_transform request ≡ None
+        → answer_to_request most state journal moment request
+        ≡ answer_to_request most state journal moment (record request { subst = false }) }
 {}
 
 /// No reply holds a float: so it is written as its compact text.

@@ -1,19 +1,14 @@
 -- What each request is answered in a state, and the event that it makes (own, in the style of MediaWiki's API:Main page).
-use Rattle.std.specs.Prelude.{ℕ, Bool, true, false, nat_lt, List, if◌then◌else◌}
+use Rattle.std.specs.Prelude.{ℕ, Bool, nat_lt, List, if◌then◌else◌}
 use Rattle.wk_page_rules.specs.Verdict.{MostHeld}
 use Rattle.wk_wiki_rules.specs.States.{State}
 use Rattle.wk_request_rules.specs.Requests.{Ask, edit, delete, parse, expand_text, backlinks, embedded, members, changes, revisions, tokens, site_info, Request, ParsedRequest, valid, invalid}
+pub use Rattle.wk_request_rules.specs.Requests.{asks_to_save}
 use Rattle.wk_request_rules.specs.Reading.{requested}
 use Rattle.wk_answer_rules.specs.ApiErrors.{futurepoint, request_error}
 use Rattle.wk_answer_rules.specs.Pages.{ReadAnswer, shows, fails, parse_answer, expand_answer, tokens_entries, site_entries}
 use Rattle.wk_answer_rules.specs.Lists.{backlinks_answer, embedded_answer, members_answer, changes_answer, revisions_answer}
-use Rattle.wk_answer_rules.specs.Saves.{Answered, shown_at, failed_at, edit_answer, delete_answer}
-
--- it asks for a save, and takes a moment of the clock
-abbrev pub asks_to_save : Ask → Bool
-asks_to_save (edit asked) = true
-asks_to_save (delete title base) = true
-asks_to_save _ = false
+use Rattle.wk_answer_rules.specs.Saves.{Answered, shown_at, failed_at, edit_answer, subst_answer, delete_answer}
 
 -- a read makes no event
 abbrev pub read_at : ℕ → ReadAnswer → Answered
@@ -34,10 +29,16 @@ answer_to_ask most state journal moment (revisions listing content) = read_at jo
 answer_to_ask most state journal moment tokens = shown_at journal tokens_entries
 answer_to_ask most state journal moment site_info = shown_at journal (site_entries state)
 
+-- The same where an edit's text is to be transformed; nothing else heeds that.
+abbrev pub answer_with_subst : MostHeld → State → ℕ → ℕ → Ask → Answered
+answer_with_subst most state journal moment (edit asked) = subst_answer most state journal moment asked
+answer_with_subst most state journal moment ask = answer_to_ask most state journal moment ask
+
 -- a request is answered where the journal is as long as its least point
 unfoldable pub answer_to_request : MostHeld → State → ℕ → ℕ → Request → Answered
 answer_to_request most state journal moment request =
     if nat_lt journal request.least then failed_at journal (futurepoint journal)
+    else if request.subst then answer_with_subst most state journal moment request.ask
     else answer_to_ask most state journal moment request.ask
 
 -- The first refusal, else the answer: of parameters, then of the point, then of what is asked.

@@ -1,14 +1,15 @@
 -- What is told of a save (MediaWiki's API:Edit and API:Delete; that the revision before is told of both is own).
-use Rattle.std.specs.Prelude.{ℕ, ◌+◌, true, List, [], ◌∷◌, codes, Option, Some, None}
+use Rattle.std.specs.Prelude.{ℕ, ◌+◌, nat_lt, true, List, [], ◌∷◌, codes, Option, Some, None, if◌then◌else◌}
 use Rattle.serde_json.specs.Data.{boolean, string}
 use Rattle.wk_text_rules.specs.Titles.{PageTitle, shown}
-use Rattle.wk_page_rules.specs.Verdict.{EditAsked, MostHeld, Verdict, refuse, no_change, accept}
+use Rattle.wk_page_rules.specs.Verdict.{EditAsked, MostHeld, Verdict, refuse, no_change, accept, body_bytes, max_text, real_title}
 use Rattle.wk_wiki_rules.specs.States.{State}
 use Rattle.wk_wiki_rules.specs.Events.{Event}
 use Rattle.wk_wiki_rules.specs.Verdicts.{verdict_in, event_of}
 use Rattle.wk_wiki_rules.specs.SaveOutcomes.{SaveNumbers, SaveOutcome, created, changed, unchanged, save_outcome, deletion}
 use Rattle.wk_answer_rules.specs.Values.{ApiReply, whole, Entries, object_of, reply_beside}
-use Rattle.wk_answer_rules.specs.ApiErrors.{ApiError, save_error, api_error}
+use Rattle.wk_answer_rules.specs.ApiErrors.{ApiError, contenttoobig, invalidtitle, save_error, api_error}
+use Rattle.wk_answer_rules.specs.Transforms.{transformed_edit}
 
 -- a reply, and the event that the request makes, if it makes one
 pub record Answered : Type 0 where
@@ -75,6 +76,16 @@ save_answer entries_of state journal moment (accept title text) = record {
 abbrev pub edit_answer : MostHeld → State → ℕ → ℕ → EditAsked → Answered
 edit_answer most state journal moment edit =
     save_answer edit_entries state journal moment (verdict_in most state journal edit)
+
+-- An edit whose text is transformed: a title that names no page, and a text that is too long as it is given, come first. Then
+-- the edit of what the text becomes is judged as any other, in the same state.
+abbrev pub subst_answer : MostHeld → State → ℕ → ℕ → EditAsked → Answered
+subst_answer most state journal moment edit = elim (real_title edit.title) [
+  | None ↦ failed_at journal invalidtitle
+  | Some title ↦
+      if nat_lt max_text (body_bytes edit.body) then failed_at journal contenttoobig
+      else edit_answer most state journal moment (transformed_edit state edit)
+]
 
 abbrev pub delete_answer : MostHeld → State → ℕ → ℕ → List ℕ → Option ℕ → Answered
 delete_answer most state journal moment title base =

@@ -9,14 +9,18 @@ use wk_title::{Title, page_named};
 /// The title of the page that is drafted.
 pub const VIEWED: &str = "Page 1";
 
-/// Notes what the page's own text is, or that of a page which is included, unless it is known.
-fn keep(seen: &mut Seen, title: Title, kind: Kind, text: Text) -> Result<(), Memory> {
+/// Notes what the page's own text is, or that of a page which is included, if it is there, unless it is known.
+fn keep(seen: &mut Seen, title: Title, kind: Kind, text: Option<Text>) -> Result<(), Memory> {
     if seen.get(&title, kind)?.is_some() {
         return Ok(());
     }
+    let page = match text {
+        Some(text) => Some((1, text)),
+        None => None,
+    };
     match kind {
         Kind::Exists => Ok(()),
-        Kind::View | Kind::Include => seen.add(title, kind, Answer::Page(Some((1, text)))),
+        Kind::View | Kind::Include => seen.add(title, kind, Answer::Page(page)),
     }
 }
 
@@ -32,9 +36,17 @@ pub fn add(
     if bytes < 1 << 32
         && let Some(title) = page_named(alloc, name)?
     {
-        keep(seen, title, kind, Text::new(alloc, text)?)?;
+        keep(seen, title, kind, Some(Text::new(alloc, text)?))?;
     }
     Ok(bytes)
+}
+
+/// Notes that a page which is included is missing. The bytes of its name.
+pub fn miss(alloc: Global, seen: &mut Seen, name: &str) -> Result<u64, Memory> {
+    if let Some(title) = page_named(alloc, name)? {
+        keep(seen, title, Kind::Include, None)?;
+    }
+    Ok(name.len() as u64)
 }
 
 /// Drafts the page so many times, where at most so many parsed texts are kept from one draft to the next. The bytes of the

@@ -4,21 +4,25 @@
 //! - `turns N T` takes N turns on each of T threads, 64 at most: how many entries the list then has;
 //! - `handoff N` lets two threads hand one word to and fro, N times each: how often it was handed on;
 //! - `view TEXT` notes the text of the page that is drafted, and `include NAME=TEXT` that of a template: its bytes;
-//! - `cold N` drafts the page N times and keeps nothing, `warm N` keeps the parsed texts: the bytes of the outputs.
+//! - `missing NAME` notes that a template is missing: the bytes of its name;
+//! - `cold N` drafts the page N times and keeps nothing, `warm N` keeps the parsed texts: the bytes of the outputs;
+//! - `substitute N TEXT` puts in N times what the text calls by `subst:`: the bytes of what it becomes.
 //!
 //! N is 10,000,000 at most. A line of another form ends the program with status 2, and want of memory with status 1.
 #![tactic(auto)]
 
 mod drafts;
 mod handoff;
+mod substitutions;
 mod turns;
 
-use drafts::{VIEWED, add, drafted};
+use drafts::{VIEWED, add, drafted, miss};
 use std::alloc::Global;
 use std::io;
 use std::process::ExitCode;
 use std::sync::Wait;
 use std::thread::Threads;
+use substitutions::substituted;
 use wk_expand::{Kind, Seen};
 use wk_memory::Memory;
 
@@ -51,8 +55,13 @@ fn worked<R: Threads + Wait + Sync>(
             let (name, text) = behind.split_once('=').unwrap_or((behind, ""));
             add(alloc, seen, name, Kind::Include, text)?
         }
+        "missing" => miss(alloc, seen, behind)?,
         "cold" => drafted(alloc, seen, times, 0)?,
         "warm" => drafted(alloc, seen, times, MANY_TREES)?,
+        "substitute" => {
+            let (times, text) = behind.split_once(' ').unwrap_or((behind, ""));
+            substituted(alloc, seen, number(times, 10_000_000), text)?
+        }
         _ => return Ok(None),
     };
     Ok(Some(count))

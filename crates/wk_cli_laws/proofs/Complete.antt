@@ -36,7 +36,7 @@ use Rattle.wk_words.specs.declared.commands.Command.TheVariants.{Script, Serve, 
 use Rattle.wk_cli.specs.Statuses.{status_of_cause, status_of_command, status_of_end, status_of_work}
 use Rattle.wk_cli.specs.Scripted.{IsOpened, IsOver, IsScripted, VaultStore}
 use Rattle.wk_cli.specs.Scripted as script
-use Rattle.wk_cli.specs.Works.{DoorSeen, IsServedAt, IsServedBy, IsWorkedAt}
+use Rattle.wk_cli.specs.Works.{DoorSeen, IsServedAt, IsWorkedAt}
 use Rattle.wk_cli.specs.Works as work
 use Rattle.wk_cli.specs.Finished.{IsCarriedOut, IsFinished, VaultTold, store_named, work_of}
 use Rattle.wk_cli.specs.Finished as finished
@@ -239,13 +239,13 @@ module _ {K L : Type 0} (told : K → Option StoreTables) (faults : K → ℕ) (
   fine-of : (reads reads_later writes writes_later : ℕ) → (finish.status ≡ 3 → Rose reads reads_later) → (finish.status ≡ 4 → Rose writes writes_later)
       → HasNoFault faults kept opens later reads reads_later writes writes_later door door_later finish → Fine
   fine-of reads reads_later writes writes_later read written none = record {
-    tables = none.tables;
-    told_is = none.told_is;
-    good = none.good;
-    no_open_fault = none.no_open_fault;
-    no_read_fault = λ is. none.no_read_fault (read is);
-    no_write_fault = λ is. none.no_write_fault (written is);
-    no_door_fault = none.no_door_fault;
+    tables = none.outside.tables;
+    told_is = none.outside.told_is;
+    good = none.outside.good;
+    no_open_fault = none.outside.no_open_fault;
+    no_read_fault = λ is. none.outside.no_read_fault (read is);
+    no_write_fault = λ is. none.outside.no_write_fault (written is);
+    no_door_fault = none.outside.no_door_fault;
     no_store_fault = none.no_store_fault;
   }
 

@@ -1,3 +1,5 @@
+pub mod Causes
+mod Checks
 pub mod Complete
 pub mod Full
 pub mod Safe

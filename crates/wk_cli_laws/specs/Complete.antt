@@ -22,9 +22,9 @@ ends_without_fault Generate = 0 ∷ 1 ∷ 8 ∷ 10 ∷ []
 abbrev pub EndsWithoutFault : Command → ℕ → Type 0
 EndsWithoutFault command status = list_any (λ s. status == s) (ends_without_fault command) ≡ true
 
--- Nothing outside the program failed: neither the vault's count of faults rose, nor the input's, the output's or the door's, and that of
--- the store that is handed back, if one is, stands at 0. The tables that the vault tells of the store break no rule.
-pub record HasNoFault {K L : Type 0} (faults : K → ℕ) (kept : VaultStore) (opens later reads reads_later writes writes_later : ℕ) (door door_later : DoorSeen L) (finish : Finish K) : Type 0 where
+-- Nothing outside the program failed but for the store: neither the vault's count of faults rose, nor the input's, the output's or the
+-- door's. The tables that the vault tells of the store break no rule.
+pub record HasNoFaultOutside {L : Type 0} (kept : VaultStore) (opens later reads reads_later writes writes_later : ℕ) (door door_later : DoorSeen L) : Type 0 where
   pub tables : StoreTables
   pub told_is : kept.tables ≡ Some tables
   pub good : first_broken tables ≡ None
@@ -32,4 +32,8 @@ pub record HasNoFault {K L : Type 0} (faults : K → ℕ) (kept : VaultStore) (o
   pub no_read_fault : Rose reads reads_later → ⊥
   pub no_write_fault : Rose writes writes_later → ⊥
   pub no_door_fault : Rose door.faults door_later.faults → ⊥
+
+-- The store didn't fail either: the count of faults of the one that is handed back, if one is, stands at 0.
+pub record HasNoFault {K L : Type 0} (faults : K → ℕ) (kept : VaultStore) (opens later reads reads_later writes writes_later : ℕ) (door door_later : DoorSeen L) (finish : Finish K) : Type 0 where
+  pub outside : HasNoFaultOutside kept opens later reads reads_later writes writes_later door door_later
   pub no_store_fault : IfSome finish.store (λ left. faults left ≡ 0)

@@ -1,6 +1,8 @@
 //! Laws of how the program ends, and of the commands: why generated pages are refused, and how many jobs fans can add.
-//! Each is the contract of a function with an empty body.
+//! Each is the contract of a function with an empty body; and a run that meets what the laws of ends ask.
 #![tactic(auto)]
+
+mod examples;
 
 ghost use Rattle.std.specs.Prelude.{◌≡◌, ℕ, Bool, true, Option, IfSome, ◌*◌, ◌≤◌, List, length, slice_get, Some};
 ghost use Rattle.wk_base.specs.Faults.{Rose};
@@ -10,7 +12,8 @@ ghost use Rattle.wk_words.specs.Verdicts.{Wanted, runs};
 ghost use Rattle.wk_cli.specs.Finished.{IsFinished, VaultTold, store_named};
 ghost use Rattle.wk_cli.specs.Works.{DoorSeen};
 ghost use Rattle.wk_cli.specs.declared.ends.Finish.{Finish};
-ghost use Rattle.wk_cli_laws.specs.Complete.{EndsWithoutFault, HasNoFault};
+ghost use Rattle.wk_cli_laws.specs.Causes.{EndsWithItsCause};
+ghost use Rattle.wk_cli_laws.specs.Complete.{EndsWithoutFault, HasNoFault, HasNoFaultOutside};
 ghost use Rattle.wk_cli_laws.specs.Full.{FindsNoRoom};
 ghost use Rattle.wk_page_rules.specs.Verdict.{EditAsked, MostHeld, Refusal, refuse};
 ghost use Rattle.wk_wiki_rules.specs.States.{State};
@@ -19,6 +22,8 @@ ghost use Rattle.wk_wiki_laws.specs.Numbers.{pages_ahead};
 ghost use Rattle.wk_tool_rules.specs.Generator.{generated};
 ghost use Rattle.wk_tool_rules.specs.Saving.{saves_made};
 ghost use Rattle.wk_cli_laws.specs.Room.{IsForRoom};
+
+pub use examples::a_check_of_an_empty_store;
 
 /// With legal words, over tables that break no rule, and where no count of faults rose, of the vault, the input, the output and the
 /// door, and that of the store that is handed back stands at 0, the status is 0, or 8 in `check` and `gen` alone, or 9 in `script` alone,
@@ -48,6 +53,19 @@ pub fn a_command_without_room_has_its_cause<K, L>()
         → IsFinished told faults is_whole (runs wanted) vault opens later door door_later before after finish
         → finish.status ≡ 10
         → FindsNoRoom wanted (store_named vault wanted.store) }
+{}
+
+/// Over a store that the vault opens whole, with legal words and tables that break no rule, and where no count of faults rose, of the
+/// vault, the input, the output and the door, the work is done, at status 0; or pages differ, at 8, in `check` and `gen`; or memory ran
+/// out, at 1; or 2^40 bytes or more were read, at 9, in `script`; or there was no room for the work, at 10, with its cause.
+pub fn a_run_over_a_whole_store_is_complete<K, L>()
+    ensures { (told : K → Option StoreTables) (faults : K → ℕ) (is_whole : K → Bool) (wanted : Wanted) (vault : VaultTold) (opens later reads reads_later writes writes_later : ℕ) (door door_later : DoorSeen L) (before after : Outside) (finish : Finish K)
+        → IsFinished told faults is_whole (runs wanted) vault opens later door door_later before after finish
+        → (finish.status ≡ 3 → Rose reads reads_later)
+        → (finish.status ≡ 4 → Rose writes writes_later)
+        → vault.whole wanted.store ≡ true
+        → HasNoFaultOutside (store_named vault wanted.store) opens later reads reads_later writes writes_later door door_later
+        → EndsWithItsCause wanted (store_named vault wanted.store) before after finish.status }
 {}
 
 /// The saves of at most 10,000 generated pages end before the last of them only where the wiki or its journal is full: each

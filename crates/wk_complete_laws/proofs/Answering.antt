@@ -37,28 +37,35 @@ shows-page state page title named there =
     ∙ ap (λ b. cond b (shows (parse_entries (page_shown state title))) (fails missingtitle)) there
 
 module _ (most : MostHeld) (state : State) (point moment least : ℕ) (page : List ℕ) where
-  abbrev told : Answered
-  told = answer_to_request most state point moment (record { least = least; ask = parse page })
+  abbrev told : Bool → Answered
+  told flag = answer_to_request most state point moment (record { least = least; ask = parse page; subst = flag })
+
+  -- the answer where the least point is reached, or isn't
+  abbrev read_by : Bool → Answered
+  read_by early = cond early (failed_at point (futurepoint point)) (read_at point (parse_answer state page))
+
+  -- a read doesn't heed whether a text is to be transformed
+  parse-read : (flag : Bool) → told flag ≡ read_by (nat_lt point least)
+  unfolding answer_to_request
+  parse-read true = refl
+  parse-read false = refl
 
   -- whatever is told, it shows the point
-  pub parse-point : told.reply.point ≡ point
-  unfolding answer_to_request
-  parse-point = early (nat_lt point least)
+  pub parse-point : (flag : Bool) → (told flag).reply.point ≡ point
+  parse-point flag = ap (λ (a : Answered). a.reply.point) (parse-read flag) ∙ by (nat_lt point least)
     where
       found : (answer : ReadAnswer) → (read_at point answer).reply.point ≡ point
       found (shows entries) = refl
       found (fails error) = refl
 
-      early : (b : Bool) → (cond b (failed_at point (futurepoint point)) (read_at point (parse_answer state page))).reply.point ≡ point
-      early true = refl
-      early false = found (parse_answer state page)
+      by : (early : Bool) → (read_by early).reply.point ≡ point
+      by true = refl
+      by false = found (parse_answer state page)
 
-  pub parse-shows : (title : PageTitle) → real_title page ≡ Some title → page_exists state.history title ≡ true → least ≤ point
-      → told ≡ shown_at point (parse_entries (page_shown state title))
-  unfolding answer_to_request
-  parse-shows title named there reached =
-      ap (λ (b : Bool). cond b (failed_at point (futurepoint point)) (read_at point (parse_answer state page))) (le-ltb point least reached)
-      ∙ ap (read_at point) (shows-page state page title named there)
+  pub parse-shows : (flag : Bool) (title : PageTitle) → real_title page ≡ Some title → page_exists state.history title ≡ true → least ≤ point
+      → told flag ≡ shown_at point (parse_entries (page_shown state title))
+  parse-shows flag title named there reached =
+      parse-read flag ∙ (ap read_by (le-ltb point least reached) ∙ ap (read_at point) (shows-page state page title named there))
 
 -- ---- requests
 
@@ -113,7 +120,7 @@ module _ (old new : PassSeen) (parsed : ParsedRequest) where
 
 module _ (old new : PassSeen) (least : ℕ) (page : List ℕ) (title : PageTitle) (named : real_title page ≡ Some title) where
   abbrev asked : Request
-  asked = record { least = least; ask = parse page }
+  asked = record { least = least; ask = parse page; subst = false }
 
   no-event : (state : State) (point moment : ℕ) (event : Event) → (answer_to_request new.start.limits state point moment asked).event ≡ Some event → ⊥
   no-event state point moment event is =
@@ -124,9 +131,9 @@ module _ (old new : PassSeen) (least : ℕ) (page : List ℕ) (title : PageTitle
       → ((state : State) → state_seen new reply.point ≡ Some state → page_exists state.history title ≡ true)
       → IsAnswered failing old new (valid asked) moments reply made → ShowsPage old new title reply ⊎ IsStarved old new reply made
   page-shown-or-starved failing moments reply made reached there (read {point = point} {state = state} are at no_event) =
-      let shown : reply.point ≡ point = parse-point new.start.limits state point (first_moment moments) least page in
+      let shown : reply.point ≡ point = parse-point new.start.limits state point (first_moment moments) least page false in
       let exists : page_exists state.history title ≡ true = there state (ap (state_seen new) shown ∙ at.stands) in
-      let told = ap (λ (a : Answered). a.reply) (parse-shows new.start.limits state point (first_moment moments) least page title named exists (subst (λ n. least ≤ n) shown reached)) in
+      let told = ap (λ (a : Answered). a.reply) (parse-shows new.start.limits state point (first_moment moments) least page false title named exists (subst (λ n. least ≤ n) shown reached)) in
       inl (record {
         state = state;
         stands = subst (λ n. IsStateAt old new n state) (sym shown) at;

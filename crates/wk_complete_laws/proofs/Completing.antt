@@ -1,6 +1,6 @@
 -- What is left of a call's answers where no store fails.
-use Rattle.std.proofs.Common.{◌≡◌, ◌≢◌, ℕ, ◌-◌, Bool, true, false, not, cond, List, [], ◌∷◌, Option, Some, None, Result, Ok, Err, refl, sym, ap, ◌∙◌, subst, inl, inr, arith, eq-eqb}
-use Rattle.std.specs.Prelude.{IfErr, IfOk, IfSome, OnErr, OnOk, is_some, option_map}
+use Rattle.std.proofs.Common.{◌≡◌, ◌≢◌, ℕ, ◌-◌, true, false, not, cond, List, [], ◌∷◌, Option, Some, None, Result, Ok, Err, refl, sym, ap, ◌∙◌, subst, inl, inr, arith, eq-eqb}
+use Rattle.std.specs.Prelude.{◌^◌, ◌≤◌, IfErr, IfOk, IfSome, OnErr, OnOk, is_some, option_map}
 use Rattle.std.specs.List.{AllByRecursion}
 use Rattle.std.proofs.lemmas.Bool.{cases_Bool, eqb-true, not-false}
 use Rattle.std.proofs.lemmas.List.Elements.{All-from_recursion, recursion_from_All}
@@ -174,11 +174,10 @@ given-back old new ticket answer is made = subst (λ (a : Finished). HasMade old
 -- ---- calls of a shared wiki
 
 -- a store that began whole doesn't fail
-pub never-fails : {K : Type 0} (is_whole : K → Bool) (faults : K → ℕ) (start : Start) → BeganOverAWholeStore is_whole faults start → MayFail is_whole faults start → ⊥
-never-fails is_whole faults start began may =
-    let found = may began.whole in
-    let free = began.count found.0 found.1 in
-    let full = found.2 in
+pub never-fails : (start : Start) → BeganOverAWholeStore start → MayFail start → ⊥
+never-fails start began may =
+    let free = began.rises in
+    let full = subst (λ (failed : Option ℕ). IfSome failed (λ n. 2 ^ 64 - 1 ≤ n)) began.failed may in
     omega (arith, free, full)
 
 pub made-at : (start : Start) (old new : Story Start Event) (Call Other : Start → State → ℕ → Option Event → Type 0)

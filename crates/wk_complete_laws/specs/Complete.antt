@@ -1,5 +1,5 @@
 -- What calls answer over a whole store, where memory doesn't run out (own).
-use Rattle.std.specs.Prelude.{◌≡◌, ◌≢◌, ℕ, ◌-◌, ◌<◌, ◌^◌, Bool, true, false, List, All, Option, Some, option_map, Result, Ok, Err, is_ok, IfOk, IfErr}
+use Rattle.std.specs.Prelude.{◌≡◌, ◌≢◌, ℕ, ◌-◌, ◌<◌, ◌^◌, Bool, true, false, List, All, Option, Some, option_map, Result, Err, is_ok, IfOk, IfErr}
 use Rattle.wk_page_rules.specs.History.{History}
 use Rattle.wk_page_rules.specs.Verdict.{EditAsked, Verdict, refuse, no_change, accept}
 use Rattle.wk_view_rules.specs.Worlds.{Read, World, mark}
@@ -29,10 +29,11 @@ pub record IsOverAWholeStore {K : Type 0} (faults : K → ℕ) (wiki : WikiSeen 
   pub whole : wiki.start.whole ≡ true
   pub count : CanRise (faults wiki.keeper)
 
--- The same of a shared wiki: it began over a whole store, and no whole store of this kind has a count at its end.
-pub record BeganOverAWholeStore {K : Type 0} (is_whole : K → Bool) (faults : K → ℕ) (start : Start) : Type 0 where
-  pub whole : start.whole ≡ true
-  pub count : (keeper : K) → is_whole keeper ≡ true → CanRise (faults keeper)
+-- The same of a shared wiki: it began over a whole store, whose count of faults wasn't at its end.
+pub record BeganOverAWholeStore (start : Start) : Type 0 where
+  pub count : ℕ
+  pub failed : start.failed ≡ Some count
+  pub rises : CanRise count
 
 -- ---- saves
 

@@ -9,7 +9,12 @@ mod requests;
 mod turns;
 mod wikis;
 
-pub use examples::{a_parse_that_is_answered, an_edit_that_is_answered};
+pub use examples::{
+    a_deletion_that_is_granted, a_deletion_that_is_granted_in_turn, a_parse_that_is_answered,
+    a_refresh_that_is_current, a_refresh_that_is_current_in_turn, a_request_that_reads,
+    a_request_that_saves, an_edit_that_is_answered, an_edit_that_is_granted,
+    an_edit_that_is_granted_in_turn,
+};
 pub use replies::{a_page_that_exists_is_shown, replies_are_by_the_rules};
 pub use requests::{a_page_is_told, requests_are_told_by_the_rules};
 pub use turns::{

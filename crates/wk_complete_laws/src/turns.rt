@@ -21,7 +21,7 @@ pub fn granted_edits_are_saved_in_turn<K: Keeper, R: Wait>(
     requires turn { IsOf shared.now pass.old }
     requires free { pass.old.held ≡ None }
     requires unsealed { shared.now.start.sealed ≡ None }
-    requires whole { BeganOverAWholeStore K.is_whole K.faults shared.now.start }
+    requires whole { BeganOverAWholeStore shared.now.start }
     ensures pass { HasSeen shared.now pass.old pass.new result.1 }
     ensures call { IsMadeAt shared.now.start pass.old pass.new (IsSaveInTurn (edit_asked edit.now) now result.0) }
 {
@@ -40,7 +40,7 @@ pub fn granted_deletions_are_made_in_turn<K: Keeper, R: Wait>(
     requires turn { IsOf shared.now pass.old }
     requires free { pass.old.held ≡ None }
     requires unsealed { shared.now.start.sealed ≡ None }
-    requires whole { BeganOverAWholeStore K.is_whole K.faults shared.now.start }
+    requires whole { BeganOverAWholeStore shared.now.start }
     ensures pass { HasSeen shared.now pass.old pass.new result.1 }
     ensures call { IsMadeAt shared.now.start pass.old pass.new (IsSaveInTurn (deletion title.now base) now result.0) }
 {
@@ -60,7 +60,7 @@ pub fn current_reads_are_finished_in_turn<K: Keeper, R: Wait>(
     requires free { pass.old.held ≡ None }
     requires ticket { HoldsTicket shared.now.start pass.old ticket }
     requires draft { HoldsDraft shared.now.start pass.old ticket draft }
-    requires whole { BeganOverAWholeStore K.is_whole K.faults shared.now.start }
+    requires whole { BeganOverAWholeStore shared.now.start }
     ensures pass { HasSeen shared.now pass.old pass.new result.1 }
     ensures call { IsMadeAt shared.now.start pass.old pass.new (IsFinishInTurn ticket.ticket draft.reads result.0) }
 {

@@ -150,3 +150,7 @@ opened-told (Some kept) tables state given good is = (subst (λ t. first_broken 
 pub both-ok : {A E : Type 0} (P Q R : A → Type 0) (result : Result A E) → ((a : A) → P a → Q a → R a) → IfOk result P → IfOk result Q → IfOk result R
 both-ok P Q R (Ok a) f p q = f a p q
 both-ok P Q R (Err e) f p q = tt
+
+-- a refusal is told by what is refused with it
+pub same-refusal : {A E : Type 0} {refusal other : E} → (let refused : Result A E = Err refusal in refused) ≡ Err other → refusal ≡ other
+same-refusal is = cc

@@ -258,3 +258,14 @@ first-page life is page first = by (find is_queued life.state.jobs.refreshes) re
         let few = within.1 in
         let at = get-there life.state.history.pages (page - 1) (omega (arith, some, few, same)) in
         (at.0, ap (λ b. cond b None (slice_get life.state.history.pages (page - 1))) (not-zero page (omega (arith, some, same))) ∙ at.1)
+
+-- the page of a job that is held is there
+pub held-page : (life : Life) → IsLife life → (ticket page : ℕ) → page_held_by life.state.jobs ticket ≡ Some page → (at : Page) × (page_at life.state.history page ≡ Some at)
+held-page life is ticket page holds =
+    let formed = (run_kept (start_of life) (journal_of life) life.state is.run).formed in
+    let within = page-within life is ticket page holds in
+    let some = within.0 in
+    let few = within.1 in
+    let as_many = formed.stored in
+    let at = get-there life.state.history.pages (page - 1) (omega (arith, some, few, as_many)) in
+    (at.0, ap (λ b. cond b None (slice_get life.state.history.pages (page - 1))) (not-zero page some) ∙ at.1)

@@ -1,6 +1,6 @@
 -- The ticket of a claim.
-use Rattle.std.proofs.Common.{◌≡◌, ◌≢◌, ℕ, zero, suc, ◌+◌, ◌-◌, ◌≤◌, ◌<◌, Bool, true, false, cond, eqb, List, [], ◌∷◌, length, Option, Some, None, refl, sym, ap, ◌∙◌, inl, inr, subst, arith}
-use Rattle.std.specs.Prelude.{option_map, pos, slice_get, is_some, unwrap_or, if◌then◌else◌}
+use Rattle.std.proofs.Common.{◌≡◌, ◌≢◌, ℕ, zero, suc, ◌+◌, ◌-◌, ◌≤◌, ◌<◌, Bool, true, false, cond, eqb, List, [], ◌∷◌, length, Option, Some, None, Result, Ok, Err, refl, sym, ap, ◌∙◌, inl, inr, subst, arith}
+use Rattle.std.specs.Prelude.{IfOk, IfSome, option_map, pos, slice_get, is_some, unwrap_or, if◌then◌else◌}
 use Rattle.std.proofs.lemmas.Bool.{cases_Bool, eqb-true}
 use Rattle.wk_text_rules.specs.Titles.{PageTitle, title_eq}
 use Rattle.wk_page_rules.specs.History.{History, Page, next_revision, saved, with_current}
@@ -17,7 +17,7 @@ use Rattle.wk_life_laws.proofs.RunFacts.{run_kept}
 use Rattle.wk_life_laws.specs.Lives.{Life, IsLife, journal_of, start_of}
 use Rattle.wk_life_laws.specs.Next.{IsNext}
 use Rattle.wk_life_laws.proofs.RunTickets.{run_claimed, run_stays}
-use Rattle.wk_core.specs.Tickets.{IsOut}
+use Rattle.wk_core.specs.Tickets.{IsOut, ticket_out}
 
 pub titled-page : (o : Option ℕ) (f : ℕ → PageTitle) (title : PageTitle) → Some title ≡ option_map f o → (page : ℕ) × ((o ≡ Some page) × (title ≡ f page))
 titled-page None f title is = absurd (let e : Some title ≡ None = is in cc)
@@ -36,6 +36,22 @@ claimed-out life next page number title is made first at titled =
       held = subst (λ (s : State). page_held_by s.jobs number ≡ Some page) same (subst (λ n. page_held_by claimed.jobs n ≡ Some page) (sym at) holds);
       titled = subst (λ (s : State). title_at s.history page ≡ title) same (sym titled);
     }
+
+-- what is given by a number is out
+pub tickets-out : {E : Type 0} (state : State) (number : ℕ) (answer : Result (Option ClaimOutcome) E) → IfOk answer (λ ticket. ticket ≡ ticket_out state number) → IfOk answer (λ ticket. IfSome ticket (λ out. IsOut state out))
+tickets-out state number (Err e) given = tt
+tickets-out state number (Ok None) given = tt
+tickets-out state number (Ok (Some ticket)) given = by (page_held_by state.jobs number) refl given
+  where
+    by : (o : Option ℕ) → page_held_by state.jobs number ≡ o → Some ticket ≡ option_map (λ page. let out : ClaimOutcome = record { ticket = number; title = title_at state.history page } in out) o → IsOut state ticket
+    by None none is = absurd (let e : Some ticket ≡ None = is in cc)
+    by (Some page) held is =
+        let same : ticket ≡ record { ticket = number; title = title_at state.history page } = (let e : Some ticket ≡ Some (record { ticket = number; title = title_at state.history page }) = is in cc) in
+        record {
+          page = page;
+          held = subst (λ (t : ClaimOutcome). page_held_by state.jobs t.ticket ≡ Some page) (sym same) held;
+          titled = sym (ap (λ (t : ClaimOutcome). t.title) same);
+        }
 
 -- ---- over other events
 

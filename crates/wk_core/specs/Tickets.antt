@@ -1,5 +1,5 @@
 -- The tickets that are out (own).
-use Rattle.std.specs.Prelude.{◌≡◌, ℕ, None, Some}
+use Rattle.std.specs.Prelude.{◌≡◌, ℕ, Option, option_map, None, Some}
 use Rattle.wk_page_rules.specs.History.{text_of_revision}
 use Rattle.wk_view_rules.specs.Worlds.{IsHonest}
 use Rattle.wk_wiki_rules.specs.Jobs.{page_held_by}
@@ -12,6 +12,10 @@ pub record IsOut (state : State) (ticket : ClaimOutcome) : Type 0 where
   pub page : ℕ
   pub held : page_held_by state.jobs ticket.ticket ≡ Some page
   pub titled : title_at state.history page ≡ ticket.title
+
+-- the ticket that is out with this number, where a job is claimed by it
+abbrev pub ticket_out : State → ℕ → Option ClaimOutcome
+ticket_out state number = option_map (λ page. record { ticket = number; title = title_at state.history page }) (page_held_by state.jobs number)
 
 -- The draft is of the ticket's page and of its own text, and each text that was read for it is the text of its revision.
 pub record IsDraftFor (state : State) (ticket : ClaimOutcome) (draft : DraftShown) : Type 0 where

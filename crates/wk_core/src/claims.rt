@@ -10,7 +10,7 @@ ghost use Rattle.wk_life_laws.specs.Lives.{journal_of};
 ghost use Rattle.wk_life_laws.specs.Next.{IsNext};
 ghost use Rattle.wk_core.specs.Seen.{is_claim_refused_now};
 ghost use Rattle.wk_core.specs.Steps.{HasMade};
-ghost use Rattle.wk_core.specs.Tickets.{IsOut};
+ghost use Rattle.wk_core.specs.Tickets.{IsOut, ticket_out};
 
 use crate::life::Life;
 use crate::outcomes::ClaimRefusal;
@@ -48,6 +48,19 @@ impl Life {
         self.entries.push_reserved(Entry::Claim);
         self.spare -= 2;
         ticket
+    }
+
+    /// The ticket that is out with this number; `None` exactly where no refresh job is claimed by it.
+    fn ticket(&self, number: u64) -> Result<Option<Ticket>, Memory>
+        ensures { IfOk result (λ ticket. ticket ≡ ticket_out self.now.life.state number) }
+    {
+        let Some(page) = self.live.jobs().page_held(number) else {
+            return Ok(None);
+        };
+        let Some((title, _)) = self.live.revs().page_at(page) else {
+            unreachable!()
+        };
+        Ok(Some(Ticket::new(number, title.share()?)))
     }
 
     /// Gives the job of this ticket, which is out, back: it is queued again, behind all others. Takes no memory.
@@ -91,6 +104,15 @@ impl<K: Keeper> Wiki<K> {
         Ok(Some(Ticket::new(number, title)))
     }
 
+    /// The ticket that is out with this number, for whoever let its value go; `None` exactly where no refresh job is claimed
+    /// by this number. It is no event.
+    pub fn ticket(&self, number: u64) -> Result<Option<Ticket>, Memory>
+        ensures given { IfOk result (λ ticket. ticket ≡ ticket_out self.now.state number) }
+        ensures out { IfOk result (λ ticket. IfSome ticket (λ out. IsOut self.now.state out)) }
+    {
+        self.life.ticket(number)
+    }
+
     /// Gives back a ticket that is out: its job is queued again, behind all others. It is always Ok, and takes no memory.
     pub fn give_back(&mut self, ticket: Ticket)
         requires out { IsOut self.old.state ticket }
@@ -98,6 +120,6 @@ impl<K: Keeper> Wiki<K> {
         ensures keeper { self.new.keeper ≡ self.old.keeper }
     {
         self.life.facts();
-        self.life.give_back(ticket.spend());
+        self.life.give_back(ticket.let_go());
     }
 }

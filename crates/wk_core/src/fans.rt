@@ -113,7 +113,7 @@ fn serve_first<K: Keeper>(keeper: &mut K, life: &mut Life) -> Result<Fanned, Fan
     ensures not_full { result ≢ Err FanRefusal.JournalFull }
     ensures keeper { KeeperGoesOn K.told K.faults K.is_whole keeper.old keeper.new }
     ensures fault { result ≡ Err FanRefusal.StoreFault → Rose (K.faults keeper.old) (K.faults keeper.new) }
-    ensures no_fault { OnOk result (K.faults keeper.new ≡ K.faults keeper.old) }
+    ensures no_fault { result ≢ Err FanRefusal.StoreFault → K.faults keeper.new ≡ K.faults keeper.old }
 {
     life.facts();
     let Ok(prepared) = life.prepare_fan() else {
@@ -138,8 +138,8 @@ impl<K: Keeper> Wiki<K> {
     ///
     /// `None` exactly where no fan job stands. `JournalFull` exactly where one does, and the journal's length and the
     /// tickets that are out are at the limit, or the numbers of jobs have come to their end. `Memory` may come, and
-    /// `StoreFault` only where a fan job stands for which the journal has room, and the keeper's count of faults rose. Where
-    /// nothing was served the wiki is as before.
+    /// `StoreFault` only where a fan job stands for which the journal has room, and the keeper's count of faults rose; at each
+    /// other answer that count is as it was. Where nothing was served the wiki is as before.
     pub fn fan(&mut self) -> Result<Option<Fanned>, FanRefusal>
         ensures fanned { IfOk result (λ fanned. option_map fanned_outcome fanned ≡ next_fan_outcome fan_pages self.old.state) }
         ensures event { IfOk result (λ fanned. IfSome fanned (λ _. HasMade self.old self.new Fan)) }
@@ -150,7 +150,7 @@ impl<K: Keeper> Wiki<K> {
         ensures keeper { GoesOn K.told K.faults self.old self.new }
         ensures failed { result ≡ Err FanRefusal.StoreFault → IsSome (first_fan self.old.state.jobs) × (is_fan_refused_now self.old ≡ false) }
         ensures fault { result ≡ Err FanRefusal.StoreFault → Rose (K.faults self.old.keeper) (K.faults self.new.keeper) }
-        ensures no_fault { OnOk result (K.faults self.new.keeper ≡ K.faults self.old.keeper) }
+        ensures no_fault { result ≢ Err FanRefusal.StoreFault → K.faults self.new.keeper ≡ K.faults self.old.keeper }
     {
         if self.life.live().jobs().first_fan().is_none() {
             return Ok(None);

@@ -1,5 +1,5 @@
 //! Opening a wiki over a store.
-ghost use Rattle.std.specs.Prelude.{◌≡◌, ◌≤◌, None, Some, false, true, is_some, IfOk, IfErr, IfSome, OnErr, OnOk};
+ghost use Rattle.std.specs.Prelude.{◌≡◌, ◌≢◌, ◌≤◌, None, Some, false, true, is_some, IfOk, IfErr, IfSome, OnErr, OnOk};
 ghost use Rattle.wk_base.specs.Faults.{Rose};
 ghost use Rattle.wk_table_rules.specs.GoodStore.{IsGood, first_broken};
 ghost use Rattle.wk_wiki_rules.specs.Lives.{opened, reopened};
@@ -50,7 +50,7 @@ fn migrate<K: Keeper>(alloc: Global, keeper: &mut K, tables: &Tables) -> Result<
     ensures told { OnOk result (IsTold K.told (opened tables.now.tables) keeper.new) }
     ensures refused { OnErr result (K.told keeper.new ≡ K.told keeper.old) }
     ensures keeper { KeeperGoesOn K.told K.faults K.is_whole keeper.old keeper.new }
-    ensures no_fault { OnOk result (K.faults keeper.new ≡ K.faults keeper.old) }
+    ensures no_fault { result ≢ Err KeeperRefusal.Failed → K.faults keeper.new ≡ K.faults keeper.old }
     ensures fault { result ≡ Err KeeperRefusal.Failed → Rose (K.faults keeper.old) (K.faults keeper.new) }
 {
     if tables.version() == 1 {
@@ -77,7 +77,7 @@ fn open_tables<K: Keeper>(
     ensures bad { IfErr result (λ cause. IfSome (bad_store_of cause) (λ bad. first_broken tables.now.tables ≡ Some bad)) }
     ensures refused { OnErr result (K.told keeper.new ≡ K.told keeper.old) }
     ensures keeper { KeeperGoesOn K.told K.faults K.is_whole keeper.old keeper.new }
-    ensures no_fault { OnOk result (K.faults keeper.new ≡ K.faults keeper.old) }
+    ensures no_fault { result ≢ Err LoadCause.StoreFault → K.faults keeper.new ≡ K.faults keeper.old }
     ensures fault { result ≡ Err LoadCause.StoreFault → Rose (K.faults keeper.old) (K.faults keeper.new) }
 {
     match broken(alloc, tables)? {
@@ -101,7 +101,7 @@ fn open_life<K: Keeper>(alloc: Global, keeper: &mut K, limits: Limits) -> Result
     ensures bad { IfErr result (λ cause. IfSome (bad_store_of cause) (λ bad. IfSome (K.told keeper.old) (λ tables. first_broken tables ≡ Some bad))) }
     ensures refused { OnErr result (K.told keeper.new ≡ K.told keeper.old) }
     ensures keeper { KeeperGoesOn K.told K.faults K.is_whole keeper.old keeper.new }
-    ensures no_fault { OnOk result (K.faults keeper.new ≡ K.faults keeper.old) }
+    ensures no_fault { result ≢ Err LoadCause.StoreFault → K.faults keeper.new ≡ K.faults keeper.old }
     ensures fault { result ≡ Err LoadCause.StoreFault → Rose (K.faults keeper.old) (K.faults keeper.new) }
 {
     match keeper.load() {
@@ -117,8 +117,8 @@ impl<K: Keeper> Wiki<K> {
     ///
     /// At Ok each job is queued, the journal is empty, no ticket is out, and the wiki isn't sealed. After a refusal the
     /// keeper comes back, and its tables are as before. `StoreFault` comes only where its count of faults rose, when its
-    /// tables were read or changed; `BadStore` exactly where the tables break a rule of a good store: the first that is
-    /// broken, and its least row; `Memory` may come.
+    /// tables were read or changed; at each other answer that count is as it was. `BadStore` comes exactly where the tables
+    /// break a rule of a good store: the first that is broken, and its least row; `Memory` may come.
     pub fn load(alloc: Global, keeper: K, limits: Limits) -> Result<Wiki<K>, LoadRefusal<K>>
         requires within { AreWithinFull (most_held limits) }
         ensures opened { IfOk result (λ wiki. HasOpened wiki (most_held limits)) }
@@ -129,6 +129,7 @@ impl<K: Keeper> Wiki<K> {
         ensures whole { IfOk result (λ wiki. K.is_whole wiki.keeper ≡ K.is_whole keeper) }
         ensures refused_whole { IfErr result (λ refusal. K.is_whole refusal.keeper ≡ K.is_whole keeper) }
         ensures no_fault { IfOk result (λ wiki. K.faults wiki.keeper ≡ K.faults keeper) }
+        ensures refused_no_fault { IfErr result (λ refusal. refusal.cause ≢ LoadCause.StoreFault → K.faults refusal.keeper ≡ K.faults keeper) }
         ensures fault { IfErr result (λ refusal. refusal.cause ≡ LoadCause.StoreFault → Rose (K.faults keeper) (K.faults refusal.keeper)) }
         ensures never_falls { IfErr result (λ refusal. K.faults keeper ≤ K.faults refusal.keeper) }
         ensures whole_count { IfErr result (λ refusal. K.is_whole keeper ≡ true → K.faults refusal.keeper ≡ K.faults keeper) }

@@ -80,7 +80,7 @@ fn write_rows<K: Keeper>(
     ensures applied { OnOk result (IfSome (K.told keeper.old) (λ kept. K.told keeper.new ≡ Some (applied kept change.now))) }
     ensures kept { OnErr result (K.told keeper.new ≡ K.told keeper.old) }
     ensures keeper { KeeperGoesOn K.told K.faults K.is_whole keeper.old keeper.new }
-    ensures no_fault { OnOk result (K.faults keeper.new ≡ K.faults keeper.old) }
+    ensures no_fault { result ≢ Err KeeperRefusal.Failed → K.faults keeper.new ≡ K.faults keeper.old }
     ensures fault { result ≡ Err KeeperRefusal.Failed → Rose (K.faults keeper.old) (K.faults keeper.new) }
 {
     live.admit(page, new.rows())?;
@@ -123,7 +123,7 @@ impl Life {
         ensures told { OnOk result (IsTold K.told self.new.life.state keeper.new) }
         ensures kept { OnErr result (K.told keeper.new ≡ K.told keeper.old) }
         ensures keeper { KeeperGoesOn K.told K.faults K.is_whole keeper.old keeper.new }
-        ensures no_fault { OnOk result (K.faults keeper.new ≡ K.faults keeper.old) }
+        ensures no_fault { result ≢ Err KeeperRefusal.Failed → K.faults keeper.new ≡ K.faults keeper.old }
         ensures fault { result ≡ Err KeeperRefusal.Failed → Rose (K.faults keeper.old) (K.faults keeper.new) }
     {
         let alloc = *self.entries.allocator();
@@ -166,7 +166,7 @@ fn store_rows<K: Keeper>(
     ensures told { OnOk result (IsTold K.told life.new.life.state keeper.new) }
     ensures kept { OnErr result (K.told keeper.new ≡ K.told keeper.old) }
     ensures keeper { KeeperGoesOn K.told K.faults K.is_whole keeper.old keeper.new }
-    ensures no_fault { OnOk result (K.faults keeper.new ≡ K.faults keeper.old) }
+    ensures no_fault { result ≢ Err KeeperRefusal.Failed → K.faults keeper.new ≡ K.faults keeper.old }
     ensures fault { result ≡ Err KeeperRefusal.Failed → Rose (K.faults keeper.old) (K.faults keeper.new) }
 {
     life.facts();
@@ -198,7 +198,7 @@ fn finish_current<K: Keeper>(
     ensures kept { result ≢ Finished.Done → K.told keeper.new ≡ K.told keeper.old }
     ensures keeper { KeeperGoesOn K.told K.faults K.is_whole keeper.old keeper.new }
     ensures fault { result ≡ Finished.StoreFault → Rose (K.faults keeper.old) (K.faults keeper.new) }
-    ensures no_fault { result ≡ Finished.Done → K.faults keeper.new ≡ K.faults keeper.old }
+    ensures no_fault { result ≢ Finished.StoreFault → K.faults keeper.new ≡ K.faults keeper.old }
     ensures not_stale { told_stale result ≡ None }
 {
     life.facts();
@@ -236,7 +236,7 @@ fn finish_by<K: Keeper>(keeper: &mut K, life: &mut Life, ticket: u64, draft: &Dr
     ensures kept { result ≢ Finished.Done → K.told keeper.new ≡ K.told keeper.old }
     ensures keeper { KeeperGoesOn K.told K.faults K.is_whole keeper.old keeper.new }
     ensures fault { result ≡ Finished.StoreFault → Rose (K.faults keeper.old) (K.faults keeper.new) }
-    ensures no_fault { result ≡ Finished.Done → K.faults keeper.new ≡ K.faults keeper.old }
+    ensures no_fault { result ≢ Finished.StoreFault → K.faults keeper.new ≡ K.faults keeper.old }
 {
     life.facts();
     let Some(answer) = stale_answer(life.live(), draft.reads()) else {
@@ -254,7 +254,7 @@ impl<K: Keeper> Wiki<K> {
     /// `Stale` exactly where a read's mark isn't the present one, of text another revision, of existence another answer:
     /// the first such read. Else `StoreFault` only where the keeper's count of faults rose, `Memory`, which may come at any
     /// place, or `Done`. At each answer but `Done` the job is queued again, behind all others, and the tables are as
-    /// before. The claim has made the room for it, so the journal is never full here.
+    /// before; at each but `StoreFault` the count of faults is as it was. The claim has made the room for it, so the journal is never full here.
     ///
     /// It takes a time that grows with the draft's reads and with the page's old and new rows, and not with the wiki.
     pub fn finish(&mut self, ticket: Ticket, draft: Draft) -> Finished
@@ -265,8 +265,8 @@ impl<K: Keeper> Wiki<K> {
         ensures tables { result ≢ Finished.Done → K.told self.new.keeper ≡ K.told self.old.keeper }
         ensures keeper { GoesOn K.told K.faults self.old self.new }
         ensures fault { result ≡ Finished.StoreFault → Rose (K.faults self.old.keeper) (K.faults self.new.keeper) }
-        ensures no_fault { result ≡ Finished.Done → K.faults self.new.keeper ≡ K.faults self.old.keeper }
+        ensures no_fault { result ≢ Finished.StoreFault → K.faults self.new.keeper ≡ K.faults self.old.keeper }
     {
-        finish_by(&mut self.keeper, &mut self.life, ticket.spend(), &draft)
+        finish_by(&mut self.keeper, &mut self.life, ticket.let_go(), &draft)
     }
 }

@@ -89,6 +89,7 @@ impl<K: Keeper> Wiki<K> {
           state = reopened self.old.state;
         }) }
         ensures refused { OnErr result (self.new ≡ self.old) }
+        ensures keeper { self.new.keeper ≡ self.old.keeper }
     {
         let cache = none_kept(self.life.allocator())?;
         self.life.renew()?;

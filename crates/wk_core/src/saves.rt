@@ -1,5 +1,5 @@
 //! Saves.
-ghost use Rattle.std.specs.Prelude.{◌≡◌, ◌≤◌, None, Some, length, IfOk, IfErr, IfSome, IsSome, OnErr, OnOk};
+ghost use Rattle.std.specs.Prelude.{◌≡◌, ◌≢◌, ◌≤◌, None, Some, length, IfOk, IfErr, IfSome, IsSome, OnErr, OnOk};
 ghost use Rattle.std.specs.Option.{option_copied};
 ghost use Rattle.wk_base.specs.Faults.{Rose};
 ghost use Rattle.wk_page_rules.specs.History.{next_revision};
@@ -133,7 +133,7 @@ fn save_accepted<K: Keeper>(
     ensures refusal { IfErr result (λ refusal. refusal_of refusal ≡ None) }
     ensures keeper { GoesOn K.told K.faults (seen K.is_whole K.told K.faults life.old.life keeper.old) (seen K.is_whole K.told K.faults life.new.life keeper.new) }
     ensures fault { result ≡ Err SaveRefusal.StoreFault → Rose (K.faults keeper.old) (K.faults keeper.new) }
-    ensures no_fault { OnOk result (K.faults keeper.new ≡ K.faults keeper.old) }
+    ensures no_fault { result ≢ Err SaveRefusal.StoreFault → K.faults keeper.new ≡ K.faults keeper.old }
 {
     life.facts();
     let Ok(prepared) = life.prepare_save(&title, text.as_ref(), moment) else {
@@ -183,7 +183,7 @@ impl<K: Keeper> Wiki<K> {
     /// where the page is missing. Then comes `NoChange`, which is no refusal: the page has this text already. `WikiFull`:
     /// a limit would be passed. `JournalFull`: the journal's length and the tickets that are out are at the limit, or the
     /// numbers of jobs have come to their end. `Memory` may come at any place of this order, and `StoreFault` only where
-    /// the edit is accepted and the keeper's count of faults rose.
+    /// the edit is accepted and the keeper's count of faults rose. At each other answer that count is as it was.
     ///
     /// What is accepted is the event of a save; after a refusal and after `NoChange` the wiki is as before.
     pub fn save(&mut self, edit: &Edit, now: u64) -> Result<Saved, SaveRefusal>
@@ -197,7 +197,7 @@ impl<K: Keeper> Wiki<K> {
         ensures keeper { GoesOn K.told K.faults self.old self.new }
         ensures fault { result ≡ Err SaveRefusal.StoreFault → Rose (K.faults self.old.keeper) (K.faults self.new.keeper) }
         ensures fault_at_event { result ≡ Err SaveRefusal.StoreFault → IsSome (event_of (verdict_now self.old (edit_asked edit.now)) now) }
-        ensures no_fault { OnOk result (K.faults self.new.keeper ≡ K.faults self.old.keeper) }
+        ensures no_fault { result ≢ Err SaveRefusal.StoreFault → K.faults self.new.keeper ≡ K.faults self.old.keeper }
     {
         let Ok(verdict) = self.life.judge(edit) else {
             return Err(SaveRefusal::Memory);
@@ -227,7 +227,7 @@ impl<K: Keeper> Wiki<K> {
         ensures keeper { GoesOn K.told K.faults self.old self.new }
         ensures fault { result ≡ Err SaveRefusal.StoreFault → Rose (K.faults self.old.keeper) (K.faults self.new.keeper) }
         ensures fault_at_event { result ≡ Err SaveRefusal.StoreFault → IsSome (event_of (verdict_now self.old (deletion title.now base)) now) }
-        ensures no_fault { OnOk result (K.faults self.new.keeper ≡ K.faults self.old.keeper) }
+        ensures no_fault { result ≢ Err SaveRefusal.StoreFault → K.faults self.new.keeper ≡ K.faults self.old.keeper }
     {
         let alloc = self.life.allocator();
         let Ok(title) = String::from_str(alloc, title) else {

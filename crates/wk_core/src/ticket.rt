@@ -4,8 +4,8 @@ ghost use Rattle.std.specs.Prelude.{◌≡◌};
 use std::marker::Model;
 use wk_title::Title;
 
-/// A refresh job that is claimed. It must come in again, by `Wiki::finish` or `Wiki::give_back`: it can't be let go.
-/// Contracts see its number and the title.
+/// A refresh job that is claimed. It must come in again, by `Wiki::finish` or `Wiki::give_back`: its value isn't dropped
+/// unseen. Who lets it go keeps its number, by which `Wiki::ticket` gives it again. Contracts see its number and the title.
 pub struct Ticket {
     number: u64,
     title: Title,
@@ -41,8 +41,9 @@ impl Ticket {
         &self.title
     }
 
-    /// Spends the ticket. Takes no memory.
-    pub(crate) fn spend(self) -> u64
+    /// Lets the value of the ticket go, and gives its number. The job stays claimed, and the ticket is out until it comes
+    /// in. Takes no memory.
+    pub fn let_go(self) -> u64
         ensures { result ≡ self.ticket }
     {
         let Ticket { number, title: _ } = self;

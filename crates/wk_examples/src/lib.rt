@@ -23,6 +23,7 @@ pub mod script;
 pub mod script_runs;
 pub mod selection;
 pub mod states;
+pub mod substs;
 pub mod tables;
 pub mod titles;
 pub mod tools;

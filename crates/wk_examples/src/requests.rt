@@ -12,18 +12,29 @@ pub fn calls()
     ensures unknown_list { requested (codes "action=query&list=allpages") [] true ≡ invalid (bad_value (codes "list")) }
     ensures unknown_prop { requested (codes "action=query&prop=links&meta=tokens") [] true ≡ invalid (bad_value (codes "prop")) }
     ensures unknown_meta { requested (codes "action=query&meta=userinfo") [] true ≡ invalid (bad_value (codes "meta")) }
-    ensures first_of_three { requested (codes "action=query&meta=x&prop=y&list=recentchanges") [] true ≡ valid (record { least = 0; ask = changes (record { title = []; limit = 10; from = None }) }) }
-    ensures tokens { requested (codes "action=query&meta=tokens") [] true ≡ valid (record { least = 0; ask = tokens }) }
-    ensures site_info { requested (codes "action=query&meta=siteinfo&minpoint=7") [] true ≡ valid (record { least = 7; ask = site_info }) }
+    ensures first_of_three { requested (codes "action=query&meta=x&prop=y&list=recentchanges") [] true ≡ valid (record { least = 0; ask = changes (record { title = []; limit = 10; from = None }); subst = false }) }
+    ensures tokens { requested (codes "action=query&meta=tokens") [] true ≡ valid (record { least = 0; ask = tokens; subst = false }) }
+    ensures site_info { requested (codes "action=query&meta=siteinfo&minpoint=7") [] true ≡ valid (record { least = 7; ask = site_info; subst = false }) }
 {}
 
 /// What an edit asks: its first values count, the query before the body; a flag is there or not.
 pub fn edits()
-    ensures plain { requested (codes "action=edit&title=a_b&text=x&token=%2B%5C") [] true ≡ valid (record { least = 0; ask = edit (record { title = codes "a_b"; body = Some (codes "x"); base = None; create_only = false; no_create = false }) }) }
-    ensures all { requested (codes "action=edit&title=A&text=&baserevid=0&createonly&nocreate=0&token=%2B%5C") [] true ≡ valid (record { least = 0; ask = edit (record { title = codes "A"; body = Some ([]); base = Some 0; create_only = true; no_create = true }) }) }
-    ensures in_the_body { requested (codes "action=edit&title=A") (codes "title=B&text=x+y&token=%2B%5C") true ≡ valid (record { least = 0; ask = edit (record { title = codes "A"; body = Some (codes "x y"); base = None; create_only = false; no_create = false }) }) }
-    ensures first_value { requested (codes "action=edit&title=A&title=B&text=%7B&token=%2B%5C") [] true ≡ valid (record { least = 0; ask = edit (record { title = codes "A"; body = Some (codes "{"); base = None; create_only = false; no_create = false }) }) }
-    ensures deletion { requested (codes "action=delete&title=A&baserevid=3&minpoint=2&token=%2B%5C") [] true ≡ valid (record { least = 2; ask = delete (codes "A") (Some 3) }) }
+    ensures plain { requested (codes "action=edit&title=a_b&text=x&token=%2B%5C") [] true ≡ valid (record { least = 0; ask = edit (record { title = codes "a_b"; body = Some (codes "x"); base = None; create_only = false; no_create = false }); subst = false }) }
+    ensures all { requested (codes "action=edit&title=A&text=&baserevid=0&createonly&nocreate=0&token=%2B%5C") [] true ≡ valid (record { least = 0; ask = edit (record { title = codes "A"; body = Some ([]); base = Some 0; create_only = true; no_create = true }); subst = false }) }
+    ensures in_the_body { requested (codes "action=edit&title=A") (codes "title=B&text=x+y&token=%2B%5C") true ≡ valid (record { least = 0; ask = edit (record { title = codes "A"; body = Some (codes "x y"); base = None; create_only = false; no_create = false }); subst = false }) }
+    ensures first_value { requested (codes "action=edit&title=A&title=B&text=%7B&token=%2B%5C") [] true ≡ valid (record { least = 0; ask = edit (record { title = codes "A"; body = Some (codes "{"); base = None; create_only = false; no_create = false }); subst = false }) }
+    ensures deletion { requested (codes "action=delete&title=A&baserevid=3&minpoint=2&token=%2B%5C") [] true ≡ valid (record { least = 2; ask = delete (codes "A") (Some 3); subst = false }) }
+{}
+
+/// The flag `subst` is one of edits alone: it is there or not, whatever its value is.
+pub fn substs()
+    ensures there { requested (codes "action=edit&title=P&text=x&subst&token=%2B%5C") [] true ≡ valid (record { least = 0; ask = edit (record { title = codes "P"; body = Some (codes "x"); base = None; create_only = false; no_create = false }); subst = true }) }
+    ensures empty { requested (codes "action=edit&title=P&text=x&subst=&token=%2B%5C") [] true ≡ valid (record { least = 0; ask = edit (record { title = codes "P"; body = Some (codes "x"); base = None; create_only = false; no_create = false }); subst = true }) }
+    ensures in_the_body { requested (codes "action=edit&title=P&text=x") (codes "token=%2B%5C&subst=0") true ≡ valid (record { least = 0; ask = edit (record { title = codes "P"; body = Some (codes "x"); base = None; create_only = false; no_create = false }); subst = true }) }
+    ensures other_case { requested (codes "action=edit&title=P&text=x&Subst&token=%2B%5C") [] true ≡ valid (record { least = 0; ask = edit (record { title = codes "P"; body = Some (codes "x"); base = None; create_only = false; no_create = false }); subst = false }) }
+    ensures deletion { requested (codes "action=delete&title=P&subst&token=%2B%5C") [] true ≡ valid (record { least = 0; ask = delete (codes "P") None; subst = false }) }
+    ensures parsed { requested (codes "action=parse&page=P&subst") [] true ≡ valid (record { least = 0; ask = parse (codes "P"); subst = false }) }
+    ensures expanded { requested (codes "action=expandtemplates&text=x&subst") [] true ≡ valid (record { least = 0; ask = expand_text (codes "x") (codes "API"); subst = false }) }
 {}
 
 /// Why an edit is refused, in the order of the checks.
@@ -39,22 +50,22 @@ pub fn refused_edits()
 
 /// What is asked of a page or a text.
 pub fn pages()
-    ensures parsed { requested (codes "action=parse&page=A&title=B&baserevid=x") [] false ≡ valid (record { least = 0; ask = parse (codes "A") }) }
+    ensures parsed { requested (codes "action=parse&page=A&title=B&baserevid=x") [] false ≡ valid (record { least = 0; ask = parse (codes "A"); subst = false }) }
     ensures no_page { requested (codes "action=parse&title=A") [] true ≡ invalid (no_title (codes "page")) }
-    ensures empty_title { requested (codes "action=parse&page=") [] true ≡ valid (record { least = 0; ask = parse [] }) }
-    ensures expanded { requested (codes "action=expandtemplates&text=x") [] true ≡ valid (record { least = 0; ask = expand_text (codes "x") (codes "API") }) }
-    ensures expanded_in_a_page { requested (codes "action=expandtemplates&text=&title=A") [] true ≡ valid (record { least = 0; ask = expand_text [] (codes "A") }) }
+    ensures empty_title { requested (codes "action=parse&page=") [] true ≡ valid (record { least = 0; ask = parse []; subst = false }) }
+    ensures expanded { requested (codes "action=expandtemplates&text=x") [] true ≡ valid (record { least = 0; ask = expand_text (codes "x") (codes "API"); subst = false }) }
+    ensures expanded_in_a_page { requested (codes "action=expandtemplates&text=&title=A") [] true ≡ valid (record { least = 0; ask = expand_text [] (codes "A"); subst = false }) }
     ensures nothing_to_expand { requested (codes "action=expandtemplates&title=A") [] true ≡ invalid no_text }
 {}
 
 /// Limits and places of listings.
 pub fn listings()
-    ensures backlinks { requested (codes "action=query&list=backlinks&bltitle=A") [] true ≡ valid (record { least = 0; ask = backlinks (record { title = codes "A"; limit = 10; from = None }) }) }
-    ensures greatest { requested (codes "action=query&list=embeddedin&eititle=A&eilimit=max&eicontinue=5") [] true ≡ valid (record { least = 0; ask = embedded (record { title = codes "A"; limit = 500; from = Some 5 }) }) }
-    ensures above_the_greatest { requested (codes "action=query&list=categorymembers&cmtitle=Category:A&cmlimit=501&cmcontinue=0") [] true ≡ valid (record { least = 0; ask = members (record { title = codes "Category:A"; limit = 500; from = Some 0 }) }) }
-    ensures changes { requested (codes "action=query&list=recentchanges&rclimit=1&bllimit=x") [] true ≡ valid (record { least = 0; ask = changes (record { title = []; limit = 1; from = None }) }) }
-    ensures revisions { requested (codes "action=query&prop=revisions&titles=A&rvprop=ids") [] true ≡ valid (record { least = 0; ask = revisions (record { title = codes "A"; limit = 10; from = None }) false }) }
-    ensures with_content { requested (codes "action=query&prop=revisions&titles=A&rvprop=content&rvlimit=5&rvcontinue=3") [] true ≡ valid (record { least = 0; ask = revisions (record { title = codes "A"; limit = 1; from = Some 3 }) true }) }
+    ensures backlinks { requested (codes "action=query&list=backlinks&bltitle=A") [] true ≡ valid (record { least = 0; ask = backlinks (record { title = codes "A"; limit = 10; from = None }); subst = false }) }
+    ensures greatest { requested (codes "action=query&list=embeddedin&eititle=A&eilimit=max&eicontinue=5") [] true ≡ valid (record { least = 0; ask = embedded (record { title = codes "A"; limit = 500; from = Some 5 }); subst = false }) }
+    ensures above_the_greatest { requested (codes "action=query&list=categorymembers&cmtitle=Category:A&cmlimit=501&cmcontinue=0") [] true ≡ valid (record { least = 0; ask = members (record { title = codes "Category:A"; limit = 500; from = Some 0 }); subst = false }) }
+    ensures changes { requested (codes "action=query&list=recentchanges&rclimit=1&bllimit=x") [] true ≡ valid (record { least = 0; ask = changes (record { title = []; limit = 1; from = None }); subst = false }) }
+    ensures revisions { requested (codes "action=query&prop=revisions&titles=A&rvprop=ids") [] true ≡ valid (record { least = 0; ask = revisions (record { title = codes "A"; limit = 10; from = None }) false; subst = false }) }
+    ensures with_content { requested (codes "action=query&prop=revisions&titles=A&rvprop=content&rvlimit=5&rvcontinue=3") [] true ≡ valid (record { least = 0; ask = revisions (record { title = codes "A"; limit = 1; from = Some 3 }) true; subst = false }) }
     ensures no_title { requested (codes "action=query&list=backlinks&title=A") [] true ≡ invalid (no_title (codes "bltitle")) }
     ensures zero { requested (codes "action=query&list=recentchanges&rccontinue=x&rclimit=0") [] true ≡ invalid (bad_integer (codes "rclimit")) }
     ensures other_spelling { requested (codes "action=query&list=recentchanges&rclimit=Max") [] true ≡ invalid (bad_integer (codes "rclimit")) }

@@ -1,5 +1,5 @@
 // A keeper whose calls fail where it was told so.
-ghost use Rattle.std.specs.Prelude.{◌≡◌, ◌+◌, ◌≤◌, ◌==◌, ◌&&◌, ◌⊎◌, true, length, IfOk, IfSome, OnErr, OnOk, Some, is_some};
+ghost use Rattle.std.specs.Prelude.{◌≡◌, ◌≢◌, ◌+◌, ◌≤◌, ◌==◌, ◌&&◌, ◌⊎◌, true, length, IfOk, IfSome, OnErr, OnOk, Some, is_some};
 ghost use Rattle.wk_base.specs.Calls.{IsNextToFail, after_failure, after_success, none_made};
 ghost use Rattle.wk_base.specs.Faults.{Rose};
 ghost use Rattle.wk_table_rules.specs.Changes.{applied, fits};
@@ -63,7 +63,7 @@ impl<K: Keeper> Keeper for FailKeeper<K> {
         ensures stays_whole { (K.is_whole (inner_of self.new) && length (calls_of self.new).to_fail == 0) ≡ (K.is_whole (inner_of self.old) && length (calls_of self.old).to_fail == 0) }
         ensures never_falls { K.faults (inner_of self.old) + (calls_of self.old).faults ≤ K.faults (inner_of self.new) + (calls_of self.new).faults }
         ensures whole { (K.is_whole (inner_of self.old) && length (calls_of self.old).to_fail == 0) ≡ true → K.faults (inner_of self.new) + (calls_of self.new).faults ≡ K.faults (inner_of self.old) + (calls_of self.old).faults }
-        ensures no_fault { OnOk result (K.faults (inner_of self.new) + (calls_of self.new).faults ≡ K.faults (inner_of self.old) + (calls_of self.old).faults) }
+        ensures no_fault { result ≢ Err KeeperRefusal.Failed → K.faults (inner_of self.new) + (calls_of self.new).faults ≡ K.faults (inner_of self.old) + (calls_of self.old).faults }
         ensures cause { result ≡ Err KeeperRefusal.Failed → Rose (K.faults (inner_of self.old) + (calls_of self.old).faults) (K.faults (inner_of self.new) + (calls_of self.new).faults) }
         ensures one_call { OnOk result (CountsOne (Some (calls_of self.old).made) (Some (calls_of self.new).made)) }
         ensures failed_call { result ≡ Err KeeperRefusal.Failed → CountsOne (Some (calls_of self.old).made) (Some (calls_of self.new).made) }
@@ -99,7 +99,7 @@ impl<K: Keeper> Keeper for FailKeeper<K> {
         ensures stays_whole { (K.is_whole (inner_of self.new) && length (calls_of self.new).to_fail == 0) ≡ (K.is_whole (inner_of self.old) && length (calls_of self.old).to_fail == 0) }
         ensures never_falls { K.faults (inner_of self.old) + (calls_of self.old).faults ≤ K.faults (inner_of self.new) + (calls_of self.new).faults }
         ensures whole { (K.is_whole (inner_of self.old) && length (calls_of self.old).to_fail == 0) ≡ true → K.faults (inner_of self.new) + (calls_of self.new).faults ≡ K.faults (inner_of self.old) + (calls_of self.old).faults }
-        ensures no_fault { OnOk result (K.faults (inner_of self.new) + (calls_of self.new).faults ≡ K.faults (inner_of self.old) + (calls_of self.old).faults) }
+        ensures no_fault { result ≢ Err KeeperRefusal.Failed → K.faults (inner_of self.new) + (calls_of self.new).faults ≡ K.faults (inner_of self.old) + (calls_of self.old).faults }
         ensures cause { result ≡ Err KeeperRefusal.Failed → Rose (K.faults (inner_of self.old) + (calls_of self.old).faults) (K.faults (inner_of self.new) + (calls_of self.new).faults) }
         ensures one_call { OnOk result (CountsOne (Some (calls_of self.old).made) (Some (calls_of self.new).made)) }
         ensures failed_call { result ≡ Err KeeperRefusal.Failed → CountsOne (Some (calls_of self.old).made) (Some (calls_of self.new).made) }

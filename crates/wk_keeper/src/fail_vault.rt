@@ -1,5 +1,5 @@
 // A vault whose calls fail where it was told so.
-ghost use Rattle.std.specs.Prelude.{◌≡◌, ◌+◌, ◌≤◌, ◌==◌, ◌&&◌, ◌⊎◌, true, length, IfOk, IfSome, OnOk, Some};
+ghost use Rattle.std.specs.Prelude.{◌≡◌, ◌≢◌, ◌+◌, ◌≤◌, ◌==◌, ◌&&◌, ◌⊎◌, true, length, IfOk, IfSome, OnOk, Some};
 ghost use Rattle.wk_base.specs.Calls.{IsNextToFail, after_failure, after_success, none_made};
 ghost use Rattle.wk_base.specs.Faults.{Rose};
 ghost use Rattle.wk_keeper.specs.CallCounts.{CountsOne};
@@ -63,7 +63,7 @@ impl<V: Vault> Vault for FailVault<V> {
         ensures tells { V.told (vault_of self.new) ≡ V.told (vault_of self.old) }
         ensures tells_whole { whole_with (V.opens_whole (vault_of self.new)) (store_fail_of self.new) ≡ whole_with (V.opens_whole (vault_of self.old)) (store_fail_of self.old) }
         ensures never_falls { V.faults (vault_of self.old) + (open_calls_of self.old).faults ≤ V.faults (vault_of self.new) + (open_calls_of self.new).faults }
-        ensures no_fault { OnOk result (V.faults (vault_of self.new) + (open_calls_of self.new).faults ≡ V.faults (vault_of self.old) + (open_calls_of self.old).faults) }
+        ensures no_fault { result ≢ Err OpenRefusal.Failed → V.faults (vault_of self.new) + (open_calls_of self.new).faults ≡ V.faults (vault_of self.old) + (open_calls_of self.old).faults }
         ensures cause { result ≡ Err OpenRefusal.Failed → Rose (V.faults (vault_of self.old) + (open_calls_of self.old).faults) (V.faults (vault_of self.new) + (open_calls_of self.new).faults) }
         ensures one_call { OnOk result (CountsOne (Some (open_calls_of self.old).made) (Some (open_calls_of self.new).made)) }
         ensures failed_call { result ≡ Err OpenRefusal.Failed → CountsOne (Some (open_calls_of self.old).made) (Some (open_calls_of self.new).made) }

@@ -1,5 +1,5 @@
 // The traits of what keeps tables.
-ghost use Rattle.std.specs.Prelude.{◌≡◌, ℕ, ◌≤◌, Bool, true, List, IfOk, IfSome, OnErr, OnOk, Option, None, Some, is_some};
+ghost use Rattle.std.specs.Prelude.{◌≡◌, ◌≢◌, ℕ, ◌≤◌, Bool, true, List, IfOk, IfSome, OnErr, OnOk, Option, None, Some, is_some};
 ghost use Rattle.wk_base.specs.Faults.{Rose};
 ghost use Rattle.wk_table_rules.specs.Changes.{applied, fits};
 ghost use Rattle.wk_table_rules.specs.Rows.{StoreTables};
@@ -66,15 +66,16 @@ pub trait Keeper: Drop {
 
     /// Gives the tables. They are as before, whatever it answers.
     ///
-    /// `Failed` comes only where the count of faults rose in this call, or stands at its end; `Memory` may come. Where
-    /// the answer is `Ok` the count is as it was: no call that failed is made up for by another.
+    /// `Failed` comes only where the count of faults rose in this call, or stands at its end; `Memory` may come. At
+    /// each answer but `Failed` the count is as it was: no call that failed is made up for by another, or told as want of
+    /// memory.
     fn load(&mut self) -> Result<Tables, KeeperRefusal>
         ensures given { IfOk result (λ tables. IfSome (told self.old) (λ kept. tables.tables ≡ kept)) }
         ensures tables { told self.new ≡ told self.old }
         ensures stays_whole { is_whole self.new ≡ is_whole self.old }
         ensures never_falls { faults self.old ≤ faults self.new }
         ensures whole { is_whole self.old ≡ true → faults self.new ≡ faults self.old }
-        ensures no_fault { OnOk result (faults self.new ≡ faults self.old) }
+        ensures no_fault { result ≢ Err KeeperRefusal.Failed → faults self.new ≡ faults self.old }
         ensures cause { result ≡ Err KeeperRefusal.Failed → Rose (faults self.old) (faults self.new) }
         ensures one_call { OnOk result (CountsOne (calls self.old) (calls self.new)) }
         ensures failed_call { result ≡ Err KeeperRefusal.Failed → CountsOne (calls self.old) (calls self.new) }
@@ -82,8 +83,9 @@ pub trait Keeper: Drop {
 
     /// Makes the change, which fits the tables where they are told. After a refusal they are as before.
     ///
-    /// `Failed` comes only where the count of faults rose in this call, or stands at its end; `Memory` may come. Where
-    /// the answer is `Ok` the count is as it was: no call that failed is made up for by another.
+    /// `Failed` comes only where the count of faults rose in this call, or stands at its end; `Memory` may come. At
+    /// each answer but `Failed` the count is as it was: no call that failed is made up for by another, or told as want of
+    /// memory.
     fn apply(&mut self, change: &Change) -> Result<(), KeeperRefusal>
         requires { IfSome (told self.old) (λ kept. fits kept change.now ≡ true) }
         ensures made { OnOk result (IfSome (told self.old) (λ kept. told self.new ≡ Some (applied kept change.now))) }
@@ -92,7 +94,7 @@ pub trait Keeper: Drop {
         ensures stays_whole { is_whole self.new ≡ is_whole self.old }
         ensures never_falls { faults self.old ≤ faults self.new }
         ensures whole { is_whole self.old ≡ true → faults self.new ≡ faults self.old }
-        ensures no_fault { OnOk result (faults self.new ≡ faults self.old) }
+        ensures no_fault { result ≢ Err KeeperRefusal.Failed → faults self.new ≡ faults self.old }
         ensures cause { result ≡ Err KeeperRefusal.Failed → Rose (faults self.old) (faults self.new) }
         ensures one_call { OnOk result (CountsOne (calls self.old) (calls self.new)) }
         ensures failed_call { result ≡ Err KeeperRefusal.Failed → CountsOne (calls self.old) (calls self.new) }
@@ -118,8 +120,9 @@ pub trait Vault: Drop {
 
     /// Opens the store of this name. Its count of faults is 0. What the vault tells is as before, whatever it answers.
     ///
-    /// `Failed` comes only where the count of faults rose in this call, or stands at its end; `Memory` may come. Where
-    /// the answer is `Ok` the count is as it was: no call that failed is made up for by another.
+    /// `Failed` comes only where the count of faults rose in this call, or stands at its end; `Memory` may come. At
+    /// each answer but `Failed` the count is as it was: no call that failed is made up for by another, or told as want of
+    /// memory.
     fn open(&mut self, name: &str) -> Result<Self::Store, OpenRefusal>
         ensures given { IfOk result (λ store. IfSome (told self.old name.now) (λ kept. Self.Store.told store ≡ Some kept)) }
         ensures whole { IfOk result (λ store. opens_whole self.old name.now ≡ true → Self.Store.is_whole store ≡ true) }
@@ -127,7 +130,7 @@ pub trait Vault: Drop {
         ensures tells { told self.new ≡ told self.old }
         ensures tells_whole { opens_whole self.new ≡ opens_whole self.old }
         ensures never_falls { faults self.old ≤ faults self.new }
-        ensures no_fault { OnOk result (faults self.new ≡ faults self.old) }
+        ensures no_fault { result ≢ Err OpenRefusal.Failed → faults self.new ≡ faults self.old }
         ensures cause { result ≡ Err OpenRefusal.Failed → Rose (faults self.old) (faults self.new) }
         ensures one_call { OnOk result (CountsOne (calls self.old) (calls self.new)) }
         ensures failed_call { result ≡ Err OpenRefusal.Failed → CountsOne (calls self.old) (calls self.new) }

@@ -13,6 +13,8 @@ mod limits;
 #[cfg(test)]
 mod nets;
 #[cfg(test)]
+mod overtaken;
+#[cfg(test)]
 mod sessions;
 #[cfg(test)]
 mod shared;

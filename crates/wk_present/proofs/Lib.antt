@@ -1,1 +1,2 @@
 mod DraftLaws
+mod MadeLaws

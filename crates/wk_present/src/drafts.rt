@@ -25,7 +25,7 @@ pub enum Round {
 }
 
 /// Keeps what the present world answers to a title and a kind, which weren't asked yet.
-fn ask_now(live: &Live, seen: &mut Seen, title: &Title, kind: Kind) -> Result<(), Memory>
+pub fn ask_now(live: &Live, seen: &mut Seen, title: &Title, kind: Kind) -> Result<(), Memory>
     requires { ask (of_seen seen.old) title.now kind ≡ None }
     ensures { OnOk result (seen.new ≡ seen.old ++ read_with title.now kind (answer_in (world_of live.now.state) title.now kind) ∷ []) }
 {

@@ -8,7 +8,6 @@ use crate::values::{
 use crate::wire::bytes_of;
 use serde_json::{Map, Value};
 use std::alloc::Global;
-use wk_form::Params;
 use wk_memory::Memory;
 use wk_request::{Ask, Listing, Request, RequestRefusal};
 use wk_revs::Edit;
@@ -91,9 +90,15 @@ fn ask_value(alloc: Global, ask: &Ask) -> Result<Value, Memory> {
     }
 }
 
-/// What is asked, and the least point.
+/// What is asked, the least point, and whether a text is to be transformed.
 fn asked_value(alloc: Global, asked: &Request) -> Result<Value, Memory> {
-    let mut members = members_of(alloc, &[("least", Plain::Number(asked.least))])?;
+    let mut members = members_of(
+        alloc,
+        &[
+            ("least", Plain::Number(asked.least)),
+            ("subst", Plain::Flag(asked.subst)),
+        ],
+    )?;
     put(alloc, &mut members, "ask", ask_value(alloc, &asked.ask)?)?;
     Ok(Value::Object(members))
 }
@@ -107,21 +112,15 @@ fn refused_value(alloc: Global, number: u8, parameter: &str) -> Result<Value, Me
     object_with(alloc, "refused", why)
 }
 
-/// The parameters of the members `query` and `body`.
-fn params_of(alloc: Global, request: &Value) -> Result<Params, Refusal> {
-    let query = bytes_of(alloc, string_of(request, "query").unwrap_or(""))?;
-    let body = bytes_of(alloc, string_of(request, "body").unwrap_or(""))?;
-    Ok(Params::read(alloc, &query, &body)?)
-}
-
 /// What the parameters of the members `query` and `body` ask, or why they are refused.
 pub fn request_value(alloc: Global, request: &Value) -> Result<Value, Refusal> {
-    let params = params_of(alloc, request)?;
+    let query = bytes_of(alloc, string_of(request, "query").unwrap_or(""))?;
+    let body = bytes_of(alloc, string_of(request, "body").unwrap_or(""))?;
     let posted = request
         .get("posted")
         .and_then(Value::as_bool)
         .unwrap_or(false);
-    match Request::read(alloc, &params, posted) {
+    match Request::of(alloc, &query, &body, posted) {
         Ok(asked) => Ok(asked_value(alloc, &asked)?),
         Err(RequestRefusal::Refused { number, parameter }) => {
             Ok(refused_value(alloc, number, parameter)?)

@@ -38,11 +38,12 @@
 //! - `{"op":"params","query":Q,"body":B,"name":N}` asks for the first value of the parameter N in the query and the
 //!   body, which are given as bytes in the same way. The answer is the value or `null`.
 //! - `{"op":"request","query":Q,"body":B,"posted":P}` asks what the query and the body, which are given as bytes in the
-//!   same way, ask of the API, where P says whether they were posted. The answer is `{"ask":A,"least":N}`, where N is the
-//!   least point, or `{"refused":[NUMBER,PARAMETER]}`. A is `"tokens"`, `"siteinfo"`, or an object with one member: `edit`
-//!   has `base`, `body`, `create_only`, `no_create` and `title`, `delete` has `base` and `title`, `parse` has `page`,
-//!   `expand` has `text` and `title`, `backlinks`, `embedded`, `members`, `changes` and `revisions` have `from`, `limit`
-//!   and `title`, and `revisions` has `content` too. What isn't given is `null`.
+//!   same way, ask of the API, where P says whether they were posted. The answer is `{"ask":A,"least":N,"subst":S}`, where
+//!   N is the least point and S says whether a text is to be transformed before it is judged, or
+//!   `{"refused":[NUMBER,PARAMETER]}`. A is `"tokens"`, `"siteinfo"`, or an object with one member: `edit` has `base`,
+//!   `body`, `create_only`, `no_create` and `title`, `delete` has `base` and `title`, `parse` has `page`, `expand` has
+//!   `text` and `title`, `backlinks`, `embedded`, `members`, `changes` and `revisions` have `from`, `limit` and `title`, and
+//!   `revisions` has `content` too. What isn't given is `null`.
 //! - `{"op":"api","pages":{T:TEXT,..},"refresh":R,"query":Q}` asks what a wiki in memory answers to the query Q, which is
 //!   given as bytes in the same way and counts as posted. The pages were saved in the order of the bytes of their titles as
 //!   they are written, each at as many seconds since 1970 as its place from 1 on; where R is `true` every job was done

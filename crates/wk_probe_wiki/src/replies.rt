@@ -9,10 +9,9 @@ ghost use Rattle.wk_probe_wiki.specs.Refused.{IsRefusal};
 
 use serde_json::Value;
 use std::alloc::Global;
-use wk_answer::{act, refused};
+use wk_answer::{act, declined};
 use wk_core::{Keeper, Wiki};
 use wk_expand::Trees;
-use wk_form::Params;
 use wk_memory::Memory;
 use wk_request::{Request, RequestRefusal};
 
@@ -23,7 +22,7 @@ fn refused_reply(alloc: Global, refusal: &RequestRefusal, point: u64) -> Result<
 {
     match refusal {
         RequestRefusal::Memory => Err(Memory),
-        RequestRefusal::Refused { .. } => refused(alloc, refusal, point),
+        RequestRefusal::Refused { .. } => declined(alloc, refusal, point),
     }
 }
 
@@ -44,8 +43,7 @@ pub fn reply<K: Keeper>(
     ensures start { wiki.new.start ≡ wiki.old.start }
 {
     let alloc = wiki.allocator();
-    let params = Params::read(alloc, query, body)?;
-    match Request::read(alloc, &params, posted) {
+    match Request::of(alloc, query, body, posted) {
         Ok(request) => act(wiki, &request, now, trees),
         Err(refusal) => refused_reply(alloc, &refusal, wiki.point()),
     }

@@ -1,5 +1,5 @@
 -- How a ticket comes in whose page was drafted without the turn.
-use Rattle.std.proofs.Common.{◌≡◌, ℕ, ◌+◌, Bool, List, [], ◌∷◌, ◌++◌, length, take, drop, Option, Some, None, refl, sym, ap, ◌∙◌, subst}
+use Rattle.std.proofs.Common.{◌≡◌, ℕ, ◌+◌, List, [], ◌∷◌, ◌++◌, length, take, drop, Option, Some, None, refl, sym, ap, ◌∙◌, subst}
 use Rattle.std.proofs.Math.Seq.{take-length}
 use Rattle.std.proofs.lemmas.List.{take-append-drop}
 use Rattle.std.proofs.lemmas.List.Elements.{All-from_recursion, All-weaker, recursion_from_All}
@@ -93,7 +93,7 @@ made-as start old new One Two less made = record {
   tickets = made.tickets;
 }
 
-module _ {K : Type 0} (is_whole : K → Bool) (faults : K → ℕ) (shared : Begun Start) (old drafted new : Pass) (read : HasRead shared old drafted) (point : ℕ) (seen : HasSeen shared drafted new point) (ticket : ClaimOutcome) where
+module _ (shared : Begun Start) (old drafted new : Pass) (read : HasRead shared old drafted) (point : ℕ) (seen : HasSeen shared drafted new point) (ticket : ClaimOutcome) where
   seen-both : HasSeen shared old new (length new.seen)
   seen-both = record {
     turn = seen.turn;
@@ -128,14 +128,14 @@ module _ {K : Type 0} (is_whole : K → Bool) (faults : K → ℕ) (shared : Beg
     is-fault title finished.Memory e = absurd cc
 
     pub finished-in : (title : PageTitle) (answer : Finished) → title ≡ ticket.title → IsMadeAt shared.start drafted new (FinishTold ticket.ticket reads answer)
-        → (answer ≡ finished.StoreFault → MayFail is_whole faults shared.start) → IsBroughtIn is_whole faults shared old new ticket (refreshed_by title answer)
+        → (answer ≡ finished.StoreFault → MayFail shared.start) → IsBroughtIn shared old new ticket (refreshed_by title answer)
     finished-in title answer is made fault = record {
       pass = seen-both;
       told = ended title answer is made;
       fault = λ e. fault (is-fault title answer e);
     }
 
-  pub given-in : IsMadeAt shared.start drafted new (BackTold ticket.ticket) → IsBroughtIn is_whole faults shared old new ticket refreshed.Memory
+  pub given-in : IsMadeAt shared.start drafted new (BackTold ticket.ticket) → IsBroughtIn shared old new ticket refreshed.Memory
   given-in made = record {
     pass = seen-both;
     told = comes-in [] (reads-none shared.start drafted.seen (length old.seen)) (λ rs. BackTold ticket.ticket) made;

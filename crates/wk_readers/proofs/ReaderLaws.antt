@@ -19,14 +19,14 @@ use Rattle.wk_shared.specs.Calls.{seen_by}
 use Rattle.wk_cache.specs.Entries.{CacheShown, entry_kept, entry_of, is_of, kept_with, marked, marked_with, to_front, without}
 use Rattle.wk_cache.specs.declared.kept.Kept.{Kept}
 use Rattle.wk_cache.proofs.Lists.{found-among, found-passes, front-among, front-found, marked-among, put-among}
-use Rattle.wk_read_laws.proofs.PageLaws.{kept-current, kept-longer, right-longer}
+use Rattle.wk_read_laws.proofs.PageLaws.{kept-current, kept-longer}
 use Rattle.wk_shared.specs.Looks.{HasLooked, HasRead, IsPresentRead, reading_of}
 use Rattle.wk_shared.proofs.LookLaws.{read-both, read-none}
 use Rattle.wk_shared.specs.Sought.{kept_read}
 use Rattle.wk_readers.specs.Worked.{HasWorked}
 use Rattle.wk_readers.specs.Readers.{AreRight, ReaderSeen}
 use Rattle.wk_readers.specs.declared.reader.Checked.TheVariants.{Current}
-use Rattle.wk_readers.specs.Reads.{IsAnswered, IsCheck, IsChecked, IsDrafted, IsDraftedAnew, IsLate, IsPageRead, IsServed, KeepsCount, KeepsOrAdds, OnlyKeeps, answer_of_kept, fresh_entry}
+use Rattle.wk_readers.specs.Reads.{IsAnswered, IsCheck, IsDraftedAnew, IsLate, IsPageRead, IsServed, KeepsCount, KeepsOrAdds, OnlyKeeps, answer_of_kept, fresh_entry}
 
 abbrev Pass : Type 0
 Pass = Story Start Event

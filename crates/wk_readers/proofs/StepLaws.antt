@@ -1,5 +1,5 @@
 -- One step of a worker.
-use Rattle.std.proofs.Common.{◌≡◌, ℕ, ◌+◌, ◌-◌, ◌≤◌, Bool, false, List, [], ◌∷◌, ◌++◌, length, Option, Some, None, inl, inr, refl, sym, ap, ◌∙◌, subst, arith, append_assoc}
+use Rattle.std.proofs.Common.{◌≡◌, ℕ, ◌+◌, ◌-◌, ◌≤◌, false, List, [], ◌∷◌, ◌++◌, length, Option, Some, None, inl, inr, refl, sym, ap, ◌∙◌, subst, arith, append_assoc}
 use Rattle.std.specs.Prelude.{option_map}
 use Rattle.wk_wiki_rules.specs.Jobs.{first_queued}
 use Rattle.wk_wiki_rules.specs.States.{State, title_at}
@@ -99,43 +99,43 @@ module _ (shared : Begun Start) (old new : Pass) (seen : HasSeen shared old new 
 
 -- ---- the step
 
-module _ {K : Type 0} (is_whole : K → Bool) (faults : K → ℕ) (shared : Begun Start) (old mid : Pass) where
-  pub idle-step : (claimed : ℕ) → HasBegun is_whole faults shared old mid (beginning.Idle claimed) → IsRefreshed is_whole faults shared old mid (refreshed.Idle claimed)
+module _ (shared : Begun Start) (old mid : Pass) where
+  pub idle-step : (claimed : ℕ) → HasBegun shared old mid (beginning.Idle claimed) → IsRefreshed shared old mid (refreshed.Idle claimed)
   idle-step claimed begun = record {
     pass = worked-nothing shared old mid begun.pass begun.call.at begun.call.event begun.call.call.made begun.call.adds;
     told = begun.call;
     fault = λ e. absurd cc;
   }
 
-  pub fanned-step : (fanned : Fanned) → HasBegun is_whole faults shared old mid (beginning.Fanned fanned) → IsRefreshed is_whole faults shared old mid (refreshed.Fanned fanned)
+  pub fanned-step : (fanned : Fanned) → HasBegun shared old mid (beginning.Fanned fanned) → IsRefreshed shared old mid (refreshed.Fanned fanned)
   fanned-step fanned begun = record {
     pass = worked-fan shared old mid begun.pass begun.call.at begun.call.event begun.call.later begun.call.call.made begun.call.adds;
     told = begun.call;
     fault = λ e. absurd cc;
   }
 
-  pub full-step : HasBegun is_whole faults shared old mid beginning.JournalFull → IsRefreshed is_whole faults shared old mid refreshed.JournalFull
+  pub full-step : HasBegun shared old mid beginning.JournalFull → IsRefreshed shared old mid refreshed.JournalFull
   full-step begun = record {
     pass = worked-nothing shared old mid begun.pass begun.call.at begun.call.event begun.call.call.made begun.call.adds;
     told = begun.call;
     fault = λ e. absurd cc;
   }
 
-  pub fault-step : HasBegun is_whole faults shared old mid beginning.StoreFault → IsRefreshed is_whole faults shared old mid refreshed.StoreFault
+  pub fault-step : HasBegun shared old mid beginning.StoreFault → IsRefreshed shared old mid refreshed.StoreFault
   fault-step begun = record {
     pass = worked-nothing shared old mid begun.pass begun.call.at begun.call.event begun.call.call.refused begun.call.adds;
     told = inl begun.call;
     fault = λ e. begun.fault refl;
   }
 
-  pub wanting-step : HasBegun is_whole faults shared old mid beginning.Memory → IsRefreshed is_whole faults shared old mid refreshed.Memory
+  pub wanting-step : HasBegun shared old mid beginning.Memory → IsRefreshed shared old mid refreshed.Memory
   wanting-step begun = record {
     pass = worked-nothing shared old mid begun.pass begun.call.at begun.call.event begun.call.call begun.call.adds;
     told = inl begun.call;
     fault = λ e. absurd cc;
   }
 
-  module _ (ticket : ClaimOutcome) (begun : HasBegun is_whole faults shared old mid (beginning.Claimed ticket)) (new : Pass) where
+  module _ (ticket : ClaimOutcome) (begun : HasBegun shared old mid (beginning.Claimed ticket)) (new : Pass) where
     told-of : (answer : Refreshed) → EndTold shared mid new ticket answer → RefreshTold shared old new answer
     told-of (refreshed.Done title) end = record { claimed = mid; ticket = ticket; claim = begun.call; end = end }
     told-of (refreshed.Back title kind read now) end = record { claimed = mid; ticket = ticket; claim = begun.call; end = end }
@@ -145,7 +145,7 @@ module _ {K : Type 0} (is_whole : K → Bool) (faults : K → ℕ) (shared : Beg
     told-of (refreshed.Fanned fanned) end = absurd end
     told-of refreshed.JournalFull end = absurd end
 
-    pub claimed-step : (answer : Refreshed) → IsBroughtIn is_whole faults shared mid new ticket answer → IsRefreshed is_whole faults shared old new answer
+    pub claimed-step : (answer : Refreshed) → IsBroughtIn shared mid new ticket answer → IsRefreshed shared old new answer
     claimed-step answer end =
         let both : HasSeen shared old new (length new.seen) = record {
           turn = end.pass.turn;

@@ -1,5 +1,5 @@
 -- How a step of a worker begins (own): a fan goes first, then a claim.
-use Rattle.std.specs.Prelude.{◌≡◌, ◌⊎◌, ℕ, Bool, true, length, Option, Some, None, IsSome, IfSome, Ok, Err}
+use Rattle.std.specs.Prelude.{◌≡◌, ◌⊎◌, ℕ, true, length, Option, Some, None, IsSome, IfSome, Ok, Err}
 use Rattle.wk_table_rules.specs.Rows.{StoreTables}
 use Rattle.wk_base.specs.Faults.{Rose}
 use Rattle.wk_wiki_rules.specs.Jobs.{first_fan, first_queued, left}
@@ -75,8 +75,8 @@ abbrev pub HoldsClaim : Start → Story Start Event → Beginning → Type 0
 HoldsClaim start pass (Claimed ticket) = HoldsTicket start pass ticket
 HoldsClaim start pass _ = Unit {0}
 
-pub record HasBegun {K : Type 0} (is_whole : K → Bool) (faults : K → ℕ) (shared : Begun Start) (old new : Story Start Event) (beginning : Beginning) : Type 0 where
+pub record HasBegun (shared : Begun Start) (old new : Story Start Event) (beginning : Beginning) : Type 0 where
   pub pass : HasSeen shared old new (length new.seen)
   pub call : IsMadeAt shared.start old new (BeginningTold beginning)
   pub ticket : HoldsClaim shared.start new beginning
-  pub fault : beginning ≡ StoreFault → MayFail is_whole faults shared.start
+  pub fault : beginning ≡ StoreFault → MayFail shared.start

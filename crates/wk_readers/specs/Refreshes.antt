@@ -1,5 +1,5 @@
 -- What one step of a worker did (own). A point is the length of a journal.
-use Rattle.std.specs.Prelude.{◌≡◌, ◌⊎◌, ℕ, Bool, List, length, Option, Some, Ok, Err}
+use Rattle.std.specs.Prelude.{◌≡◌, ◌⊎◌, ℕ, List, length, Option, Some, Ok, Err}
 use mathlib.Core.List.{IsPrefix}
 use Rattle.wk_text_rules.specs.Titles.{PageTitle}
 use Rattle.wk_view_rules.specs.Worlds.{Read}
@@ -54,10 +54,10 @@ EndTold shared old new ticket (Fanned fanned) = ⊥
 EndTold shared old new ticket JournalFull = ⊥
 
 -- what `bring_in` leaves, for whoever holds the ticket
-pub record IsBroughtIn {K : Type 0} (is_whole : K → Bool) (faults : K → ℕ) (shared : Begun Start) (old new : Story Start Event) (ticket : ClaimOutcome) (answer : Refreshed) : Type 0 where
+pub record IsBroughtIn (shared : Begun Start) (old new : Story Start Event) (ticket : ClaimOutcome) (answer : Refreshed) : Type 0 where
   pub pass : HasSeen shared old new (length new.seen)
   pub told : EndTold shared old new ticket answer
-  pub fault : answer ≡ StoreFault → MayFail is_whole faults shared.start
+  pub fault : answer ≡ StoreFault → MayFail shared.start
 
 -- ---- a step
 
@@ -79,7 +79,7 @@ RefreshTold shared old new StoreFault = IsMadeAt shared.start old new (FanTold (
 RefreshTold shared old new Memory = IsMadeAt shared.start old new NothingTold ⊎ IsClaimed shared old new Memory
 
 -- One step: what it leaves of the pass, what its answer tells, and that the store fails only where the keeper may.
-pub record IsRefreshed {K : Type 0} (is_whole : K → Bool) (faults : K → ℕ) (shared : Begun Start) (old new : Story Start Event) (answer : Refreshed) : Type 0 where
+pub record IsRefreshed (shared : Begun Start) (old new : Story Start Event) (answer : Refreshed) : Type 0 where
   pub pass : HasWorked shared old new
   pub told : RefreshTold shared old new answer
-  pub fault : answer ≡ StoreFault → MayFail is_whole faults shared.start
+  pub fault : answer ≡ StoreFault → MayFail shared.start

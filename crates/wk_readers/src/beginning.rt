@@ -56,7 +56,7 @@ fn begin_on<K: Keeper>(wiki: &mut Wiki<K>) -> Beginning
 pub fn begin<K: Keeper, R: Wait>(shared: &Shared<K>, rt: &R, pass: &mut Pass<Wiki<K>>) -> Beginning
     requires turn { IsOf shared.now pass.old }
     requires free { pass.old.held ≡ None }
-    ensures { HasBegun K.is_whole K.faults shared.now pass.old pass.new result }
+    ensures { HasBegun shared.now pass.old pass.new result }
 {
     let mut held = take(shared, rt, pass);
     let beginning = begin_on(&mut held.value);

@@ -1,7 +1,7 @@
 //! Taking the wiki for a step, and giving it back.
 ghost use Rattle.std.specs.Prelude.{◌≡◌, None, Some};
 ghost use Rattle.wk_turn.specs.Told.{IsOf};
-ghost use Rattle.wk_shared.specs.Desk.{IsGiven, IsTaken, MakesAtMostOne};
+ghost use Rattle.wk_shared.specs.Desk.{IsGiven, IsTaken, MakesAtMostOne, TellsOf};
 
 use std::sync::Wait;
 use wk_core::{Keeper, Wiki};
@@ -15,8 +15,9 @@ pub fn take<K: Keeper, R: Wait>(
 ) -> Held<Wiki<K>>
     requires turn { IsOf shared.now pass.old }
     requires free { pass.old.held ≡ None }
-    ensures taken { IsTaken K.is_whole shared.now pass.old pass.new result.value }
+    ensures taken { IsTaken shared.now pass.old pass.new result.value }
     ensures before { result.before.value ≡ result.value }
+    ensures keeper { TellsOf K.is_whole K.faults result.value.start result.value.keeper }
 {
     let held = shared.enter(rt, pass);
     held.value.facts();

@@ -7,9 +7,10 @@ ghost use Rattle.wk_wiki_rules.specs.Starts.{Start};
 ghost use Rattle.wk_expand.specs.Steps.{given_text};
 ghost use Rattle.wk_turn.specs.Journal.{AreOwn, ClosesOwn, IsOpen, added};
 ghost use Rattle.wk_turn.specs.Told.{IsOf};
+ghost use Rattle.wk_read_laws.specs.Points.{AreReadSince};
 ghost use Rattle.wk_shared.specs.Calls.{seen_by};
 ghost use Rattle.wk_cache.specs.Entries.{entry_of, marked};
-ghost use Rattle.wk_shared.specs.Looks.{HasRead, IsPresentRead, reading_of};
+ghost use Rattle.wk_shared.specs.Looks.{HasRead, IsPresentRead, KeepsTickets, reading_of};
 ghost use Rattle.wk_shared.specs.Sought.{kept_read};
 ghost use Rattle.wk_readers.specs.Readers.{AreRight};
 ghost use Rattle.wk_readers.specs.Reads.{IsCheck, IsDraftedAnew, IsLate, KeepsOrAdds, answer_of_kept, fresh_entry};
@@ -19,11 +20,12 @@ use std::alloc::Global;
 use std::marker::Model;
 use std::sync::Wait;
 use wk_base::Gate;
+use wk_bytes::Text;
 use wk_cache::{Cache, Kept};
 use wk_core::{Keeper, PageRead, ReadRefusal, Wiki};
 use wk_expand::{Root, Trees};
 use wk_memory::Memory;
-use wk_shared::{Held, Pass, Shared};
+use wk_shared::{Held, Pass, Shared, Substituted, substituted_apart};
 use wk_title::Title;
 
 /// How many pages a reader keeps, and of how many texts the trees.
@@ -301,6 +303,28 @@ impl<K: Keeper> Reader<K> {
             root,
             gate,
         )
+    }
+
+    /// Transforms a text before it is saved, without the turn, as `substituted_apart` has it (MediaWiki's Help:Substitution):
+    /// each answer is that of the world at some point from the one on that the pass had seen. The gate is passed between two
+    /// reads. It makes no entry, and what is kept stays. `Memory` may come. It waits.
+    pub fn transform<R: Wait, G: Gate>(
+        &mut self,
+        shared: &Shared<K>,
+        rt: &R,
+        text: &Text,
+        gate: &mut G,
+    ) -> Result<Substituted, Memory>
+        requires turn { IsOf shared.now self.old.pass }
+        requires free { self.old.pass.held ≡ None }
+        ensures pass { HasRead shared.now self.old.pass self.new.pass }
+        ensures tickets { KeepsTickets shared.now.start self.old.pass self.new.pass }
+        ensures saved { IfOk result (λ made. made.saved ≡ text.now) }
+        ensures since { IfOk result (λ made. AreReadSince shared.now.start self.new.pass.seen (length self.old.pass.seen) made.reads) }
+        ensures kept { self.new.entries ≡ self.old.entries }
+    {
+        let alloc = self.alloc;
+        substituted_apart(shared, rt, alloc, &mut self.pass, text, gate)
     }
 
     /// What the page expands to at the point that the pass has seen then; the answer is kept. It waits.

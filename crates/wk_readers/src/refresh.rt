@@ -75,7 +75,7 @@ fn bring_in<K: Keeper, R: Wait, G: Gate>(
     requires turn { IsOf shared.now pass.old }
     requires free { pass.old.held ≡ None }
     requires ticket { HoldsTicket shared.now.start pass.old ticket }
-    ensures { IsBroughtIn K.is_whole K.faults shared.now pass.old pass.new ticket result }
+    ensures { IsBroughtIn shared.now pass.old pass.new ticket result }
 {
     match drafted(shared, rt, alloc, pass, trees, ticket.title(), gate) {
         Ok((title, draft)) => {
@@ -99,7 +99,8 @@ fn bring_in<K: Keeper, R: Wait, G: Gate>(
 /// - `Back` carries the first read that isn't current any more: its mark at a point from the claim on, and another one, which
 ///   it has now. The ticket is given back.
 /// - `JournalFull` as `Wiki::fan` and `Wiki::claim` have it. Nothing is made.
-/// - `StoreFault` only where the keeper of the wiki's start isn't whole. Nothing is made, or a claim and its return.
+/// - `StoreFault` only where the keeper of the wiki's start isn't whole, or its count of faults stands at its end. Nothing is
+///   made, or a claim and its return.
 /// - `Memory` at any time. Nothing is made, or a claim and its return.
 ///
 /// So no ticket that it claimed is out when it returns, and it makes no save. What it made is the pass's own. `trees` keeps
@@ -114,7 +115,7 @@ pub fn refresh_with<K: Keeper, R: Wait, G: Gate>(
 ) -> Refreshed
     requires turn { IsOf shared.now pass.old }
     requires free { pass.old.held ≡ None }
-    ensures { IsRefreshed K.is_whole K.faults shared.now pass.old pass.new result }
+    ensures { IsRefreshed shared.now pass.old pass.new result }
 {
     match begin(shared, rt, pass) {
         Beginning::Idle(claimed) => Refreshed::Idle { claimed },

@@ -20,7 +20,7 @@ pub fn refresh_one<K: Keeper, R: Wait, G: Gate>(
 ) -> Refreshed
     requires turn { IsOf shared.now reader.old.pass }
     requires free { reader.old.pass.held ≡ None }
-    ensures refreshed { IsRefreshed K.is_whole K.faults shared.now reader.old.pass reader.new.pass result }
+    ensures refreshed { IsRefreshed shared.now reader.old.pass reader.new.pass result }
     ensures most { reader.new.most ≡ reader.old.most }
     ensures kept { reader.new.entries ≡ reader.old.entries }
 {

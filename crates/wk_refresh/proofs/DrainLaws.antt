@@ -1,5 +1,5 @@
 -- Workers that drain a shared wiki.
-use Rattle.std.proofs.Common.{◌≡◌, ℕ, zero, suc, ◌+◌, ◌<◌, Bool, List, [], ◌∷◌, ◌++◌, map, length, take, append_assoc, Option, Some, None, ◌⊎◌, inr, ⊎_elim, refl, sym, ap, ◌∙◌, subst, arith}
+use Rattle.std.proofs.Common.{◌≡◌, ℕ, zero, suc, ◌+◌, ◌<◌, List, [], ◌∷◌, ◌++◌, map, length, take, append_assoc, Option, Some, None, ◌⊎◌, inr, ⊎_elim, refl, sym, ap, ◌∙◌, subst, arith}
 use Rattle.std.specs.Prelude.{All, Contains, count_by, find, option_map, slice_index_or, slice_get, Ok, Err, OnOk}
 use Rattle.std.specs.List.{AllZip}
 use Rattle.std.proofs.lemmas.List.{get_or-map, length-map, map_push}
@@ -62,9 +62,9 @@ steps-next shared old now next steps step = record {
 fault-answer : (end : End) → end ≡ Err StoreFault → last_answer end ≡ refreshed.StoreFault
 fault-answer end e = ap last_answer e
 
-pub steps-end : {K : Type 0} (is_whole : K → Bool) (faults : K → ℕ) (shared : Begun Start) (old now next : Pass) (answer : Refreshed) (end : End) → Steps shared old now
-    → IsRefreshed is_whole faults shared now next answer → answer ≡ last_answer end → HasEnded is_whole faults shared old next end
-steps-end is_whole faults shared old now next answer end steps step is = record {
+pub steps-end : (shared : Begun Start) (old now next : Pass) (answer : Refreshed) (end : End) → Steps shared old now
+    → IsRefreshed shared now next answer → answer ≡ last_answer end → HasEnded shared old next end
+steps-end shared old now next answer end steps step is = record {
   pass = worked-next shared old now next steps step.pass;
   before = now;
   later = steps.later;
@@ -123,17 +123,17 @@ refusal-more end xs x first now before is =
 
 -- ---- all workers
 
-module _ {K : Type 0} (is_whole : K → Bool) (faults : K → ℕ) (shared : Begun Start) where
+module _ (shared : Begun Start) where
   abbrev IsEnd : Pass → WorkEnd → Type 0
-  IsEnd old w = HasEnded is_whole faults shared old w.pass w.end
+  IsEnd old w = HasEnded shared old w.pass w.end
 
   module _ {X W : Type 0} (worker : X → W) (pass : W → Pass) (end : X → End) where
     abbrev ended : X → WorkEnd
     ended x = record { pass = pass (worker x); end = end x }
 
     pub drained : (workers : List W) (before after left : List X) (back : List W) (answer : End) → map worker before ≡ workers → length after ≡ length before
-        → ((k : ℕ) (d : X) → k < length before → HasEnded is_whole faults shared (pass (worker (slice_index_or before k d))) (pass (worker (slice_index_or after k d))) (end (slice_index_or after k d)))
-        → left ≡ after → back ≡ map worker left → answer ≡ first_refusal (map end left) → HasDrained is_whole faults shared (map pass workers) (map pass back) answer
+        → ((k : ℕ) (d : X) → k < length before → HasEnded shared (pass (worker (slice_index_or before k d))) (pass (worker (slice_index_or after k d))) (end (slice_index_or after k d)))
+        → left ≡ after → back ≡ map worker left → answer ≡ first_refusal (map end left) → HasDrained shared (map pass workers) (map pass back) answer
     drained workers before after left back answer hired long all same dismissed answered = record {
       ends = map ended after;
       passes = map-both (λ (w : WorkEnd). w.pass) ended after ∙ (sym (map-both pass worker after) ∙ (ap (λ l. map pass (map worker l)) (sym same) ∙ ap (map pass) (sym dismissed)));
@@ -148,7 +148,7 @@ module _ {K : Type 0} (is_whole : K → Bool) (faults : K → ℕ) (shared : Beg
   each-free (o ∷ olds) [] all = absurd all
   each-free (o ∷ olds) (e ∷ ends) all = All-cons (IsFree shared) e.pass (map (λ w. w.pass) ends) (all.0.pass.turn, all.0.pass.free) (each-free olds ends all.1)
 
-  pub free-drained : (olds news : List Pass) (answer : End) → HasDrained is_whole faults shared olds news answer → All (IsFree shared) news
+  pub free-drained : (olds news : List Pass) (answer : End) → HasDrained shared olds news answer → All (IsFree shared) news
   free-drained olds news answer is = subst (All (IsFree shared)) is.passes (each-free olds is.ends is.each)
 
   -- ---- nothing is left
@@ -187,11 +187,11 @@ module _ {K : Type 0} (is_whole : K → Bool) (faults : K → ℕ) (shared : Beg
       by (Ok done) is = empty-seen all.0.before e.pass (e.pass ∷ map (λ w. w.pass) ends) (subst (λ x. RefreshTold shared all.0.before e.pass (last_answer x)) is all.0.last) (0, omega arith, refl)
       by (Err refusal) is = absurd (let wrong : Err refusal ≡ Ok tt = rw is at none in cc)
 
-  left-empty : (olds news : List Pass) (answer : End) → 0 < length olds → HasDrained is_whole faults shared olds news answer → OnOk answer (IsLeftEmpty shared.start news)
+  left-empty : (olds news : List Pass) (answer : End) → 0 < length olds → HasDrained shared olds news answer → OnOk answer (IsLeftEmpty shared.start news)
   left-empty olds news (Ok done) some is = subst (IsLeftEmpty shared.start) is.passes (first-left olds is.ends some is.each (sym is.answered))
   left-empty olds news (Err refusal) some is = tt
 
-  pub left-drained : {W : Type 0} (pass : W → Pass) (workers all : List W) (news : List Pass) (answer : End) → 0 < length workers → all ≡ workers → HasDrained is_whole faults shared (map pass all) news answer
+  pub left-drained : {W : Type 0} (pass : W → Pass) (workers all : List W) (news : List Pass) (answer : End) → 0 < length workers → all ≡ workers → HasDrained shared (map pass all) news answer
       → OnOk answer (IsLeftEmpty shared.start news)
   left-drained pass workers all news answer some same is =
       let long = length-map all pass in

@@ -1,5 +1,5 @@
 -- Workers that drain a shared wiki (own). A point is the length of a journal.
-use Rattle.std.specs.Prelude.{◌≡◌, ◌⊎◌, ℕ, ◌≤◌, Bool, Contains, List, [], ◌∷◌, length, map, Some, None, Result, Ok, Err}
+use Rattle.std.specs.Prelude.{◌≡◌, ◌⊎◌, ℕ, ◌≤◌, Contains, List, [], ◌∷◌, length, map, Some, None, Result, Ok, Err}
 use Rattle.std.specs.List.{AllZip}
 use mathlib.Core.List.{IsPrefix}
 use Rattle.wk_wiki_rules.specs.States.{State}
@@ -37,13 +37,13 @@ pub record WorkEnd : Type 0 where
   pub end : End
 
 -- A worker's steps: what they leave of its pass, and what its last one tells. The store fails only where the keeper may.
-pub record HasEnded {K : Type 0} (is_whole : K → Bool) (faults : K → ℕ) (shared : Begun Start) (old new : Story Start Event) (end : End) : Type 0 where
+pub record HasEnded (shared : Begun Start) (old new : Story Start Event) (end : End) : Type 0 where
   pub pass : HasWorked shared old new
   -- the pass before its last step
   pub before : Story Start Event
   pub later : IsPrefix old.seen before.seen
   pub last : RefreshTold shared before new (last_answer end)
-  pub fault : end ≡ Err StoreFault → MayFail is_whole faults shared.start
+  pub fault : end ≡ Err StoreFault → MayFail shared.start
 
 -- ---- all workers
 
@@ -58,15 +58,15 @@ first_refusal [] = Ok tt
 first_refusal (end ∷ ends) = end_first end (first_refusal ends)
 
 -- Each worker's steps ended, and the answer is the first refusal that one met, in the order of the workers.
-pub record HasDrained {K : Type 0} (is_whole : K → Bool) (faults : K → ℕ) (shared : Begun Start) (old new : List (Story Start Event)) (answer : End) : Type 0 where
+pub record HasDrained (shared : Begun Start) (old new : List (Story Start Event)) (answer : End) : Type 0 where
   pub ends : List WorkEnd
   pub passes : map (λ w. w.pass) ends ≡ new
-  pub each : AllZip (λ pass w. HasEnded is_whole faults shared pass w.pass w.end) old ends
+  pub each : AllZip (λ pass w. HasEnded shared pass w.pass w.end) old ends
   pub answered : answer ≡ first_refusal (map (λ w. w.end) ends)
 
 -- or memory ran out before anything was done
-abbrev pub MayDrain : {K : Type 0} → (K → Bool) → (K → ℕ) → Begun Start → List (Story Start Event) → List (Story Start Event) → End → Type 0
-MayDrain is_whole faults shared old new answer = HasDrained is_whole faults shared old new answer ⊎ ((new ≡ old) × (answer ≡ Err Memory))
+abbrev pub MayDrain : Begun Start → List (Story Start Event) → List (Story Start Event) → End → Type 0
+MayDrain shared old new answer = HasDrained shared old new answer ⊎ ((new ≡ old) × (answer ≡ Err Memory))
 
 -- some pass has seen a point at which no job was queued, claimed or fanning
 pub record IsLeftEmpty (start : Start) (passes : List (Story Start Event)) : Type 0 where

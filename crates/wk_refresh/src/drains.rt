@@ -24,7 +24,7 @@ fn drain_by<K: Keeper + Send, G: Gate + Send, R: Threads + Wait + Sync>(
     requires room { vec_len workers ≤ vec_capacity hands }
     requires none_back { back.old.items ≡ [] }
     requires room_back { vec_len workers ≤ vec_capacity back.old }
-    ensures { HasDrained K.is_whole K.faults shared.now (map (λ w. w.reader.pass) workers.items) (map (λ w. w.reader.pass) back.new.items) result }
+    ensures { HasDrained shared.now (map (λ w. w.reader.pass) workers.items) (map (λ w. w.reader.pass) back.new.items) result }
 {
     hire(workers, &mut hands);
     work_all(shared, rt, hands.as_mut_slice());
@@ -46,7 +46,7 @@ pub fn drain<K: Keeper + Send, G: Gate + Send, R: Threads + Wait + Sync>(
     requires some { 0 < length workers.old.items }
     requires free { All (λ w. IsFree shared.now w.reader.pass) workers.old.items }
     ensures free { All (λ w. IsFree shared.now w.reader.pass) workers.new.items }
-    ensures drained { MayDrain K.is_whole K.faults shared.now (map (λ w. w.reader.pass) workers.old.items) (map (λ w. w.reader.pass) workers.new.items) result }
+    ensures drained { MayDrain shared.now (map (λ w. w.reader.pass) workers.old.items) (map (λ w. w.reader.pass) workers.new.items) result }
     ensures none_left { OnOk result (IsLeftEmpty shared.now.start (map (λ w. w.reader.pass) workers.new.items)) }
 {
     let alloc = *workers.allocator();

@@ -47,7 +47,7 @@ impl<K: Keeper, G: Gate> Hand<K, G> {
     /// all the jobs that are left it looks again now and then, since a job may come back. It waits.
     pub fn work<R: Wait>(&mut self, rt: &R, shared: &Shared<K>)
         requires { IsFree shared.now self.old.worker.reader.pass }
-        ensures { HasEnded K.is_whole K.faults shared.now self.old.worker.reader.pass self.new.worker.reader.pass self.new.end }
+        ensures { HasEnded shared.now self.old.worker.reader.pass self.new.worker.reader.pass self.new.end }
     {
         let rest = Parker::new();
         'steps: for _ in rt.forever() {
@@ -71,7 +71,7 @@ pub fn work_all<K: Keeper + Send, G: Gate + Send, R: Threads + Wait + Sync>(
     hands: &mut [Hand<K, G>],
 )
     requires { All (λ h. IsFree shared.now h.worker.reader.pass) hands.old }
-    ensures { (k : ℕ) (d : _) → k < length hands.old → HasEnded K.is_whole K.faults shared.now (slice_index_or hands.old k d).worker.reader.pass
+    ensures { (k : ℕ) (d : _) → k < length hands.old → HasEnded shared.now (slice_index_or hands.old k d).worker.reader.pass
         (slice_index_or hands.new k d).worker.reader.pass (slice_index_or hands.new k d).end }
 {
     let threads = hands.len().max(1);

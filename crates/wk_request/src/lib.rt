@@ -1,6 +1,7 @@
 //! What the parameters of a request ask, or why they ask nothing.
 #![tactic(auto)]
 
+mod asked;
 mod checks;
 mod edits;
 mod flags;
@@ -13,6 +14,7 @@ mod queries;
 mod refusal;
 mod request;
 
+pub use asked::{Asked, ListAsked, ReadAsked, SaveAsked, SiteAsked};
 pub use listings::Listing;
 pub use refusal::RequestRefusal;
 pub use request::{Ask, Request};

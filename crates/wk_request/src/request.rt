@@ -1,12 +1,14 @@
 //! Requests, as parameters ask them.
-ghost use Rattle.std.specs.Prelude.{◌≡◌, IfOk, IfErr, unwrap_or, codes};
-ghost use Rattle.wk_request_rules.specs.Reading.{ask_given, number_given, request_of};
-ghost use Rattle.wk_request_rules.specs.Requests.{valid};
+ghost use Rattle.std.specs.Prelude.{◌≡◌, IfOk, IfErr, unwrap_or, codes, option_copied};
+ghost use Rattle.wk_request_rules.specs.Reading.{ask_given, number_given, request_of, requested, subst_given};
+ghost use Rattle.wk_request_rules.specs.Requests.{text_to_transform, valid};
+ghost use Rattle.wk_revs.specs.Edit.{edit_asked};
 ghost use Rattle.wk_request.specs.Asked.{ask_of, request_asked};
 ghost use Rattle.wk_request.specs.Refusals.{Refuses};
 
 use crate::checks::checked;
 use crate::edits::{delete_given, edit_given};
+use crate::flags::is_given;
 use crate::listings::Listing;
 use crate::numbers::number_given;
 use crate::pages::{expand_given, parse_given};
@@ -67,6 +69,8 @@ pub struct Request {
     pub least: u64,
     /// What is asked.
     pub ask: Ask,
+    /// Whether the text of an edit is transformed before it is judged (MediaWiki's Help:Substitution); nothing else heeds it.
+    pub subst: bool,
 }
 
 fn ask_given(alloc: Global, params: &Params, kind: Module) -> Result<Ask, Memory>
@@ -84,6 +88,26 @@ fn ask_given(alloc: Global, params: &Params, kind: Module) -> Result<Ask, Memory
         Module::Revisions => revisions_given(alloc, params),
         Module::Tokens => Ok(Ask::Tokens),
         Module::SiteInfo => Ok(Ask::SiteInfo),
+    }
+}
+
+/// Whether an edit's text is to be transformed: a flag of edits alone, whatever its value is (own).
+fn subst_given(params: &Params, kind: Module) -> bool
+    ensures { result ≡ subst_given params.now kind }
+{
+    match kind {
+        Module::Edit => is_given(params, "subst"),
+        _ => false,
+    }
+}
+
+/// The text of an edit, if it has one.
+fn body_of(edit: &Edit) -> Option<&str>
+    ensures { option_copied result ≡ (edit_asked edit.now).body }
+{
+    match &edit.body {
+        Some(body) => Some(body.as_str()),
+        None => None,
     }
 }
 
@@ -113,6 +137,41 @@ impl Request {
         Ok(Request {
             least: least_given(params),
             ask,
+            subst: subst_given(params, kind),
         })
+    }
+
+    /// What a query, which stands without its question mark, and a body ask of the API, posted or not, as `read` tells
+    /// of their parameters.
+    ///
+    /// `Refused` comes exactly where the rules refuse the parameters, with the first refusal in their order. `Memory`
+    /// may come at any query and body.
+    pub fn of(
+        alloc: Global,
+        query: &[u8],
+        body: &[u8],
+        posted: bool,
+    ) -> Result<Request, RequestRefusal>
+        ensures ok { IfOk result (λ request. requested query.now body.now posted ≡ valid (request_asked request)) }
+        ensures err { IfErr result (λ refusal. Refuses (requested query.now body.now posted) refusal) }
+    {
+        match Params::read(alloc, query, body) {
+            Ok(params) => Request::read(alloc, &params, posted),
+            Err(Memory) => Err(RequestRefusal::Memory),
+        }
+    }
+
+    /// The text that is to be transformed before the save (MediaWiki's Help:Substitution): that of an edit that asks for
+    /// it, else none. Takes no memory.
+    pub fn text_to_transform(&self) -> Option<&str>
+        ensures { option_copied result ≡ text_to_transform (request_asked self.now) }
+    {
+        if !self.subst {
+            return None;
+        }
+        match &self.ask {
+            Ask::Edit(edit) => body_of(edit),
+            _ => None,
+        }
     }
 }

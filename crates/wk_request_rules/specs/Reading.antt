@@ -1,6 +1,6 @@
 -- What parameters ask, or why they are refused (MediaWiki's API:Data formats and the page of each module; the checks,
 -- their order and the limits are own). Parameters that nothing here names are ignored.
-use Rattle.std.specs.Prelude.{ℕ, Bool, ◌&&◌, ◌==◌, not, min, List, [], ◌∷◌, bytes_eq, codes, Option, Some, None, is_none, unwrap_or, option_and_then, if◌then◌else◌}
+use Rattle.std.specs.Prelude.{ℕ, Bool, false, ◌&&◌, ◌==◌, not, min, List, [], ◌∷◌, bytes_eq, codes, Option, Some, None, is_none, unwrap_or, option_and_then, if◌then◌else◌}
 use Rattle.std.specs.Option.{option_or}
 use Rattle.wk_text_rules.specs.Decimal.{decimal_number}
 use Rattle.wk_form.specs.Parameters.{Parameters, first_value, parameters}
@@ -120,8 +120,17 @@ ask_given params Revisions = revisions_given (listing_given params Revisions) (a
 ask_given params Tokens = tokens
 ask_given params SiteInfo = site_info
 
+-- a flag of edits alone, whatever its value is
+abbrev pub subst_given : Parameters → Module → Bool
+subst_given params Edit = is_given (codes "subst") params
+subst_given params _ = false
+
 abbrev pub request_given : Parameters → Module → Request
-request_given params m = record { least = unwrap_or (number_given (codes "minpoint") params) 0; ask = ask_given params m }
+request_given params m = record {
+  least = unwrap_or (number_given (codes "minpoint") params) 0;
+  ask = ask_given params m;
+  subst = subst_given params m;
+}
 
 -- ---- requests
 

@@ -1,6 +1,6 @@
 -- What a request asks, and why parameters are refused (MediaWiki's API:Main page and the page of each module; what is
 -- left out of them is own). Titles are as they were written.
-use Rattle.std.specs.Prelude.{ℕ, Bool, List, [], Option}
+use Rattle.std.specs.Prelude.{ℕ, Bool, true, false, List, [], Option, None, if◌then◌else◌}
 use Rattle.wk_page_rules.specs.Verdict.{EditAsked}
 
 -- which entries of a list are asked for
@@ -29,10 +29,27 @@ pub data Ask : Type 0 where
   tokens : Ask
   site_info : Ask
 
+-- it asks for a save, and takes a moment of the clock
+abbrev pub asks_to_save : Ask → Bool
+asks_to_save (edit asked) = true
+asks_to_save (delete title base) = true
+asks_to_save _ = false
+
 pub record Request : Type 0 where
   -- the answer is given at this point of the journal or later
   pub least : ℕ
   pub ask : Ask
+  -- the text of an edit is transformed before it is judged
+  pub subst : Bool
+
+-- the text that an edit gives its page
+abbrev pub edited_text : Ask → Option (List ℕ)
+edited_text (edit asked) = asked.body
+edited_text _ = None
+
+-- the text that is transformed before it is judged, where one is
+abbrev pub text_to_transform : Request → Option (List ℕ)
+text_to_transform request = if request.subst then edited_text request.ask else None
 
 -- Why parameters ask nothing, in the order of checking; with the parameter that it is about.
 pub data RequestRefusal : Type 0 where

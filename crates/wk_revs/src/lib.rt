@@ -14,5 +14,5 @@ pub use edit::{Edit, Limits, full_is_the_full_limits};
 pub use kept_text::kept;
 pub use revisions::Revision;
 pub use revs::Revs;
-pub use verdict::{SaveRefusal, Verdict};
+pub use verdict::{SaveRefusal, Verdict, real_title};
 pub use wk_page_rules::Limit;

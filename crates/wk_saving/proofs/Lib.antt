@@ -1,1 +1,2 @@
 pub mod SaveAnswers
+mod TransformAnswers

@@ -1,8 +1,7 @@
 -- What is told of a save is what the rules tell.
-use Rattle.std.proofs.Common.{◌≡◌, ℕ, ◌+◌, Bool, true, false, cond, eqb, not, List, length, Option, Some, None, Result, Ok, Err, refl, sym, ap, ◌∙◌, subst}
-use Rattle.std.specs.Prelude.{◌&&◌, ◌||◌, is_none, nat_lt, option_map, IfOk, IfSome, IsSome, OnOk}
+use Rattle.std.proofs.Common.{◌≡◌, ℕ, ◌+◌, Bool, true, false, cond, not, List, length, Option, Some, None, Result, Ok, Err, refl, sym, ap, ◌∙◌, subst}
+use Rattle.std.specs.Prelude.{◌&&◌, ◌||◌, is_none, nat_lt, option_map, IfOk}
 use Rattle.serde_json.specs.Data.{Data}
-use Rattle.wk_base.specs.Faults.{Rose}
 use Rattle.wk_table_rules.specs.Rows.{StoreTables}
 use Rattle.wk_text_rules.specs.Titles.{PageTitle}
 use Rattle.wk_page_rules.specs.History.{History, current_revision, current_text, page_exists, page_to_save}
@@ -12,26 +11,14 @@ use Rattle.wk_page_rules.specs.declared.Limit.{Limit}
 use Rattle.wk_wiki_rules.specs.States.{State}
 use Rattle.wk_wiki_rules.specs.Events.{Event}
 use Rattle.wk_wiki_rules.specs.Verdicts.{event_of, journal_use, verdict_in}
-use Rattle.wk_wiki_rules.specs.SaveOutcomes.{SaveOutcome, changed, created, deletion, save_numbers, save_outcome, unchanged}
-use Rattle.wk_revs.specs.Verdict.{refusal_of}
-use Rattle.wk_revs.specs.declared.verdict.SaveRefusal.{SaveRefusal}
-use Rattle.wk_revs.specs.declared.verdict.SaveRefusal.TheVariants.{InvalidTitle, ContentTooBig, ArticleExists, MissingTitle, EditConflict, WikiFull, JournalFull, Memory, StoreFault}
-use Rattle.wk_core.specs.Answers.{told_of_save}
+use Rattle.wk_wiki_rules.specs.SaveOutcomes.{SaveOutcome, deletion, save_outcome, unchanged}
 use Rattle.wk_core.specs.Seen.{WikiSeen}
-use Rattle.wk_core.specs.Steps.{HasMadeAtMost, HasMadeNothing}
-use Rattle.wk_answer_rules.specs.ApiErrors.{api_error, invalidtitle, save_error, storefault}
+use Rattle.wk_core.specs.Steps.{HasMadeAtMost}
+use Rattle.wk_answer_rules.specs.ApiErrors.{api_error, invalidtitle}
 use Rattle.wk_answer_rules.specs.Saves.{Answered, failed_at, outcome_entries, save_answer}
 use Rattle.wk_answer_rules.specs.Values.{Entries, reply_beside}
 use Rattle.wk_answer_laws.proofs.Orders.{bad-title, titled}
-use Rattle.wk_saving.specs.Saved.{IsActed, by_rule, by_fault, is_unchanged}
-
--- what is told of a save with these numbers is what is told of the verdict
-pub told-is : (h : History) (title : PageTitle) → told_of_save title (save_numbers h title) ≡ cond (page_exists h title) (changed title (save_numbers h title)) (created title (save_numbers h title))
-told-is h title = by (eqb (current_revision h title) 0)
-  where
-    by : (b : Bool) → cond b (created title (save_numbers h title)) (changed title (save_numbers h title)) ≡ cond (not b) (changed title (save_numbers h title)) (created title (save_numbers h title))
-    by true = refl
-    by false = refl
+use Rattle.wk_saving.specs.Saved.{IsActed, by_rule, is_unchanged}
 
 -- ---- what holds of a verdict on an edit whose title is known
 
@@ -89,13 +76,6 @@ module _ {K : Type 0} (told : K → Option StoreTables) (faults : K → ℕ) (ol
   abbrev Saves : SaveOutcome → Data → Verdict → Type 0
   Saves outcome value v = Some outcome ≡ save_outcome old.state.history v → HasMadeAtMost told old new (event_of v moment) → Acted v value
 
-  changes : (outcome : SaveOutcome) (title other : PageTitle) (text : Option (List ℕ)) → is_unchanged outcome ≡ true → Some outcome ≡ save_outcome old.state.history (accept title text) → ⊥
-  changes outcome title other text same e = by (page_exists old.state.history title) e
-    where
-      by : (b : Bool) → Some outcome ≡ Some (cond b (changed title (save_numbers old.state.history title)) (created title (save_numbers old.state.history title))) → ⊥
-      by true f = let g : outcome ≡ changed title (save_numbers old.state.history title) = cc in let h : false ≡ true = sym (ap is_unchanged g) ∙ same in cc
-      by false f = let g : outcome ≡ created title (save_numbers old.state.history title) = cc in let h : false ≡ true = sym (ap is_unchanged g) ∙ same in cc
-
   -- an edit that changes something
   pub edit-changed : (most : MostHeld) (edit : EditAsked) (title : PageTitle) (outcome : SaveOutcome) (value : Data) → real_title edit.title ≡ Some title
       → Some outcome ≡ save_outcome old.state.history (verdict_in most old.state (length old.journal) edit)
@@ -111,17 +91,6 @@ module _ {K : Type 0} (told : K → Option StoreTables) (faults : K → ℕ) (ol
       (λ e done. by_rule (ready (option_map kept edit.body)) done count)
       outcome_is made
 
-  -- an edit by a text that the page has already
-  pub edit-unchanged : (most : MostHeld) (edit : EditAsked) (title named_title : PageTitle) (page : ℕ) (value : Data) → real_title edit.title ≡ Some title
-      → Some (unchanged named_title page) ≡ save_outcome old.state.history (verdict_in most old.state (length old.journal) edit)
-      → HasMadeAtMost told old new (event_of (verdict_in most old.state (length old.journal) edit) moment)
-      → value ≡ (reply_beside (entries_of (unchanged named_title page)) (length old.journal)).value → Acted (verdict_in most old.state (length old.journal) edit) value
-  edit-unchanged most edit title named_title page value named outcome_is made is =
-      of-verdict (Saves (unchanged named_title page) value) (λ refusal e done. absurd cc) most old.state (length old.journal) edit title named
-      (λ same e done. by_rule (is ∙ ap (λ (o : Option SaveOutcome). (reply_beside (outcome_entries entries_of o) (length old.journal)).value) e) done tt)
-      (λ e done. absurd (changes (unchanged named_title page) title title (option_map kept edit.body) refl e))
-      outcome_is made
-
   -- a deletion
   pub deletion-done : (most : MostHeld) (text : List ℕ) (base : Option ℕ) (title : PageTitle) (outcome : SaveOutcome) (value : Data) → real_title text ≡ Some title
       → Some outcome ≡ save_outcome old.state.history (verdict_in most old.state (length old.journal) (deletion text base))
@@ -133,41 +102,12 @@ module _ {K : Type 0} (told : K → Option StoreTables) (faults : K → ℕ) (ol
       (λ e done. by_rule (ready None) done count)
       outcome_is made
 
-  -- a save that is refused
-  refused-acted : (v : Verdict) (cause : Refusal) (value : Data) → v ≡ refuse cause → value ≡ (api_error (save_error cause) (length old.journal)).value → HasMadeNothing told old new → Acted v value
-  refused-acted v cause value is told_is nothing =
-      subst (λ (w : Verdict). Acted w value) (sym is) (by_rule told_is nothing tt)
-
-  module _ {V : Type 0} (view : V → Data) where
-    pub save-refused : {E : Type 0} (v : Verdict) (refusal : SaveRefusal) (result : Result V E) → IfSome (refusal_of refusal) (λ cause. v ≡ refuse cause)
-        → HasMadeNothing told old new → (refusal ≡ StoreFault → Rose (faults old.keeper) (faults new.keeper)) → (refusal ≡ StoreFault → IsSome (event_of v moment))
-        → IfOk result (λ value. IfSome (refusal_of refusal) (λ cause. view value ≡ (api_error (save_error cause) (length old.journal)).value))
-        → (refusal ≡ StoreFault → IfOk result (λ value. view value ≡ (api_error storefault (length old.journal)).value))
-        → (refusal ≡ Memory → OnOk result ⊥) → IfOk result (λ value. Acted v (view value))
-    save-refused v refusal (Err error) is nothing rose at_event rule fault memory = tt
-    save-refused v InvalidTitle (Ok value) is nothing rose at_event rule fault memory = refused-acted v _ (view value) is rule nothing
-    save-refused v ContentTooBig (Ok value) is nothing rose at_event rule fault memory = refused-acted v _ (view value) is rule nothing
-    save-refused v ArticleExists (Ok value) is nothing rose at_event rule fault memory = refused-acted v _ (view value) is rule nothing
-    save-refused v MissingTitle (Ok value) is nothing rose at_event rule fault memory = refused-acted v _ (view value) is rule nothing
-    save-refused v (EditConflict current) (Ok value) is nothing rose at_event rule fault memory = refused-acted v _ (view value) is rule nothing
-    save-refused v (WikiFull limit) (Ok value) is nothing rose at_event rule fault memory = refused-acted v _ (view value) is rule nothing
-    save-refused v JournalFull (Ok value) is nothing rose at_event rule fault memory = refused-acted v _ (view value) is rule nothing
-    save-refused v Memory (Ok value) is nothing rose at_event rule fault memory = absurd (memory refl)
-    save-refused v StoreFault (Ok value) is nothing rose at_event rule fault memory =
-        by_fault (happens v (at_event refl)) (fault refl) (rose refl) nothing
-      where
-        happens : (w : Verdict) → IsSome (event_of w moment) → IsSome (answered w).event
-        happens (refuse refusal) some = some
-        happens (no_change title) some = some
-        happens (accept title text) some = some
-
 -- ---- answers that make no event
 
 module _ {K : Type 0} (told : K → Option StoreTables) (faults : K → ℕ) (wiki : WikiSeen K) where
   pub told-acted : (answered : Answered) (value : Data) → answered.event ≡ None → value ≡ answered.reply.value → IsActed told faults wiki wiki answered value
   told-acted answered value none is =
-      by_rule is (subst (λ (event : Option Event). HasMadeAtMost told wiki wiki event) (sym none) (record { wiki = refl; tables = refl }))
-      (subst (λ (event : Option Event). IfSome event (λ made. faults wiki.keeper ≡ faults wiki.keeper)) (sym none) tt)
+      by_rule is (subst (λ (event : Option Event). HasMadeAtMost told wiki wiki event) (sym none) (record { wiki = refl; tables = refl })) refl
 
   pub read-acted : {V E : Type 0} (view : V → Data) (answered : Answered) (result : Result V E) → answered.event ≡ None → IfOk result (λ v. view v ≡ answered.reply.value)
       → IfOk result (λ v. IsActed told faults wiki wiki answered (view v))

@@ -1,5 +1,5 @@
 -- What came of a request that may save (own).
-use Rattle.std.specs.Prelude.{◌≡◌, ℕ, Bool, true, false, length, Option, IfSome, IsSome}
+use Rattle.std.specs.Prelude.{◌≡◌, ℕ, Bool, true, false, length, Option, IsSome}
 use Rattle.serde_json.specs.Data.{Data}
 use Rattle.wk_base.specs.Faults.{Rose}
 use Rattle.wk_table_rules.specs.Rows.{StoreTables}
@@ -15,10 +15,10 @@ is_unchanged (created title numbers) = false
 is_unchanged (changed title numbers) = false
 is_unchanged (unchanged title page) = true
 
--- A request is answered as the rules have it: the event that it makes has happened, if it makes one, and then the count of
--- faults is as it was. Or the store failed where the request makes an event: the count of faults rose, and nothing happened.
+-- A request is answered as the rules have it: the event that it makes has happened, if it makes one, and the count of faults is
+-- as it was. Or the store failed where the request makes an event: the count of faults rose, and nothing happened.
 pub data IsActed {K : Type 0} (told : K → Option StoreTables) (faults : K → ℕ) (old new : WikiSeen K) (answered : Answered) (value : Data) : Type 0 where
   by_rule : value ≡ answered.reply.value → HasMadeAtMost told old new answered.event
-      → IfSome answered.event (λ event. faults new.keeper ≡ faults old.keeper) → IsActed told faults old new answered value
+      → faults new.keeper ≡ faults old.keeper → IsActed told faults old new answered value
   by_fault : IsSome answered.event → value ≡ (api_error storefault (length old.journal)).value → Rose (faults old.keeper) (faults new.keeper)
       → HasMadeNothing told old new → IsActed told faults old new answered value

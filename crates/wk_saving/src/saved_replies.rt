@@ -1,5 +1,5 @@
 //! What is told of a save, or of its refusal (MediaWiki's API:Edit and API:Delete).
-ghost use Rattle.std.specs.Prelude.{◌≡◌, ◌+◌, ℕ, List, Option, IfOk, IfSome, OnOk};
+ghost use Rattle.std.specs.Prelude.{◌≡◌, ◌+◌, ℕ, List, Option, IfOk, IfSome, Ok, OnOk};
 ghost use Rattle.serde_json.specs.View.{view};
 ghost use Rattle.wk_page_rules.specs.Verdict.{accept};
 ghost use Rattle.wk_wiki_rules.specs.SaveOutcomes.{save_numbers, save_outcome};
@@ -70,10 +70,22 @@ pub fn ready_deletion(
     deleted(alloc, title, next_numbers(revs, title), point)
 }
 
-/// The error of a save that was refused.
-pub fn save_refused(alloc: Global, refusal: SaveRefusal, point: u64) -> Result<Value, Memory>
+/// What will be told where the store fails at a save, behind a journal of this length.
+pub fn store_fault(alloc: Global, point: u64) -> Result<Value, Memory>
+    ensures { IfOk result (λ v. view v ≡ (api_error storefault point).value) }
+{
+    error_reply(alloc, "storefault", "The store failed.", point)
+}
+
+/// The error of a save that was refused. What is told where the store failed was made before the save.
+pub fn save_refused(
+    alloc: Global,
+    refusal: SaveRefusal,
+    point: u64,
+    failed: Value,
+) -> Result<Value, Memory>
     ensures rule { IfOk result (λ v. IfSome (refusal_of refusal) (λ cause. view v ≡ (api_error (save_error cause) point).value)) }
-    ensures fault { refusal ≡ SaveRefusal.StoreFault → IfOk result (λ v. view v ≡ (api_error storefault point).value) }
+    ensures fault { refusal ≡ SaveRefusal.StoreFault → result ≡ Ok failed }
     ensures memory { refusal ≡ SaveRefusal.Memory → OnOk result ⊥ }
 {
     match refusal {
@@ -94,6 +106,6 @@ pub fn save_refused(alloc: Global, refusal: SaveRefusal, point: u64) -> Result<V
             point,
         ),
         SaveRefusal::Memory => Err(Memory),
-        SaveRefusal::StoreFault => error_reply(alloc, "storefault", "The store failed.", point),
+        SaveRefusal::StoreFault => Ok(failed),
     }
 }

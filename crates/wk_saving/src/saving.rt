@@ -1,28 +1,30 @@
 //! Requests that save.
-ghost use Rattle.std.specs.Prelude.{◌≡◌, None, true, length, IfOk, OnErr};
+ghost use Rattle.std.specs.Prelude.{◌≡◌, None, length, IfOk, OnErr};
 ghost use Rattle.serde_json.specs.View.{view};
-ghost use Rattle.wk_request.specs.Asked.{ask_of};
+ghost use Rattle.wk_request.specs.Asked.{save_of};
 ghost use Rattle.wk_revs.specs.Edit.{edit_asked};
 ghost use Rattle.wk_core.specs.Steps.{GoesOn, HasMadeNothing};
-ghost use Rattle.wk_answer_rules.specs.Answers.{answer_to_ask, asks_to_save};
+ghost use Rattle.wk_answer_rules.specs.Answers.{answer_to_ask};
 ghost use Rattle.wk_answer_rules.specs.Saves.{delete_answer, edit_answer};
 ghost use Rattle.wk_saving.specs.Saved.{IsActed};
 
-use crate::saved_replies::{ready_deletion, ready_edit, save_refused};
-use crate::titles::real_title;
+use crate::saved_replies::{ready_deletion, ready_edit, save_refused, store_fault};
 use serde_json::Value;
 use wk_core::{Edit, Keeper, Saved, Wiki};
 use wk_listings::invalid_title;
 use wk_memory::Memory;
 use wk_replies::unchanged;
-use wk_request::Ask;
+use wk_request::SaveAsked;
+use wk_revs::real_title;
 
-/// Makes an edit, and tells what came of it. The reply to an edit that changes something is made before the save.
-fn edit_page<K: Keeper>(wiki: &mut Wiki<K>, edit: &Edit, now: u64) -> Result<Value, Memory>
+/// Makes an edit, and tells what came of it. The replies to an edit that changes something, and to a fault of the store, are made
+/// before the save.
+pub fn edit_page<K: Keeper>(wiki: &mut Wiki<K>, edit: &Edit, now: u64) -> Result<Value, Memory>
     requires unsealed { wiki.old.start.sealed ≡ None }
     ensures acted { IfOk result (λ v. IsActed K.told K.faults wiki.old wiki.new
         (edit_answer wiki.old.start.limits wiki.old.state (length wiki.old.journal) now (edit_asked edit.now)) (view v)) }
     ensures memory { OnErr result (HasMadeNothing K.told wiki.old wiki.new) }
+    ensures no_fault { OnErr result (K.faults wiki.new.keeper ≡ K.faults wiki.old.keeper) }
     ensures keeper { GoesOn K.told K.faults wiki.old wiki.new }
 {
     let alloc = wiki.allocator();
@@ -31,16 +33,17 @@ fn edit_page<K: Keeper>(wiki: &mut Wiki<K>, edit: &Edit, now: u64) -> Result<Val
         return invalid_title(alloc, point);
     };
     let ready = ready_edit(alloc, wiki.live().revs(), &title, point)?;
+    let failed = store_fault(alloc, point)?;
     match wiki.save(edit, now) {
         Ok(Saved::New { .. }) => Ok(ready),
         Ok(Saved::Changed { .. }) => Ok(ready),
         Ok(Saved::NoChange { title, page }) => unchanged(alloc, &title, page, point),
-        Err(refusal) => save_refused(alloc, refusal, point),
+        Err(refusal) => save_refused(alloc, refusal, point, failed),
     }
 }
 
-/// Deletes a page, and tells what came of it. The reply to a deletion is made before it.
-fn delete_page<K: Keeper>(
+/// Deletes a page, and tells what came of it. The replies to a deletion, and to a fault of the store, are made before it.
+pub fn delete_page<K: Keeper>(
     wiki: &mut Wiki<K>,
     title: &str,
     base: Option<u64>,
@@ -50,6 +53,7 @@ fn delete_page<K: Keeper>(
     ensures acted { IfOk result (λ v. IsActed K.told K.faults wiki.old wiki.new
         (delete_answer wiki.old.start.limits wiki.old.state (length wiki.old.journal) now title.now base) (view v)) }
     ensures memory { OnErr result (HasMadeNothing K.told wiki.old wiki.new) }
+    ensures no_fault { OnErr result (K.faults wiki.new.keeper ≡ K.faults wiki.old.keeper) }
     ensures keeper { GoesOn K.told K.faults wiki.old wiki.new }
 {
     let alloc = wiki.allocator();
@@ -58,9 +62,10 @@ fn delete_page<K: Keeper>(
         return invalid_title(alloc, point);
     };
     let ready = ready_deletion(alloc, wiki.live().revs(), &named, point)?;
+    let failed = store_fault(alloc, point)?;
     match wiki.remove(title, base, now) {
         Ok(_) => Ok(ready),
-        Err(cause) => save_refused(alloc, cause, point),
+        Err(cause) => save_refused(alloc, cause, point, failed),
     }
 }
 
@@ -69,18 +74,21 @@ fn delete_page<K: Keeper>(
 /// Where the store fails at such an event its count of faults rose, nothing happened, and the answer is that error. The wiki
 /// isn't sealed.
 ///
-/// All memory is taken before the save: after `Memory` the wiki is as before.
-pub fn save_asked<K: Keeper>(wiki: &mut Wiki<K>, ask: &Ask, now: u64) -> Result<Value, Memory>
-    requires asked { asks_to_save (ask_of ask.now) ≡ true }
+/// All memory is taken before the save: after `Memory` the wiki is as before, and the store hasn't failed.
+pub fn save_asked<K: Keeper>(
+    wiki: &mut Wiki<K>,
+    asked: &SaveAsked,
+    now: u64,
+) -> Result<Value, Memory>
     requires unsealed { wiki.old.start.sealed ≡ None }
     ensures acted { IfOk result (λ v. IsActed K.told K.faults wiki.old wiki.new
-        (answer_to_ask wiki.old.start.limits wiki.old.state (length wiki.old.journal) now (ask_of ask.now)) (view v)) }
+        (answer_to_ask wiki.old.start.limits wiki.old.state (length wiki.old.journal) now (save_of asked.now)) (view v)) }
     ensures memory { OnErr result (HasMadeNothing K.told wiki.old wiki.new) }
+    ensures no_fault { OnErr result (K.faults wiki.new.keeper ≡ K.faults wiki.old.keeper) }
     ensures keeper { GoesOn K.told K.faults wiki.old wiki.new }
 {
-    match ask {
-        Ask::Edit(edit) => edit_page(wiki, edit, now),
-        Ask::Delete { title, base } => delete_page(wiki, title, *base, now),
-        _ => unreachable!(),
+    match *asked {
+        SaveAsked::Edit(edit) => edit_page(wiki, edit, now),
+        SaveAsked::Delete { title, base } => delete_page(wiki, title, base, now),
     }
 }

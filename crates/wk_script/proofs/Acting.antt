@@ -16,6 +16,7 @@ use Rattle.wk_request.specs.declared.refusal.RequestRefusal.{RequestRefusal}
 use Rattle.wk_request.specs.declared.refusal.RequestRefusal.TheVariants.{Refused as ByNumber, Memory as NoMemory}
 use Rattle.wk_answer_rules.specs.ApiErrors.{api_error, nomemory, request_error, storefault}
 use Rattle.wk_answer_laws.proofs.Possible.{event-possible, IsPossibleSave}
+use Rattle.wk_answer.specs.Declined.{IsDeclined}
 use Rattle.wk_answer.specs.Saved.{IsActed, by_fault, by_rule}
 use Rattle.wk_script_rules.specs.ScriptLines.{api_line}
 use Rattle.wk_script_rules.specs.WikiScripts.{TicketDraft, WikiScript, point_of}
@@ -23,7 +24,6 @@ use Rattle.wk_script_rules.specs.Steps.{after_answer, api_answer}
 use Rattle.wk_script_rules.specs.Runs.{LineRun, api_out_of_memory, save_failed}
 use Rattle.wk_script_runs.specs.Lines.{AnswersLine}
 use Rattle.wk_script_runs.proofs.Answering.{unread-line, untimed-line}
-use Rattle.wk_script.specs.Declined.{IsDeclined}
 use Rattle.wk_script_steps.specs.Seen.{Holds, script_of}
 use Rattle.wk_script_steps.specs.Told.{Answers}
 use Rattle.wk_script_steps.proofs.Answering.{tells-fault, tells-memory, tells-step}

@@ -1,39 +1,45 @@
 -- What is answered under one turn, by what the wiki's call came to.
 use Rattle.std.proofs.Common.{◌≡◌, ℕ, ◌+◌, ◌≤◌, Bool, true, false, List, [], ◌∷◌, ◌++◌, length, Option, Some, None, refl, sym, ap, ◌∙◌, subst, arith, append-nil, Bor}
-use Rattle.std.specs.Prelude.{IsSome, IfOk, OnErr, Ok, Err, Result}
+use Rattle.std.specs.Prelude.{IsSome, IfOk, IfSome, OnErr, Ok, Err, Result}
 use Rattle.std.specs.Option.{option_to_list}
 use Rattle.serde_json.specs.View.{view}
 use Rattle.serde_json.specs.declared.value.Value.{Value}
 use Rattle.wk_memory.specs.declared.Memory.{Memory}
 use Rattle.wk_base.specs.Clock.{first_moment}
 use Rattle.wk_base.specs.Faults.{Rose}
+use Rattle.wk_page_rules.specs.History.{text_of_revision}
 use Rattle.wk_table_rules.specs.Rows.{StoreTables}
+use Rattle.wk_view_rules.specs.Worlds.{IsHonest, Read}
 use Rattle.wk_wiki_rules.specs.States.{State}
 use Rattle.wk_wiki_rules.specs.Events.{Event}
 use Rattle.wk_wiki_rules.specs.Entries.{closes}
 use Rattle.wk_wiki_rules.specs.Starts.{Start}
+use Rattle.wk_life_laws.specs.Runs.{IsRun}
 use Rattle.wk_life_laws.proofs.RunFacts.{run_present}
+use Rattle.wk_read_laws.specs.Points.{AreReadSince}
+use Rattle.wk_read_laws.proofs.PointLaws.{reads-honest, reads-later}
 use Rattle.wk_core.specs.Seen.{WikiSeen}
 use Rattle.wk_core.specs.Steps.{GoesOn as KeeperGoes, HasMadeNothing}
 use Rattle.wk_request_rules.specs.Requests.{ParsedRequest, Request, RequestRefusal as Cause, invalid, valid, number_of_refusal, parameter_of_refusal}
 use Rattle.wk_request.specs.Refusals.{Refuses, told as told_refusal}
 use Rattle.wk_request.specs.declared.refusal.RequestRefusal.{RequestRefusal}
-use Rattle.wk_request.specs.declared.refusal.RequestRefusal.TheVariants.{Refused as ByNumber}
+use Rattle.wk_request.specs.declared.refusal.RequestRefusal.TheVariants.{Refused as ByNumber, Memory as NoMemory}
 use Rattle.wk_answer_rules.specs.Answers.{answer_to_parsed, asks_to_save}
-use Rattle.wk_answer_rules.specs.ApiErrors.{api_error, nomemory, request_error, storefault}
+use Rattle.wk_answer_rules.specs.ApiErrors.{ApiError, api_error, nomemory, request_error, storefault}
 use Rattle.wk_answer_rules.specs.Saves.{Answered}
 use Rattle.wk_answer_laws.proofs.Points.{placed}
 use Rattle.wk_answer_laws.proofs.Possible.{event-possible}
+use Rattle.wk_answer.specs.Declined.{IsDeclined}
 use Rattle.wk_answer.specs.Saved.{IsActed, by_fault, by_rule}
 use Rattle.wk_answer_laws.proofs.Floats.{answer-plain, error-plain}
 use Rattle.wk_turn.specs.Told.{Begun}
 use Rattle.wk_turn.proofs.Lists.{prefix_length}
 use Rattle.wk_shared.specs.Calls.{AddsOwn, HasSeen, IsMadeAt, MayFail, seen_by}
-use Rattle.wk_shared.specs.Desk.{ClosesOpen, IsTaken, MakesAtMostOne}
+use Rattle.wk_shared.specs.Desk.{ClosesOpen, IsTaken, MakesAtMostOne, TellsOf}
 use Rattle.wk_shared.proofs.Made.{makes}
 use Rattle.wk_shared.proofs.Outcomes.{Outcome, may-fail}
 use Rattle.wk_session_rules.specs.Points.{GoesOn, IsStateAt}
-use Rattle.wk_session_rules.specs.Replies.{AreMomentsOf, out_of_memory, read, saved, store_failed, unread}
+use Rattle.wk_session_rules.specs.Replies.{AreMomentsOf, IsAnswered, out_of_memory, read, saved, store_failed, unread}
 use Rattle.wk_session.specs.Passes.{IsFree}
 use Rattle.wk_session.specs.Telling.{AnswersOn}
 use Rattle.wk_session.specs.declared.telling.Told.{Told}
@@ -75,7 +81,7 @@ save-closes journal own None none = tt
 save-closes journal own (Some event) none = λ p e. absurd (let wrong : None ≡ Some p = sym (none event refl) ∙ e in cc)
 
 module _ {K : Type 0} (told : K → Option StoreTables) (faults : K → ℕ) (is_whole : K → Bool) (own : List ℕ) (wiki after : WikiSeen K) (start : Start)
-    (same : wiki.start ≡ start) (whole : is_whole wiki.keeper ≡ wiki.start.whole) (keeper : KeeperGoes told faults wiki after) (parsed : ParsedRequest) (moment : ℕ) (value : Value) where
+    (same : wiki.start ≡ start) (tells : TellsOf is_whole faults wiki.start wiki.keeper) (keeper : KeeperGoes told faults wiki after) (parsed : ParsedRequest) (moment : ℕ) (value : Value) where
   abbrev pub ruled : Answered
   ruled = answer_to_parsed wiki.start.limits wiki.state (length wiki.journal) moment parsed
 
@@ -85,16 +91,16 @@ module _ {K : Type 0} (told : K → Option StoreTables) (faults : K → ℕ) (is
       ap closes save.is
 
   failed : (event : Option Event) → ruled.event ≡ event → IsSome event → view value ≡ (api_error storefault (length wiki.journal)).value → Rose (faults wiki.keeper) (faults after.keeper)
-      → HasMadeNothing told wiki after → Outcome told own wiki after (ActTold (MayFail is_whole faults start) parsed (moment ∷ []) value)
+      → HasMadeNothing told wiki after → Outcome told own wiki after (ActTold (MayFail start) parsed (moment ∷ []) value)
   failed None is some shows rose nothing = absurd (let e : false ≡ true = some in cc)
   failed (Some event) is some shows rose nothing = record {
     event = None;
     made = nothing;
     closing = tt;
-    call = as_failed is (may-fail is_whole faults start wiki after same whole keeper.whole rose) shows refl;
+    call = as_failed is (may-fail is_whole faults start wiki after same tells keeper.whole rose) shows refl;
   }
 
-  pub acted-on : IsActed told faults wiki after ruled (view value) → Outcome told own wiki after (ActTold (MayFail is_whole faults start) parsed (moment ∷ []) value)
+  pub acted-on : IsActed told faults wiki after ruled (view value) → Outcome told own wiki after (ActTold (MayFail start) parsed (moment ∷ []) value)
   acted-on (by_rule shows made kept) = record {
     event = ruled.event;
     made = made;
@@ -104,15 +110,38 @@ module _ {K : Type 0} (told : K → Option StoreTables) (faults : K → ℕ) (is
   acted-on (by_fault some shows rose nothing) = failed ruled.event refl some shows rose nothing
 
 -- what is asked where the wiki is given back behind a save that was asked for
-pub acted-makes : {K : Type 0} (told : K → Option StoreTables) (faults : K → ℕ) (is_whole : K → Bool) (shared : Begun Start) (old middle : Pass) (wiki after before : WikiSeen K) (taken : IsTaken is_whole shared old middle wiki)
-    → KeeperGoes told faults wiki after → (parsed : ParsedRequest) (moment : ℕ) (result : Result Value Memory) → before ≡ wiki
+pub acted-makes : {K : Type 0} (told : K → Option StoreTables) (faults : K → ℕ) (is_whole : K → Bool) (shared : Begun Start) (old middle : Pass) (wiki after before : WikiSeen K) (taken : IsTaken shared old middle wiki)
+    → TellsOf is_whole faults wiki.start wiki.keeper → KeeperGoes told faults wiki after → (parsed : ParsedRequest) (moment : ℕ) (result : Result Value Memory) → before ≡ wiki
     → IfOk result (λ v. IsActed told faults wiki after (answer_to_parsed wiki.start.limits wiki.state (length wiki.journal) moment parsed) (view v)) → OnErr result (HasMadeNothing told wiki after)
     → MakesAtMostOne middle.own before after
-acted-makes told faults is_whole shared old middle wiki after before taken keeper parsed moment (Ok value) same acted memory =
-    makes told is_whole shared old middle wiki after taken (ActTold (MayFail is_whole faults shared.start) parsed (moment ∷ []) value) before same
-    (acted-on told faults is_whole old.own wiki after shared.start taken.start taken.whole keeper parsed moment value acted)
-acted-makes told faults is_whole shared old middle wiki after before taken keeper parsed moment (Err why) same acted memory =
-    makes told is_whole shared old middle wiki after taken NothingTold before same (unchanged told old.own wiki after memory)
+acted-makes told faults is_whole shared old middle wiki after before taken tells keeper parsed moment (Ok value) same acted memory =
+    makes told shared old middle wiki after taken (ActTold (MayFail shared.start) parsed (moment ∷ []) value) before same
+    (acted-on told faults is_whole old.own wiki after shared.start taken.start tells keeper parsed moment value acted)
+acted-makes told faults is_whole shared old middle wiki after before taken tells keeper parsed moment (Err why) same acted memory =
+    makes told shared old middle wiki after taken NothingTold before same (unchanged told old.own wiki after memory)
+
+-- the same behind a save of a text that was transformed before: nothing has happened where a read of it isn't current
+pub made-makes : {K : Type 0} (told : K → Option StoreTables) (faults : K → ℕ) (is_whole : K → Bool) (shared : Begun Start) (old middle : Pass) (wiki after before : WikiSeen K) (taken : IsTaken shared old middle wiki)
+    → TellsOf is_whole faults wiki.start wiki.keeper → KeeperGoes told faults wiki after → (parsed : ParsedRequest) (moment : ℕ) (Stale : Type 0) (result : Result (Option Value) Memory) → before ≡ wiki
+    → IfOk result (λ answer. IfSome answer (λ v. IsActed told faults wiki after (answer_to_parsed wiki.start.limits wiki.state (length wiki.journal) moment parsed) (view v)))
+    → IfOk result (λ answer. answer ≡ None → HasMadeNothing told wiki after × Stale) → OnErr result (HasMadeNothing told wiki after) → MakesAtMostOne middle.own before after
+made-makes told faults is_whole shared old middle wiki after before taken tells keeper parsed moment Stale (Ok (Some value)) same acted stale memory =
+    acted-makes told faults is_whole shared old middle wiki after before taken tells keeper parsed moment (Ok value) same acted tt
+made-makes told faults is_whole shared old middle wiki after before taken tells keeper parsed moment Stale (Ok None) same acted stale memory =
+    makes told shared old middle wiki after taken NothingTold before same (unchanged told old.own wiki after (stale refl).0)
+made-makes told faults is_whole shared old middle wiki after before taken tells keeper parsed moment Stale (Err why) same acted stale memory =
+    makes told shared old middle wiki after taken NothingTold before same (unchanged told old.own wiki after memory)
+
+-- what was read at points that the pass had seen is honest on the wiki that it has taken
+pub honest-taken : {K : Type 0} (shared : Begun Start) (old middle : Pass) (wiki : WikiSeen K) (reads : List Read) → IsTaken shared old middle wiki → (from : ℕ) × AreReadSince shared.start old.seen from reads
+    → IsHonest (text_of_revision wiki.state.history) reads
+honest-taken shared old middle wiki reads taken since =
+    reads-honest shared.start wiki.journal wiki.state since.0 reads (subst (λ (s : Start). IsRun s wiki.journal wiki.state) taken.start taken.run)
+    (reads-later shared.start old.seen wiki.journal since.0 reads taken.seen since.1)
+
+-- what a value holds that is there
+pub some-of : {A : Type 0} (o : Option A) (value : A) (P : A → Type 0) → o ≡ Some value → IfSome o P → P value
+some-of {A = A} o value P is holds = subst (λ (x : Option A). IfSome x P) is holds
 
 -- a call that makes no event leaves the pass's own entries
 pub own-kept : (shared : Begun Start) (old new : Pass) (Call : Start → State → ℕ → Option Event → Type 0) (m : IsMadeAt shared.start old new Call)
@@ -214,19 +243,27 @@ present shared old new point seen = record {
   stands = run_present shared.start new.seen seen.state seen.run;
 }
 
--- memory was wanting, at the present point
-pub starved-now : (shared : Begun Start) (fails : Type 0) (old new : Pass) (point : ℕ) (parsed : ParsedRequest) (told : Told) → HasSeen shared old new point → new.own ≡ old.own → told.point ≡ point
-    → IfOk told.value (λ v. view v ≡ (api_error nomemory point).value) → AnswersOn shared fails old new parsed [] told
-starved-now shared fails old new point parsed told seen own at value = record {
-  free = record { turn = seen.turn; free = seen.free };
-  made = [];
-  goes = record { start = refl; seen = seen.seen; own = own ∙ sym (append-nil old.own) };
-  reply = api_error nomemory (length new.seen);
-  answered = unread (present shared old new point seen);
-  value = subst (λ n. IfOk told.value (λ v. view v ≡ (api_error nomemory n).value)) seen.tells value;
-  point = at ∙ seen.tells;
-  plain = error-plain nomemory (length new.seen);
-}
+module _ (shared : Begun Start) (fails : Type 0) (old new : Pass) (point : ℕ) (parsed : ParsedRequest) (told : Told) (seen : HasSeen shared old new point) (own : new.own ≡ old.own) (at : told.point ≡ point) where
+  -- a reply that is an error at the present point
+  present-told : (error : ApiError) (moments : List ℕ) → IsAnswered fails (seen_by shared.start old) (seen_by shared.start new) parsed moments (api_error error (length new.seen)) []
+      → IfOk told.value (λ v. view v ≡ (api_error error point).value) → AnswersOn shared fails old new parsed moments told
+  present-told error moments answered value = record {
+    free = record { turn = seen.turn; free = seen.free };
+    made = [];
+    goes = record { start = refl; seen = seen.seen; own = own ∙ sym (append-nil old.own) };
+    reply = api_error error (length new.seen);
+    answered = answered;
+    value = subst (λ n. IfOk told.value (λ v. view v ≡ (api_error error n).value)) seen.tells value;
+    point = at ∙ seen.tells;
+    plain = error-plain error (length new.seen);
+  }
+
+  -- memory was wanting: to read what is asked, or behind the moments that were taken for it
+  pub starved-now : IfOk told.value (λ v. view v ≡ (api_error nomemory point).value) → AnswersOn shared fails old new parsed [] told
+  starved-now value = present-told nomemory [] (unread (present shared old new point seen)) value
+
+  pub starved-timed : (moments : List ℕ) → AreMomentsOf parsed moments → IfOk told.value (λ v. view v ≡ (api_error nomemory point).value) → AnswersOn shared fails old new parsed moments told
+  starved-timed moments are value = present-told nomemory moments (out_of_memory are (present shared old new point seen)) value
 
 -- the moment of a request that asks for a save
 pub one-moment : (request : Request) (moment : ℕ) → asks_to_save request.ask ≡ true → AreMomentsOf (valid request) (moment ∷ [])
@@ -241,27 +278,16 @@ cause-of (valid request) number parameter refuses = absurd (let e : None ≡ Som
 cause-of (invalid cause) number parameter refuses = (cause, refl, sym refuses)
 
 -- they are answered by their error
-pub refused-now : (shared : Begun Start) (fails : Type 0) (old new : Pass) (point : ℕ) (parsed : ParsedRequest) (number : ℕ) (parameter : Bor (List ℕ)) (value : Value)
-    → HasSeen shared old new point → new.own ≡ old.own → Refuses parsed (ByNumber number parameter)
-    → ((cause : Cause) → told_refusal (ByNumber number parameter) ≡ Some (number_of_refusal cause, parameter_of_refusal cause) → view value ≡ (api_error (request_error cause) point).value)
-    → AnswersOn shared fails old new parsed [] (record { value = Ok value; point = point })
-refused-now shared fails old new point parsed number parameter value seen own refuses shows =
+pub refused-now : (shared : Begun Start) (fails : Type 0) (old new : Pass) (point : ℕ) (parsed : ParsedRequest) (number : ℕ) (parameter : Bor (List ℕ)) (told : Told)
+    → HasSeen shared old new point → new.own ≡ old.own → told.point ≡ point → Refuses parsed (ByNumber number parameter) → IsDeclined (ByNumber number parameter) point told.value
+    → AnswersOn shared fails old new parsed [] told
+refused-now shared fails old new point parsed number parameter told seen own at refuses is =
     let why = cause-of parsed number parameter refuses in
-    subst (λ (p : ParsedRequest). AnswersOn shared fails old new p [] (record { value = Ok value; point = point })) (sym why.1)
-    (record {
-      free = record { turn = seen.turn; free = seen.free };
-      made = [];
-      goes = record { start = refl; seen = seen.seen; own = own ∙ sym (append-nil old.own) };
-      reply = api_error (request_error why.0) (length new.seen);
-      answered = read refl (present shared old new point seen) refl;
-      value = shows why.0 why.2 ∙ ap (λ n. (api_error (request_error why.0) n).value) seen.tells;
-      point = seen.tells;
-      plain = error-plain (request_error why.0) (length new.seen);
-    })
+    subst (λ (p : ParsedRequest). AnswersOn shared fails old new p [] told) (sym why.1)
+    (present-told shared fails old new point (invalid why.0) told seen own at (request_error why.0) [] (read refl (present shared old new point seen) refl) (is why.0 why.2))
 
-pub refused-any : (shared : Begun Start) (fails : Type 0) (old new : Pass) (point : ℕ) (parsed : ParsedRequest) (refusal : RequestRefusal) (number : ℕ) (parameter : Bor (List ℕ)) (value : Value)
-    → refusal ≡ ByNumber number parameter → HasSeen shared old new point → new.own ≡ old.own → Refuses parsed refusal
-    → ((cause : Cause) → told_refusal refusal ≡ Some (number_of_refusal cause, parameter_of_refusal cause) → view value ≡ (api_error (request_error cause) point).value)
-    → AnswersOn shared fails old new parsed [] (record { value = Ok value; point = point })
-refused-any shared fails old new point parsed refusal number parameter value is seen own refuses shows =
-    refused-now shared fails old new point parsed number parameter value seen own (subst (Refuses parsed) is refuses) (λ cause told. shows cause (ap told_refusal is ∙ told))
+pub declined-now : (shared : Begun Start) (fails : Type 0) (old new : Pass) (point : ℕ) (parsed : ParsedRequest) (refusal : RequestRefusal) (told : Told)
+    → HasSeen shared old new point → new.own ≡ old.own → told.point ≡ point → Refuses parsed refusal → IsDeclined refusal point told.value → AnswersOn shared fails old new parsed [] told
+declined-now shared fails old new point parsed (ByNumber number parameter) told seen own at refuses is =
+    refused-now shared fails old new point parsed number parameter told seen own at refuses is
+declined-now shared fails old new point parsed NoMemory told seen own at refuses is = starved-now shared fails old new point parsed told seen own at is

@@ -18,7 +18,8 @@ use Rattle.wk_session_rules.specs.Points.{GoesOn}
 use Rattle.wk_session_rules.specs.Replies.{sent}
 use Rattle.wk_session_rules.specs.Exchanges.{Exchange, Exchanges, bytes_of, jobs_done, messages_of, moments_of, none, points_of, refreshes_of}
 use Rattle.wk_session_rules.specs.Sessions.{AppendsPart, BeginsWith, EndsSo, GivesMoments, IsReadingEnd, IsSession, IsWritingEnd, Outside, bad_unsent, cut, ends_bad, ends_closed, nothing, peer_end, unread, unsent}
-use Rattle.wk_session.specs.Serving.{HasDoneNothing, HasServed, IsCounted, IsEnded, IsReplied, RepliedTo, Serves}
+use Rattle.wk_sending.specs.Sending.{IsCounted, IsEnded}
+use Rattle.wk_session.specs.Serving.{HasDoneNothing, HasServed, IsReplied, RepliedTo, Serves}
 use Rattle.wk_session.proofs.Passing.{goes-both, goes-nowhere}
 use Rattle.wk_session.proofs.Lists.{bytes-push, exchanges-push, messages-push, moments-push, points-push, refreshes-push}
 use Rattle.wk_session.proofs.Streams.{begins-behind, begins-push, gives-both, messages-behind, messages-whole}

@@ -1,5 +1,5 @@
 -- A pass that goes on, and answers at points that it has seen.
-use Rattle.std.proofs.Common.{◌≡◌, ℕ, List, [], ◌++◌, None, refl, sym, ap, ◌∙◌, arith, append-nil, append_assoc}
+use Rattle.std.proofs.Common.{◌≡◌, ℕ, List, [], ◌∷◌, ◌++◌, Option, Some, None, refl, sym, ap, ◌∙◌, arith, append-nil, append_assoc}
 use mathlib.Core.List.{IsPrefix}
 use Rattle.wk_wiki_rules.specs.States.{State}
 use Rattle.wk_wiki_rules.specs.Events.{Event}
@@ -10,11 +10,11 @@ use Rattle.wk_answer_rules.specs.Values.{ApiReply}
 use Rattle.wk_turn.specs.Told.{Begun, IsOf, Story}
 use Rattle.wk_turn.proofs.Lists.{prefix_length, prefix_self, prefix_trans}
 use Rattle.wk_shared.specs.Calls.{HasSeen, seen_by}
-use Rattle.wk_readers.specs.Looks.{HasRead}
+use Rattle.wk_shared.specs.Looks.{HasRead}
 use Rattle.wk_session_rules.specs.Points.{GoesOn, IsStateAt}
 use Rattle.wk_session_rules.specs.Replies.{IsAnswered, out_of_memory, read, saved, store_failed, unread}
 use Rattle.wk_session.specs.Passes.{IsFree}
-use Rattle.wk_session.specs.Telling.{AnswersOn}
+use Rattle.wk_session.specs.Telling.{AnswersOn, IsTried}
 use Rattle.wk_session.specs.declared.telling.Told.{Told}
 
 abbrev pub Pass : Type 0
@@ -68,6 +68,14 @@ seen-read shared old new point seen own = record { turn = seen.turn; free = seen
 pub reads-none : (shared : Begun Start) (pass : Pass) → IsOf shared pass → pass.held ≡ None → HasRead shared pass pass
 reads-none shared pass of free = record { turn = of; free = free; seen = prefix_self pass.seen; own = refl }
 
+pub read-both : (shared : Begun Start) (old middle new : Pass) → HasRead shared old middle → HasRead shared middle new → HasRead shared old new
+read-both shared old middle new first later = record {
+  turn = later.turn;
+  free = later.free;
+  seen = prefix_trans old.seen middle.seen new.seen first.seen later.seen;
+  own = later.own ∙ first.own;
+}
+
 -- an answer behind a look
 pub on-since : (shared : Begun Start) (fails : Type 0) (old middle new : Pass) (parsed : ParsedRequest) (moments : List ℕ) (told : Told) →
     HasRead shared old middle → AnswersOn shared fails middle new parsed moments told → AnswersOn shared fails old new parsed moments told
@@ -81,3 +89,9 @@ on-since shared fails old middle new parsed moments told looked on = record {
   point = on.point;
   plain = on.plain;
 }
+
+-- a try behind a look
+pub tried-since : (shared : Begun Start) (fails : Type 0) (old middle new : Pass) (parsed : ParsedRequest) (moment : ℕ) (told : Option Told) →
+    HasRead shared old middle → IsTried shared fails middle new parsed moment told → IsTried shared fails old new parsed moment told
+tried-since shared fails old middle new parsed moment (Some told) looked on = on-since shared fails old middle new parsed (moment ∷ []) told looked on
+tried-since shared fails old middle new parsed moment None looked again = read-both shared old middle new looked again

@@ -1,5 +1,5 @@
 -- What is answered by a read of its own.
-use Rattle.std.proofs.Common.{◌≡◌, ℕ, ◌+◌, ◌≤◌, true, false, List, [], ◌∷◌, length, take, Option, Some, refl, sym, ap, subst, arith}
+use Rattle.std.proofs.Common.{◌≡◌, ℕ, ◌+◌, ◌≤◌, true, false, List, [], ◌∷◌, length, take, Option, Some, refl, sym, ap, ◌∙◌, subst, arith}
 use Rattle.std.specs.Prelude.{IfOk, Ok}
 use Rattle.std.specs.Option.{option_to_list}
 use Rattle.std.proofs.lemmas.Option.{option_and_then_some}
@@ -15,6 +15,13 @@ use Rattle.wk_wiki_laws.specs.WellFormed.{IsWellFormed}
 use Rattle.wk_wiki_laws.proofs.Formed.{IsWellFormed-step}
 use Rattle.wk_wiki_rules.specs.Starts.{Start}
 use Rattle.wk_core.specs.declared.outcomes.PageRead.{PageRead}
+use Rattle.wk_request.specs.Asked.{list_of, read_of, save_of, site_of}
+use Rattle.wk_request.specs.declared.asked.ListAsked.{ListAsked}
+use Rattle.wk_request.specs.declared.asked.ReadAsked.{ReadAsked}
+use Rattle.wk_request.specs.declared.asked.ReadAsked.TheVariants.{Page, Text}
+use Rattle.wk_request.specs.declared.asked.SaveAsked.{SaveAsked}
+use Rattle.wk_request.specs.declared.asked.SiteAsked.{SiteAsked}
+use Rattle.wk_request.proofs.Asking.{list-saves-none, save-saves, site-saves-none}
 use Rattle.wk_request_rules.specs.Requests.{Ask, Request, edit, delete, parse, expand_text, backlinks, embedded, members, changes, revisions, tokens, site_info, valid}
 use Rattle.wk_answer_rules.specs.Answers.{answer_to_request, asks_to_save}
 use Rattle.wk_answer_laws.proofs.Points.{placed, request-none}
@@ -22,7 +29,7 @@ use Rattle.wk_answer_rules.specs.ApiErrors.{api_error, nomemory}
 use Rattle.wk_answer_laws.proofs.Floats.{answer-plain, error-plain}
 use Rattle.wk_answer.specs.Readings.{IsFitRead, IsReadOf, IsRightRead, asks_to_expand, reading_of}
 use Rattle.wk_turn.specs.Told.{Begun}
-use Rattle.wk_readers.specs.Looks.{HasRead}
+use Rattle.wk_shared.specs.Looks.{HasRead}
 use Rattle.wk_readers.specs.Reads.{IsAnswered as IsRead}
 use Rattle.wk_session_rules.specs.Replies.{AreMomentsOf, read, unread}
 use Rattle.wk_session.specs.Telling.{AnswersOn, IsTitleOf, text_asked}
@@ -53,9 +60,26 @@ expands-no-save (revisions listing content) is = refl
 expands-no-save tokens is = refl
 expands-no-save site_info is = refl
 
+-- what is asked, by who answers it
+read-expands : (asked : ReadAsked) → asks_to_expand (read_of asked) ≡ true
+read-expands (Page page) = refl
+read-expands (Text text title) = refl
+
+pub expands-read : (ask : Ask) (asked : ReadAsked) → read_of asked ≡ ask → asks_to_expand ask ≡ true
+expands-read ask asked is = ap asks_to_expand (sym is) ∙ read-expands asked
+
+pub saves-save : (ask : Ask) (asked : SaveAsked) → save_of asked ≡ ask → asks_to_save ask ≡ true
+saves-save ask asked is = ap asks_to_save (sym is) ∙ save-saves asked
+
+pub reads-list : (ask : Ask) (asked : ListAsked) → list_of asked ≡ ask → asks_to_save ask ≡ false
+reads-list ask asked is = ap asks_to_save (sym is) ∙ list-saves-none asked
+
+pub reads-site : (ask : Ask) (asked : SiteAsked) → site_of asked ≡ ask → asks_to_save ask ≡ false
+reads-site ask asked is = ap asks_to_save (sym is) ∙ site-saves-none asked
+
 -- the moments of a request that asks for no save
-pub no-moments : (ask : Ask) (least : ℕ) → asks_to_save ask ≡ false → AreMomentsOf (valid (record { least = least; ask = ask })) []
-no-moments ask least reads = let none = reads in grind (arith, none)
+pub no-moments : (request : Request) → asks_to_save request.ask ≡ false → AreMomentsOf (valid request) []
+no-moments request reads = let none = reads in grind (arith, none)
 
 -- a read of what is asked can be told of
 pub fit-read : (ask : Ask) (title : PageTitle) (found : PageRead) → IsTitleOf ask title → found.draft.given ≡ text_asked ask → IsFitRead ask (Ok found)
@@ -91,7 +115,7 @@ module _ (shared : Begun Start) (fails : Type 0) (old new : Pass) (request : Req
         made = [];
         goes = read-goes shared old new looked;
         reply = (answer_to_request shared.start.limits a.right.state found.point 0 request).reply;
-        answered = read (no-moments request.ask request.least reads) (record { later = a.fresh; seen = a.right.seen; stands = a.right.at }) none;
+        answered = read (no-moments request reads) (record { later = a.fresh; seen = a.right.seen; stands = a.right.at }) none;
         value = shows right a.reached;
         point = (let p = placed shared.start.limits a.right.state found.point 0 (valid request) in let l = ap (λ o. length (option_to_list o)) none in omega (arith, p, l));
         plain = answer-plain shared.start.limits a.right.state found.point 0 (valid request);

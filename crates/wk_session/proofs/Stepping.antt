@@ -1,13 +1,11 @@
 -- The step behind a reply, by what `refresh_one` tells of it.
-use Rattle.std.specs.Prelude.{IsSome}
-use Rattle.std.proofs.Common.{◌≡◌, ℕ, ◌+◌, ◌≤◌, Bool, true, List, [], ◌∷◌, ◌++◌, length, take, Option, Some, None, refl, sym, ap, ◌∙◌, subst, arith, append-nil, append_assoc, inl, inr}
-use Rattle.std.specs.Prelude.{◌⊎◌, Ok, Err, option_map}
+use Rattle.std.proofs.Common.{◌≡◌, ℕ, ◌+◌, ◌≤◌, List, [], ◌∷◌, ◌++◌, length, take, Option, Some, None, refl, sym, ap, ◌∙◌, subst, arith, append-nil, append_assoc, inl, inr}
+use Rattle.std.specs.Prelude.{Ok, Err, option_map}
 use Rattle.std.proofs.lemmas.List.{take-append-le}
 use mathlib.Core.List.{IsPrefix}
 use Rattle.wk_text_rules.specs.Titles.{PageTitle}
 use Rattle.wk_view_rules.specs.Worlds.{Read}
-use Rattle.wk_wiki_rules.specs.Jobs.{first_fan, first_queued}
-use Rattle.wk_wiki_rules.specs.Room.{is_claim_refused, is_fan_refused}
+use Rattle.wk_wiki_rules.specs.Jobs.{first_queued}
 use Rattle.wk_wiki_rules.specs.States.{State, title_at, world_of}
 use Rattle.wk_wiki_rules.specs.Events.{Event, Back as BackEvent, Claim, Done as DoneEvent, Fan}
 use Rattle.wk_wiki_rules.specs.Lives.{replay, state_at}
@@ -87,13 +85,7 @@ module _ (shared : Begun Start) (old new : Pass) (worked : HasWorked shared old 
         let there : length new.seen ≡ m.at = (adds FullTold m None m.call.made).0 in
         step-of kind.JournalFull [] (still-own FullTold m m.call.made)
         (full (state-now FullTold m m.call.made)
-        (subst (IsFull (seen_by shared.start new) m.state) (sym there) (by m.call.full)))
-      where
-        by : (IsSome (first_fan m.state.jobs) × (is_fan_refused shared.start.limits m.state m.at ≡ true))
-            ⊎ ((first_fan m.state.jobs ≡ None) × IsSome (first_queued m.state.jobs) × (is_claim_refused shared.start.limits m.state m.at ≡ true)) →
-            IsFull (seen_by shared.start new) m.state m.at
-        by (inl x) = inl x
-        by (inr x) = inr (x.1, x.2)
+        (subst (IsFull (seen_by shared.start new) m.state) (sym there) m.call.full))
 
     nothing-told : (Call : Start → State → ℕ → Option Event → Type 0) (m : IsMadeAt shared.start old new Call) → m.event ≡ None → IsStepTold shared fails old new kind.Memory
     nothing-told Call m none = step-of kind.Memory [] (still-own Call m none) no_memory
@@ -200,6 +192,5 @@ module _ (shared : Begun Start) (old new : Pass) (worked : HasWorked shared old 
     told-as refreshed.Memory (inl m) may = nothing-told NothingTold m m.call
     told-as refreshed.Memory (inr told) may = wanting-told told.claimed told.ticket told.claim told.end
 
-pub refreshed-step : {K : Type 0} (is_whole : K → Bool) (faults : K → ℕ) (shared : Begun Start) (old new : Pass) (answer : Refreshed) → IsRefreshed is_whole faults shared old new answer
-    → IsStepTold shared (MayFail is_whole faults shared.start) old new (kind_of answer)
-refreshed-step is_whole faults shared old new answer x = told-as shared old new x.pass (MayFail is_whole faults shared.start) answer x.told x.fault
+pub refreshed-step : (shared : Begun Start) (old new : Pass) (answer : Refreshed) → IsRefreshed shared old new answer → IsStepTold shared (MayFail shared.start) old new (kind_of answer)
+refreshed-step shared old new answer x = told-as shared old new x.pass (MayFail shared.start) answer x.told x.fault

@@ -1,32 +1,24 @@
 -- What comes of a message of a session (own).
-use Rattle.std.specs.Prelude.{◌≡◌, ◌≢◌, ◌⊎◌, ◌≤◌, ℕ, true, List, [], ◌∷◌, ◌++◌, length, Option, Result, Ok, Err}
+use Rattle.std.specs.Prelude.{◌≡◌, ◌⊎◌, ℕ, List, [], ◌∷◌, ◌++◌, length, Result, Ok, Err}
 use Rattle.std.specs.Option.{option_to_list}
 use Rattle.std.specs.Io.KnownBytes.{Appends, Consumes}
-use Rattle.wk_base.specs.Faults.{Rose}
 use Rattle.wk_wire_rules.specs.Heads.{Message}
-use Rattle.wk_wire_rules.specs.Responses.{response}
 use Rattle.wk_wiki_rules.specs.Events.{Event}
 use Rattle.wk_wiki_rules.specs.Passes.{PassSeen}
 use Rattle.wk_wiki_rules.specs.Starts.{Start}
 use Rattle.wk_http.specs.declared.report.Refresh.{Refresh}
 use Rattle.wk_http.specs.declared.report.SessionEnd.{SessionEnd}
-use Rattle.wk_http.specs.declared.report.SessionEnd.TheVariants.{Bad, Memory, ReadFault, WriteFault}
+use Rattle.wk_http.specs.declared.report.SessionEnd.TheVariants.{Memory}
 use Rattle.wk_turn.specs.Told.{Begun, Story}
 use Rattle.wk_shared.specs.Calls.{seen_by}
 use Rattle.wk_session_rules.specs.Points.{GoesOn}
 use Rattle.wk_session_rules.specs.Replies.{IsReplyTo, Reply, sent}
 use Rattle.wk_session_rules.specs.Steps.{IsStep}
 use Rattle.wk_session_rules.specs.Exchanges.{Exchange, Exchanges, IsExchange, bytes_of, messages_of, moments_of, points_of, refreshes_of}
-use Rattle.wk_session_rules.specs.Sessions.{AppendsPart, BeginsWith, GivesMoments, IsWritingEnd, Outside}
+use Rattle.wk_session_rules.specs.Sessions.{BeginsWith, GivesMoments, Outside}
+use Rattle.wk_sending.specs.Sending.{IsSent}
 use Rattle.wk_messages.specs.Reading.{Reading}
 use Rattle.wk_session.specs.Passes.{IsFree}
-
--- ---- what is sent
-
--- all of these bytes were sent, or a prefix where the writing ended
-abbrev pub IsSent : List ℕ → Option (List ℕ) → Option (List ℕ) → Result (Unit {0}) SessionEnd → Type 0
-IsSent bytes taken later (Ok done) = Appends taken later bytes
-IsSent bytes taken later (Err end) = IsWritingEnd end × AppendsPart taken later [] bytes
 
 -- ---- a message
 
@@ -93,20 +85,3 @@ pub record HasServed (fails : Type 0) (old now : PassSeen) (before after : Outsi
   pub written : Appends before.taken after.taken (bytes_of exchanges)
   pub points_are : points ≡ points_of exchanges
   pub refreshes_are : refreshes ≡ refreshes_of exchanges
-
--- ---- the end
-
--- how a session ends whose reading ended so: to a bad place its status was sent, or a prefix of that
-abbrev pub IsEnded : Option (List ℕ) → Option (List ℕ) → SessionEnd → SessionEnd → Type 0
-IsEnded taken later (Bad status) end =
-    ((end ≡ Bad status) × Appends taken later (response status [] true)) ⊎ (IsWritingEnd end × AppendsPart taken later [] (response status [] true))
-IsEnded taken later why end = (end ≡ why) × (later ≡ taken)
-
--- the link's counts of faults behind a session that ended so: each rose where that was the end, and stayed where it wasn't
-pub record IsCounted (end : SessionEnd) (reads more_reads writes more_writes : ℕ) : Type 0 where
-  pub reads_never_fall : reads ≤ more_reads
-  pub no_read_fault : end ≢ ReadFault → more_reads ≡ reads
-  pub read_fault : end ≡ ReadFault → Rose reads more_reads
-  pub writes_never_fall : writes ≤ more_writes
-  pub no_write_fault : end ≢ WriteFault → more_writes ≡ writes
-  pub write_fault : end ≡ WriteFault → Rose writes more_writes

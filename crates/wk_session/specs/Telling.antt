@@ -1,5 +1,5 @@
 -- What comes of what a message asks (own).
-use Rattle.std.specs.Prelude.{◌≡◌, ◌≤◌, ℕ, false, List, Option, Some, None, IfOk, IfSome, length, string_bytes}
+use Rattle.std.specs.Prelude.{◌≡◌, ◌≤◌, ℕ, false, List, [], ◌∷◌, Option, Some, None, IfOk, IfSome, length}
 use Rattle.serde_json.specs.View.{view}
 use Rattle.serde_json.specs.Written.{has_float}
 use Rattle.wk_text_rules.specs.Titles.{PageTitle}
@@ -11,12 +11,14 @@ use Rattle.wk_answer_rules.specs.Values.{ApiReply}
 use Rattle.wk_answer.specs.Readings.{IsReadOf}
 use Rattle.wk_turn.specs.Told.{Begun, Story}
 use Rattle.wk_shared.specs.Calls.{seen_by}
+use Rattle.wk_shared.specs.Looks.{HasRead}
 use Rattle.wk_session_rules.specs.Points.{GoesOn}
 use Rattle.wk_session_rules.specs.Replies.{IsAnswered, IsReplyTo, Reply}
 use Rattle.wk_session_rules.specs.Sessions.{GivesMoments}
+use Rattle.wk_sending.specs.Replied.{Carries}
+use Rattle.wk_sending.specs.declared.replies.Answer.{Answer}
 use Rattle.wk_session.specs.Passes.{IsFree}
 use Rattle.wk_session.specs.declared.telling.Told.{Told}
-use Rattle.wk_session.specs.declared.replies.Answer.{Answer}
 
 -- What is asked was answered on these moments: the pass is free again, and the reply is as the rules have it. This is its
 -- value, or memory was wanting for it.
@@ -36,7 +38,13 @@ pub record AnswersAsked (shared : Begun Start) (fails : Type 0) (old new : Story
   pub given : GivesMoments left later moments
   pub on : AnswersOn shared fails old new parsed moments told
 
--- A message was answered on the moments that the clock gave. This is the body of the reply, or memory was wanting for it.
+-- A save whose text was transformed before was answered on this moment; or a read of the text wasn't current any more, and the
+-- pass has only looked.
+abbrev pub IsTried : Begun Start → Type 0 → Story Start Event → Story Start Event → ParsedRequest → ℕ → Option Told → Type 0
+IsTried shared fails old new parsed moment (Some told) = AnswersOn shared fails old new parsed (moment ∷ []) told
+IsTried shared fails old new parsed moment None = HasRead shared old new
+
+-- A message was answered on the moments that the clock gave: with this reply, or memory was wanting for its body.
 pub record AnswersMessage (shared : Begun Start) (fails : Type 0) (old new : Story Start Event) (message : Message) (left later : Option (List ℕ)) (answer : Answer) : Type 0 where
   pub free : IsFree shared new
   pub made : List ℕ
@@ -45,9 +53,7 @@ pub record AnswersMessage (shared : Begun Start) (fails : Type 0) (old new : Sto
   pub given : GivesMoments left later moments
   pub reply : Reply
   pub replied : IsReplyTo fails (seen_by shared.start old) (seen_by shared.start new) message moments reply made
-  pub status : answer.status ≡ reply.status
-  pub body : IfOk answer.body (λ body. string_bytes body ≡ reply.body)
-  pub point : answer.point ≡ reply.point
+  pub carried : Carries answer reply
 
 -- ---- reads
 

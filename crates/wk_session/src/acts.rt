@@ -1,24 +1,28 @@
 //! What is answered under one turn.
-ghost use Rattle.std.specs.Prelude.{◌≡◌, ◌∷◌, [], None, false, true};
+ghost use Rattle.std.specs.Prelude.{◌≡◌, ℕ, List, ◌∷◌, [], None, Some, false, true};
 ghost use Rattle.wk_request.specs.Asked.{ask_of, request_asked};
 ghost use Rattle.wk_request.specs.Refusals.{Refuses};
-ghost use Rattle.wk_request_rules.specs.Requests.{ParsedRequest, valid};
+ghost use Rattle.wk_request_rules.specs.Requests.{ParsedRequest, text_to_transform, valid};
 ghost use Rattle.wk_answer_rules.specs.Answers.{asks_to_save};
 ghost use Rattle.wk_turn.specs.Told.{IsOf};
+ghost use Rattle.wk_read_laws.specs.Points.{AreReadSince};
 ghost use Rattle.wk_shared.specs.Calls.{MayFail};
-ghost use Rattle.wk_session.specs.Telling.{AnswersOn};
+ghost use Rattle.wk_session_rules.specs.Replies.{AreMomentsOf};
+ghost use Rattle.wk_session.specs.Telling.{AnswersOn, IsTried};
 
 use crate::desk::{give, look, take};
 use crate::telling::{Told, no_memory};
 use std::sync::Wait;
-use wk_answer::{act, answer, refused};
+use wk_answer::{act, act_with, answer, declined};
 use wk_core::Keeper;
 use wk_expand::Trees;
 use wk_readers::Reader;
 use wk_request::{Request, RequestRefusal};
 use wk_shared::Shared;
+use wk_subst::Substituted;
 
-/// Makes the save that a request asks for at this moment, under one turn. It waits.
+/// Makes the save that a request asks for at this moment, under one turn: where the text of an edit is to be transformed, it
+/// is transformed with the turn held. It waits.
 pub fn act_now<K: Keeper, R: Wait>(
     shared: &Shared<K>,
     rt: &R,
@@ -31,7 +35,7 @@ pub fn act_now<K: Keeper, R: Wait>(
     requires free { reader.old.pass.held ≡ None }
     requires unsealed { shared.now.start.sealed ≡ None }
     requires asks { asks_to_save (ask_of request.now.ask) ≡ true }
-    ensures { AnswersOn shared.now (MayFail K.is_whole K.faults shared.now.start) reader.old.pass reader.new.pass
+    ensures { AnswersOn shared.now (MayFail shared.now.start) reader.old.pass reader.new.pass
         (valid (request_asked request.now)) (moment ∷ []) result }
 {
     let mut held = take(shared, rt, reader);
@@ -47,6 +51,41 @@ pub fn act_now<K: Keeper, R: Wait>(
     }
 }
 
+/// Makes the save of an edit at this moment, under one turn, by what its text became before; none where a read of that isn't
+/// current any more, and nothing has happened then. It waits.
+pub fn act_made<K: Keeper, R: Wait>(
+    shared: &Shared<K>,
+    rt: &R,
+    reader: &mut Reader<K>,
+    request: &Request,
+    made: &Substituted,
+    moment: u64,
+) -> Option<Told>
+    requires turn { IsOf shared.now reader.old.pass }
+    requires free { reader.old.pass.held ≡ None }
+    requires unsealed { shared.now.start.sealed ≡ None }
+    requires asks { asks_to_save (ask_of request.now.ask) ≡ true }
+    requires given { text_to_transform (request_asked request.now) ≡ Some made.now.saved }
+    requires since { (from : ℕ) × AreReadSince shared.now.start reader.old.pass.seen from made.now.reads }
+    ensures { IsTried shared.now (MayFail shared.now.start) reader.old.pass reader.new.pass
+        (valid (request_asked request.now)) moment result }
+{
+    let mut held = take(shared, rt, reader);
+    let acted = act_with(&mut held.value, request, made, moment);
+    let alloc = held.value.allocator();
+    let point = give(shared, reader, held);
+    match acted {
+        Ok(answer) => match answer {
+            Some(value) => Some(Told {
+                value: Ok(value),
+                point,
+            }),
+            None => None,
+        },
+        Err(_) => Some(no_memory(alloc, point)),
+    }
+}
+
 /// Answers a request that asks for no save, under one turn. It waits.
 pub fn answer_now<K: Keeper, R: Wait>(
     shared: &Shared<K>,
@@ -58,7 +97,7 @@ pub fn answer_now<K: Keeper, R: Wait>(
     requires turn { IsOf shared.now reader.old.pass }
     requires free { reader.old.pass.held ≡ None }
     requires asks { asks_to_save (ask_of request.now.ask) ≡ false }
-    ensures { AnswersOn shared.now (MayFail K.is_whole K.faults shared.now.start) reader.old.pass reader.new.pass
+    ensures { AnswersOn shared.now (MayFail shared.now.start) reader.old.pass reader.new.pass
         (valid (request_asked request.now)) [] result }
 {
     let held = take(shared, rt, reader);
@@ -74,12 +113,15 @@ pub fn answer_now<K: Keeper, R: Wait>(
     }
 }
 
-/// Answers that memory is wanting, at the present point. It waits.
+/// Answers that memory is wanting, at the present point: also where it was wanting before it was known whether a moment is to be
+/// taken. It waits.
 pub fn starve<K: Keeper, R: Wait>(shared: &Shared<K>, rt: &R, reader: &mut Reader<K>) -> Told
     requires turn { IsOf shared.now reader.old.pass }
     requires free { reader.old.pass.held ≡ None }
-    ensures { (parsed : ParsedRequest) → AnswersOn shared.now (MayFail K.is_whole K.faults shared.now.start)
+    ensures unread { (parsed : ParsedRequest) → AnswersOn shared.now (MayFail shared.now.start)
         reader.old.pass reader.new.pass parsed [] result }
+    ensures timed { (parsed : ParsedRequest) (moments : List ℕ) → AreMomentsOf parsed moments
+        → AnswersOn shared.now (MayFail shared.now.start) reader.old.pass reader.new.pass parsed moments result }
 {
     let (alloc, point) = look(shared, rt, reader);
     no_memory(alloc, point)
@@ -95,17 +137,9 @@ pub fn decline<K: Keeper, R: Wait>(
     requires turn { IsOf shared.now reader.old.pass }
     requires free { reader.old.pass.held ≡ None }
     ensures { (parsed : ParsedRequest) → Refuses parsed refusal.now
-        → AnswersOn shared.now (MayFail K.is_whole K.faults shared.now.start) reader.old.pass reader.new.pass parsed [] result }
+        → AnswersOn shared.now (MayFail shared.now.start) reader.old.pass reader.new.pass parsed [] result }
 {
     let (alloc, point) = look(shared, rt, reader);
-    match refusal {
-        RequestRefusal::Memory => no_memory(alloc, point),
-        RequestRefusal::Refused { .. } => match refused(alloc, refusal, point) {
-            Ok(value) => Told {
-                value: Ok(value),
-                point,
-            },
-            Err(_) => no_memory(alloc, point),
-        },
-    }
+    let value = declined(alloc, refusal, point);
+    Told { value, point }
 }

@@ -2,7 +2,7 @@
 ghost use Rattle.std.specs.Prelude.{◌≡◌, None, Some};
 ghost use Rattle.wk_turn.specs.Told.{IsOf};
 ghost use Rattle.wk_shared.specs.Calls.{HasSeen};
-ghost use Rattle.wk_shared.specs.Desk.{IsGiven, IsTaken, MakesAtMostOne};
+ghost use Rattle.wk_shared.specs.Desk.{IsGiven, IsTaken, MakesAtMostOne, TellsOf};
 
 use std::alloc::Global;
 use std::sync::Wait;
@@ -14,7 +14,8 @@ use wk_shared::{Held, Shared};
 pub fn take<K: Keeper, R: Wait>(shared: &Shared<K>, rt: &R, reader: &mut Reader<K>) -> Held<Wiki<K>>
     requires turn { IsOf shared.now reader.old.pass }
     requires free { reader.old.pass.held ≡ None }
-    ensures taken { IsTaken K.is_whole shared.now reader.old.pass reader.new.pass result.value }
+    ensures taken { IsTaken shared.now reader.old.pass reader.new.pass result.value }
+    ensures keeper { TellsOf K.is_whole K.faults result.value.start result.value.keeper }
     ensures before { result.before.value ≡ result.value }
 {
     let held = reader.enter(shared, rt);

@@ -7,6 +7,7 @@ mod asks;
 mod desk;
 mod reads;
 mod replies;
+mod saves;
 mod serving;
 mod session;
 mod steps;

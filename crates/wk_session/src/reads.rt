@@ -1,10 +1,8 @@
 //! What is answered by a read of its own.
-ghost use Rattle.std.specs.Prelude.{◌≡◌, ◌≤◌, [], Err, None, Ok, true, IfErr, IfOk, IfSome, IsTrue, length};
-ghost use Rattle.wk_page_rules.specs.Verdict.{real_title};
+ghost use Rattle.std.specs.Prelude.{◌≡◌, ◌≤◌, [], None, IfErr, IfOk, IfSome, IsTrue, length};
 ghost use Rattle.wk_wiki_laws.specs.Kept.{IsKept};
-ghost use Rattle.wk_request.specs.Asked.{ask_of, request_asked};
+ghost use Rattle.wk_request.specs.Asked.{ask_of, read_of, request_asked};
 ghost use Rattle.wk_request_rules.specs.Requests.{valid};
-ghost use Rattle.wk_answer.specs.Readings.{asks_to_expand};
 ghost use Rattle.wk_turn.specs.Told.{IsOf};
 ghost use Rattle.wk_shared.specs.Calls.{MayFail};
 ghost use Rattle.wk_readers.specs.Looks.{HasRead};
@@ -16,7 +14,7 @@ use crate::desk::look;
 use crate::telling::{Told, no_memory};
 use std::alloc::Global;
 use std::sync::Wait;
-use wk_answer::read_reply;
+use wk_answer::{read_reply, real_title};
 use wk_base::Gate;
 use wk_bytes::Text;
 use wk_core::{Keeper, PageRead, ReadRefusal};
@@ -24,38 +22,22 @@ use wk_expand::Trees;
 use wk_good_rows::MAX_TEXT;
 use wk_memory::Memory;
 use wk_readers::{Worker, read_page, read_text};
-use wk_request::{Ask, Request};
+use wk_request::{ReadAsked, Request};
 use wk_shared::Shared;
 use wk_title::{Title, named};
 
-/// The page that a text names: its title, in main by default; none where it names no title, or one in a virtual namespace.
-fn page_title(alloc: Global, page: &str) -> Result<Option<Title>, Memory>
-    ensures { IfOk result (λ title. title ≡ real_title page.now) }
-{
-    match named(alloc, page, 0)? {
-        Some(title) => {
-            if title.is_virtual() {
-                return Ok(None);
-            }
-            Ok(Some(title))
-        }
-        None => Ok(None),
-    }
-}
-
 /// The title whose page is read for what is asked, if one is: none where it names no such title, or the text is too long.
-fn title_to_read(alloc: Global, ask: &Ask) -> Result<Option<Title>, Memory>
-    ensures { IfOk result (λ title. IfSome title (λ t. IsTitleOf (ask_of ask.now) t)) }
+fn title_to_read(alloc: Global, asked: &ReadAsked<'_>) -> Result<Option<Title>, Memory>
+    ensures { IfOk result (λ title. IfSome title (λ t. IsTitleOf (read_of asked.now) t)) }
 {
-    match ask {
-        Ask::Parse { page } => page_title(alloc, page),
-        Ask::Expand { text, title } => {
+    match asked {
+        ReadAsked::Page { page } => real_title(alloc, page),
+        ReadAsked::Text { text, title } => {
             if MAX_TEXT < text.len() {
                 return Ok(None);
             }
             named(alloc, title, 0)
         }
-        _ => Ok(None),
     }
 }
 
@@ -65,20 +47,19 @@ fn read_asked<K: Keeper, R: Wait, G: Gate>(
     rt: &R,
     alloc: Global,
     worker: &mut Worker<K, G>,
-    ask: &Ask,
+    asked: &ReadAsked<'_>,
     title: &Title,
     least: u64,
 ) -> Result<PageRead, ReadRefusal>
     requires turn { IsOf shared.now worker.old.reader.pass }
     requires free { worker.old.reader.pass.held ≡ None }
-    requires asks { asks_to_expand (ask_of ask.now) ≡ true }
-    requires title { IsTitleOf (ask_of ask.now) title.now }
+    requires title { IsTitleOf (read_of asked.now) title.now }
     ensures pass { HasRead shared.now worker.old.reader.pass worker.new.reader.pass }
-    ensures read { IfOk result (IsAnswered shared.now worker.old.reader.pass worker.new.reader.pass title.now (text_asked (ask_of ask.now)) least) }
+    ensures read { IfOk result (IsAnswered shared.now worker.old.reader.pass worker.new.reader.pass title.now (text_asked (read_of asked.now)) least) }
     ensures late { IfErr result (IsLate least worker.new.reader.pass) }
 {
-    match ask {
-        Ask::Parse { .. } => read_page(
+    match asked {
+        ReadAsked::Page { .. } => read_page(
             shared,
             rt,
             &mut worker.reader,
@@ -86,7 +67,7 @@ fn read_asked<K: Keeper, R: Wait, G: Gate>(
             least,
             &mut worker.gate,
         ),
-        Ask::Expand { text, .. } => match Text::new(alloc, text) {
+        ReadAsked::Text { text, .. } => match Text::new(alloc, text) {
             Ok(text) => {
                 read_text(
                     shared,
@@ -100,7 +81,6 @@ fn read_asked<K: Keeper, R: Wait, G: Gate>(
             }
             Err(Memory) => Err(ReadRefusal::Memory),
         },
-        _ => unreachable!(),
     }
 }
 
@@ -111,26 +91,19 @@ fn answer_by_read<K: Keeper, R: Wait, G: Gate>(
     alloc: Global,
     worker: &mut Worker<K, G>,
     request: &Request,
+    asked: &ReadAsked<'_>,
     title: &Title,
 ) -> Told
     requires turn { IsOf shared.now worker.old.reader.pass }
     requires free { worker.old.reader.pass.held ≡ None }
     requires kept { IsKept shared.now.start.state }
-    requires asks { asks_to_expand (ask_of request.now.ask) ≡ true }
-    requires title { IsTitleOf (ask_of request.now.ask) title.now }
+    requires asks { read_of asked.now ≡ ask_of request.now.ask }
+    requires title { IsTitleOf (read_of asked.now) title.now }
     requires reached { request.now.least ≤ length worker.old.reader.pass.seen }
-    ensures { AnswersOn shared.now (MayFail K.is_whole K.faults shared.now.start) worker.old.reader.pass worker.new.reader.pass
+    ensures { AnswersOn shared.now (MayFail shared.now.start) worker.old.reader.pass worker.new.reader.pass
         (valid (request_asked request.now)) [] result }
 {
-    match read_asked(
-        shared,
-        rt,
-        alloc,
-        worker,
-        &request.ask,
-        title,
-        request.least,
-    ) {
+    match read_asked(shared, rt, alloc, worker, asked, title, request.least) {
         Ok(read) => {
             let point = read.point;
             match read_reply(alloc, request, &Ok(read)) {
@@ -172,16 +145,17 @@ pub fn expand_now<K: Keeper, R: Wait, G: Gate>(
     alloc: Global,
     worker: &mut Worker<K, G>,
     request: &Request,
+    asked: &ReadAsked<'_>,
     trees: &mut Trees,
 ) -> Told
     requires turn { IsOf shared.now worker.old.reader.pass }
     requires free { worker.old.reader.pass.held ≡ None }
     requires kept { IsKept shared.now.start.state }
-    requires asks { asks_to_expand (ask_of request.now.ask) ≡ true }
-    ensures { AnswersOn shared.now (MayFail K.is_whole K.faults shared.now.start) worker.old.reader.pass worker.new.reader.pass
+    requires asks { read_of asked.now ≡ ask_of request.now.ask }
+    ensures { AnswersOn shared.now (MayFail shared.now.start) worker.old.reader.pass worker.new.reader.pass
         (valid (request_asked request.now)) [] result }
 {
-    let title = match title_to_read(alloc, &request.ask) {
+    let title = match title_to_read(alloc, asked) {
         Ok(Some(title)) => title,
         Ok(None) => return answer_now(shared, rt, &mut worker.reader, request, trees),
         Err(_) => return starve(shared, rt, &mut worker.reader),
@@ -189,5 +163,5 @@ pub fn expand_now<K: Keeper, R: Wait, G: Gate>(
     if !reach(shared, rt, worker, request.least) {
         return answer_now(shared, rt, &mut worker.reader, request, trees);
     }
-    answer_by_read(shared, rt, alloc, worker, request, &title)
+    answer_by_read(shared, rt, alloc, worker, request, asked, &title)
 }

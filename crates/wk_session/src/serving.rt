@@ -1,75 +1,26 @@
 //! A message of a session, from its bytes to its step.
-ghost use Rattle.std.specs.Prelude.{◌≡◌, ◌≢◌, ◌≤◌, ◌<◌, ◌++◌, None, Err, IfOk, string_bytes, vec_capacity, vec_len};
+ghost use Rattle.std.specs.Prelude.{◌≡◌, ◌≢◌, ◌≤◌, ◌<◌, ◌++◌, None, Err, vec_capacity, vec_len};
 ghost use Rattle.std.specs.Option.{option_to_list};
 ghost use Rattle.wk_base.specs.Faults.{Rose};
-ghost use Rattle.wk_wire_rules.specs.Heads.{Message};
-ghost use Rattle.wk_wire_rules.specs.Responses.{response};
 ghost use Rattle.wk_http.specs.Requests.{message_in};
 ghost use Rattle.wk_wiki_laws.specs.Kept.{IsKept};
 ghost use Rattle.wk_turn.specs.Told.{IsOf};
 ghost use Rattle.wk_shared.specs.Calls.{MayFail, seen_by};
-ghost use Rattle.wk_session_rules.specs.Replies.{Reply, sent};
 ghost use Rattle.wk_session.specs.Passes.{IsFree};
-ghost use Rattle.wk_session.specs.Serving.{IsReplied, IsSent, IsServed};
+ghost use Rattle.wk_session.specs.Serving.{IsReplied, IsServed};
 
-use crate::replies::{Answer, answer_message};
+use crate::replies::answer_message;
 use crate::steps::step;
 use std::alloc::Global;
 use std::sync::Wait;
-use wk_base::{Clock, Failed, Gate};
+use wk_base::{Clock, Gate};
 use wk_core::Keeper;
 use wk_expand::Trees;
-use wk_http::{HttpRequest, Refresh, SessionEnd, response};
-use wk_link::{Link, send_all};
+use wk_http::{HttpRequest, Refresh, SessionEnd};
+use wk_link::Link;
 use wk_readers::Worker;
+use wk_sending::send_answer;
 use wk_shared::Shared;
-
-/// Sends a response, in as few writes as the link takes. `close` says that the connection ends with it.
-pub fn send<L: Link>(
-    alloc: Global,
-    link: &mut L,
-    status: u16,
-    body: &[u8],
-    close: bool,
-) -> Result<(), SessionEnd>
-    ensures sent { IsSent (response status body.now close) (L.Sink.taken link.old) (L.Sink.taken link.new) result }
-    ensures never_falls { L.Sink.faults link.old ≤ L.Sink.faults link.new }
-    ensures no_fault { result ≢ Err SessionEnd.WriteFault → L.Sink.faults link.new ≡ L.Sink.faults link.old }
-    ensures cause { result ≡ Err SessionEnd.WriteFault → Rose (L.Sink.faults link.old) (L.Sink.faults link.new) }
-    ensures rest { L.Source.rest link.new ≡ L.Source.rest link.old }
-    ensures read_faults { L.Source.faults link.new ≡ L.Source.faults link.old }
-{
-    let mut bytes = Vec::new(alloc);
-    if let Err(_) = response(status, body, close, &mut bytes) {
-        return Err(SessionEnd::Memory);
-    }
-    match send_all(link, &bytes) {
-        Ok(()) => Ok(()),
-        Err(Failed) => Err(SessionEnd::WriteFault),
-    }
-}
-
-/// Sends the reply to a message, if memory was there for it.
-fn send_answer<L: Link>(
-    alloc: Global,
-    link: &mut L,
-    answer: &Answer,
-    close: bool,
-) -> Result<(), SessionEnd>
-    ensures sent { (message : Message) (reply : Reply) → close ≡ message.last → answer.now.status ≡ reply.status
-        → IfOk answer.now.body (λ body. string_bytes body ≡ reply.body)
-        → IsSent (sent message reply) (L.Sink.taken link.old) (L.Sink.taken link.new) result }
-    ensures never_falls { L.Sink.faults link.old ≤ L.Sink.faults link.new }
-    ensures no_fault { result ≢ Err SessionEnd.WriteFault → L.Sink.faults link.new ≡ L.Sink.faults link.old }
-    ensures cause { result ≡ Err SessionEnd.WriteFault → Rose (L.Sink.faults link.old) (L.Sink.faults link.new) }
-    ensures rest { L.Source.rest link.new ≡ L.Source.rest link.old }
-    ensures read_faults { L.Source.faults link.new ≡ L.Source.faults link.old }
-{
-    match &answer.body {
-        Ok(body) => send(alloc, link, answer.status, body.as_bytes(), close),
-        Err(_) => Err(SessionEnd::Memory),
-    }
-}
 
 /// Puts a point to the others, if there is one. Takes no memory.
 fn note(points: &mut Vec<u64>, point: Option<u64>)
@@ -98,7 +49,7 @@ fn reply_to<K: Keeper, R: Wait, L: Link, C: Clock, G: Gate>(
     requires unsealed { shared.now.start.sealed ≡ None }
     requires kept { IsKept shared.now.start.state }
     ensures free { IsFree shared.now worker.new.reader.pass }
-    ensures replied { IsReplied (MayFail K.is_whole K.faults shared.now.start)
+    ensures replied { IsReplied (MayFail shared.now.start)
         (seen_by shared.now.start worker.old.reader.pass) (seen_by shared.now.start worker.new.reader.pass) (message_in message.now)
         (record { rest = L.Source.rest link.old; moments = C.left clock.old; taken = L.Sink.taken link.old })
         (record { rest = L.Source.rest link.new; moments = C.left clock.new; taken = L.Sink.taken link.new })
@@ -134,7 +85,7 @@ pub fn serve_one<K: Keeper, R: Wait, L: Link, C: Clock, G: Gate>(
     requires unsealed { shared.now.start.sealed ≡ None }
     requires kept { IsKept shared.now.start.state }
     ensures free { IsFree shared.now worker.new.reader.pass }
-    ensures served { IsServed (MayFail K.is_whole K.faults shared.now.start)
+    ensures served { IsServed (MayFail shared.now.start)
         (seen_by shared.now.start worker.old.reader.pass) (seen_by shared.now.start worker.new.reader.pass) (message_in message.now)
         (record { rest = L.Source.rest link.old; moments = C.left clock.old; taken = L.Sink.taken link.old })
         (record { rest = L.Source.rest link.new; moments = C.left clock.new; taken = L.Sink.taken link.new })

@@ -7,10 +7,10 @@ ghost use Rattle.wk_shared.specs.Calls.{MayFail, seen_by};
 ghost use Rattle.wk_session_rules.specs.Exchanges.{is_done, jobs_done};
 ghost use Rattle.wk_session_rules.specs.Sessions.{IsSession};
 ghost use Rattle.wk_session.specs.Passes.{IsFree};
-ghost use Rattle.wk_session.specs.Serving.{IsCounted, IsEnded};
+ghost use Rattle.wk_sending.specs.Sending.{IsCounted};
 
 use crate::desk::look;
-use crate::serving::{send, serve_one};
+use crate::serving::serve_one;
 use std::alloc::Global;
 use std::sync::Wait;
 use wk_base::{Clock, Gate};
@@ -20,6 +20,7 @@ use wk_http::{Refresh, SessionEnd, SessionReport, a_message_is_short};
 use wk_link::Link;
 use wk_messages::MessageReader;
 use wk_readers::Worker;
+use wk_sending::end_reading;
 use wk_shared::Shared;
 
 fn is_done(refresh: Refresh) -> bool
@@ -41,24 +42,6 @@ fn jobs_done(refreshes: &[(u64, Refresh)]) -> u64
         .count() as u64
 }
 
-/// The end of a session whose reading ended so: to a bad place its status is sent, with which the connection ends.
-fn end_reading<L: Link>(alloc: Global, link: &mut L, end: SessionEnd) -> SessionEnd
-    ensures ended { IsEnded (L.Sink.taken link.old) (L.Sink.taken link.new) end result }
-    ensures never_falls { L.Sink.faults link.old ≤ L.Sink.faults link.new }
-    ensures no_fault { result ≢ SessionEnd.WriteFault → L.Sink.faults link.new ≡ L.Sink.faults link.old }
-    ensures cause { result ≡ SessionEnd.WriteFault → end ≢ SessionEnd.WriteFault → Rose (L.Sink.faults link.old) (L.Sink.faults link.new) }
-    ensures rest { L.Source.rest link.new ≡ L.Source.rest link.old }
-    ensures read_faults { L.Source.faults link.new ≡ L.Source.faults link.old }
-{
-    match end {
-        SessionEnd::Bad(status) => match send(alloc, link, status, &[], true) {
-            Ok(()) => end,
-            Err(unsent) => unsent,
-        },
-        _ => end,
-    }
-}
-
 /// Serves the messages of a connection, of which none was read yet. It waits.
 fn serve_all<K: Keeper, R: Wait, L: Link, C: Clock, G: Gate>(
     shared: &Shared<K>,
@@ -78,7 +61,7 @@ fn serve_all<K: Keeper, R: Wait, L: Link, C: Clock, G: Gate>(
     requires no_point { points.old.items ≡ [] }
     requires no_refresh { refreshes.old.items ≡ [] }
     ensures free { IsFree shared.now worker.new.reader.pass }
-    ensures session { IsSession (MayFail K.is_whole K.faults shared.now.start)
+    ensures session { IsSession (MayFail shared.now.start)
         (seen_by shared.now.start worker.old.reader.pass) (seen_by shared.now.start worker.new.reader.pass)
         (record { rest = L.Source.rest link.old; moments = C.left clock.old; taken = L.Sink.taken link.old })
         (record { rest = L.Source.rest link.new; moments = C.left clock.new; taken = L.Sink.taken link.new })
@@ -114,6 +97,10 @@ fn serve_all<K: Keeper, R: Wait, L: Link, C: Clock, G: Gate>(
 ///   what the rules answer in the state at that point; or an edit or a deletion made the event that stands at that point, which
 ///   is the pass's own. A moment of the clock is taken for each message whose request is an edit or a deletion. Where memory is
 ///   wanting, or the store fails at an event, the reply is that error.
+/// - The text of an edit with the flag `subst` is transformed before it is judged (MediaWiki's Help:Substitution): without the
+///   turn, while others may save, and saved where all that was read for it is current then; after three transforms of which that
+///   isn't so, with the turn held. What is stored is so the transform in the state at the point before the event. The moment is
+///   taken once, before the first transform.
 /// - A reply is sent in one piece, as far as the link takes it so. Behind each that was sent in full one step is made
 ///   (`refresh_one`), and put to the report with the length of the journal that the pass has seen then. What is refused there
 ///   doesn't end the session.
@@ -133,7 +120,7 @@ pub fn serve_session<K: Keeper, R: Wait, L: Link, C: Clock, G: Gate>(
     requires free { worker.old.reader.pass.held ≡ None }
     requires unsealed { shared.now.start.sealed ≡ None }
     ensures free { IsFree shared.now worker.new.reader.pass }
-    ensures session { IsSession (MayFail K.is_whole K.faults shared.now.start)
+    ensures session { IsSession (MayFail shared.now.start)
         (seen_by shared.now.start worker.old.reader.pass) (seen_by shared.now.start worker.new.reader.pass)
         (record { rest = L.Source.rest link.old; moments = C.left clock.old; taken = L.Sink.taken link.old })
         (record { rest = L.Source.rest link.new; moments = C.left clock.new; taken = L.Sink.taken link.new })

@@ -35,7 +35,7 @@ pub fn step<K: Keeper, R: Wait, G: Gate>(
 ) -> Refresh
     requires turn { IsOf shared.now worker.old.reader.pass }
     requires free { worker.old.reader.pass.held ≡ None }
-    ensures { IsStepTold shared.now (MayFail K.is_whole K.faults shared.now.start) worker.old.reader.pass worker.new.reader.pass result }
+    ensures { IsStepTold shared.now (MayFail shared.now.start) worker.old.reader.pass worker.new.reader.pass result }
 {
     let refreshed = refresh_one(shared, rt, &mut worker.reader, &mut worker.gate);
     kind_of(&refreshed)

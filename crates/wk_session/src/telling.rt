@@ -5,7 +5,6 @@ ghost use Rattle.wk_answer_rules.specs.ApiErrors.{api_error, nomemory};
 
 use serde_json::Value;
 use std::alloc::Global;
-use wk_answer::error_reply;
 use wk_memory::Memory;
 
 /// The value of a reply, and the point that it shows.
@@ -21,7 +20,7 @@ pub fn no_memory(alloc: Global, point: u64) -> Told
     ensures point { result.point ≡ point }
 {
     Told {
-        value: error_reply(alloc, "nomemory", "Out of memory.", point),
+        value: wk_answer::no_memory(alloc, point),
         point,
     }
 }

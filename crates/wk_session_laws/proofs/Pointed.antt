@@ -164,16 +164,16 @@ reached : (least point : ℕ) → least ≤ point → nat_lt point least ≡ fal
 reached least point le = le-ltb point least le
 
 parse_told : (new : PassSeen) (state : State) (least point moment : ℕ) (page : List ℕ) → least ≤ point
-    → answer_to_request new.start.limits state point moment (record { least = least; ask = parse page }) ≡ read_at point (parse_answer state page)
+    → answer_to_request new.start.limits state point moment (record { least = least; ask = parse page; subst = false }) ≡ read_at point (parse_answer state page)
 unfolding answer_to_request
 parse_told new state least point moment page le =
     ap (λ (b : Bool). cond b (failed_at point (futurepoint point)) (read_at point (parse_answer state page))) (reached least point le)
 
 pub parse_reached : (failing : Type 0) (old new : PassSeen) (least : ℕ) (page moments : List ℕ) (reply : ApiReply) (made : List ℕ) → least ≤ reply.point
-    → IsAnswered failing old new (valid (record { least = least; ask = parse page })) moments reply made → IsParsedOrStarved new (length old.journal) page reply
+    → IsAnswered failing old new (valid (record { least = least; ask = parse page; subst = false })) moments reply made → IsParsedOrStarved new (length old.journal) page reply
 parse_reached failing old new least page moments reply made le (read {point = point} {state = state} are at no_event) =
     let low = at.later in
-    let p = placed new.start.limits state point (first_moment moments) (valid (record { least = least; ask = parse page })) in
+    let p = placed new.start.limits state point (first_moment moments) (valid (record { least = least; ask = parse page; subst = false })) in
     let l = ap (λ (o : Option Event). length (option_to_list o)) no_event in
     let told = ap (λ (a : Answered). a.reply) (parse_told new state least point (first_moment moments) page (omega (arith, le, p, l))) in
     let shown : reply.point ≡ point = ap (λ (r : ApiReply). r.point) told ∙ read_shows point (parse_answer state page) in
@@ -184,14 +184,14 @@ parse_reached failing old new least page moments reply made le (read {point = po
       told = told ∙ ap (λ n. (read_at n (parse_answer state page)).reply) (sym shown);
     })
 parse_reached failing old new least page moments reply made le (saved {point = point} {state = state} {event = event} are at is entry) =
-    absurd (let e : None ≡ Some event = sym (request-none new.start.limits state point (first_moment moments) (record { least = least; ask = parse page }) refl) ∙ is in cc)
+    absurd (let e : None ≡ Some event = sym (request-none new.start.limits state point (first_moment moments) (record { least = least; ask = parse page; subst = false }) refl) ∙ is in cc)
 parse_reached failing old new least page moments reply made le (store_failed {point = point} {state = state} {event = event} are at is may) =
-    absurd (let e : None ≡ Some event = sym (request-none new.start.limits state point (first_moment moments) (record { least = least; ask = parse page }) refl) ∙ is in cc)
+    absurd (let e : None ≡ Some event = sym (request-none new.start.limits state point (first_moment moments) (record { least = least; ask = parse page; subst = false }) refl) ∙ is in cc)
 parse_reached failing old new least page moments reply made le (out_of_memory are at) = inr refl
 parse_reached failing old new least page moments reply made le (unread at) = inr refl
 
 pub parse_answered : (failing : Type 0) (old new : PassSeen) (least : ℕ) (page moments : List ℕ) (reply : ApiReply) (made : List ℕ) → least ≤ length old.journal
-    → IsAnswered failing old new (valid (record { least = least; ask = parse page })) moments reply made → IsParsedOrStarved new (length old.journal) page reply
+    → IsAnswered failing old new (valid (record { least = least; ask = parse page; subst = false })) moments reply made → IsParsedOrStarved new (length old.journal) page reply
 parse_answered failing old new least page moments reply made le x =
-    let since = (answered_between failing old new (valid (record { least = least; ask = parse page })) moments reply made x).0 in
+    let since = (answered_between failing old new (valid (record { least = least; ask = parse page; subst = false })) moments reply made x).0 in
     parse_reached failing old new least page moments reply made (omega (arith, le, since)) x

@@ -1,7 +1,7 @@
 -- What a message of a connection is answered (own; the statuses are those of RFC 9110 section 15). A message is judged by its
 -- method, then by its path, then by its body's type; if it passes, it is a request of the API, and the reply has status 200
 -- whatever the API answers.
-use Rattle.std.specs.Prelude.{◌≡◌, ◌≢◌, ℕ, Bool, true, false, not, ◌==◌, ◌&&◌, List, [], ◌∷◌, length, slice_get, bytes_eq, codes, Option, Some, None, if◌then◌else◌}
+use Rattle.std.specs.Prelude.{◌≡◌, ◌≢◌, ℕ, Bool, true, false, not, List, [], ◌∷◌, length, slice_get, bytes_eq, codes, Option, Some, None, if◌then◌else◌}
 use Rattle.serde_json.specs.Written.{compact_text}
 use Rattle.wk_base.specs.Clock.{first_moment}
 use Rattle.wk_wire_rules.specs.Heads.{Message, is_post}

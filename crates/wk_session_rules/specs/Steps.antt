@@ -38,11 +38,11 @@ pub record HasChanged (pass : PassSeen) (from at : ℕ) : Type 0 where
   pub stands : state_seen pass at ≡ Some is
   pub differs : mark (answer_in (world_of was) title kind) ≢ mark (answer_in (world_of is) title kind)
 
--- the journal has no room for the first fan job, or for a claim of the first refresh job
+-- the journal has no room for the first fan job; or no fan job stands, and it has none for a claim of the first refresh job
 abbrev pub IsFull : PassSeen → State → ℕ → Type 0
 IsFull pass state point =
     (IsSome (first_fan state.jobs) × (is_fan_refused pass.start.limits state point ≡ true))
-    ⊎ (IsSome (first_queued state.jobs) × (is_claim_refused pass.start.limits state point ≡ true))
+    ⊎ ((first_fan state.jobs ≡ None) × IsSome (first_queued state.jobs) × (is_claim_refused pass.start.limits state point ≡ true))
 
 -- What the step is told to have done, and the places of the entries that it made. `fails` holds where the store may fail.
 pub data IsStep (fails : Type 0) (old new : PassSeen) : Refresh → List ℕ → Type 0 where

@@ -6,3 +6,4 @@ pub mod AnswerLaws
 pub mod ApartLaws
 pub mod KeepLaws
 pub mod LookLaws
+pub mod SubstLaws

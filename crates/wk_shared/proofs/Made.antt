@@ -1,5 +1,5 @@
 -- What a call under the turn is, by what the wiki's call made of the wiki that was taken.
-use Rattle.std.proofs.Common.{◌≡◌, ℕ, ◌+◌, ◌-◌, Bool, List, [], ◌∷◌, ◌++◌, length, Option, Some, None, refl, sym, ap, ◌∙◌, subst, arith, length-append}
+use Rattle.std.proofs.Common.{◌≡◌, ℕ, ◌+◌, ◌-◌, List, [], ◌∷◌, ◌++◌, length, Option, Some, None, refl, sym, ap, ◌∙◌, subst, arith, length-append}
 use Rattle.std.specs.Prelude.{option_map, option_to_list, slice_get, Result, Ok, Err, IfOk, IfSome}
 use Rattle.std.proofs.lemmas.List.{append-nil}
 use mathlib.Core.List.{IsPrefix}
@@ -41,7 +41,7 @@ claimed-number state point ticket is = by (first_queued state.jobs) is
         let number : ticket.ticket ≡ point + 1 = ap (λ (t : ClaimOutcome). t.ticket) same in
         omega (arith, number)
 
-module _ {K : Type 0} (is_whole : K → Bool) (shared : Begun Start) (old mid : Story Start Event) (wiki : WikiSeen K) (taken : IsTaken is_whole shared old mid wiki) where
+module _ {K : Type 0} (shared : Begun Start) (old mid : Story Start Event) (wiki : WikiSeen K) (taken : IsTaken shared old mid wiki) where
   run-taken : IsRun shared.start wiki.journal wiki.state
   run-taken = subst (λ (s : Start). IsRun s wiki.journal wiki.state) taken.start taken.run
 
@@ -53,7 +53,7 @@ module _ {K : Type 0} (is_whole : K → Bool) (shared : Begun Start) (old mid : 
   pub fit-taken : (ticket : ClaimOutcome) (draft : DraftShown) → HoldsDraft shared.start old ticket draft → IsDraftFor wiki.state ticket draft
   fit-taken ticket draft holds = fit-later shared.start old wiki.journal wiki.state ticket run-taken taken.seen draft holds
 
-module _ {K : Type 0} (told : K → Option StoreTables) (is_whole : K → Bool) (shared : Begun Start) (old mid : Story Start Event) (wiki after : WikiSeen K) (taken : IsTaken is_whole shared old mid wiki) where
+module _ {K : Type 0} (told : K → Option StoreTables) (shared : Begun Start) (old mid : Story Start Event) (wiki after : WikiSeen K) (taken : IsTaken shared old mid wiki) where
   -- what is asked where the wiki is given back
   pub makes : (Call : Start → State → ℕ → Option Event → Type 0) (before : WikiSeen K) → before ≡ wiki → Outcome told old.own wiki after Call → MakesAtMostOne mid.own before after
   makes Call before same out =
@@ -112,7 +112,7 @@ module _ {K : Type 0} (told : K → Option StoreTables) (is_whole : K → Bool) 
         opened = taken.still_open (ticket.ticket - 1) holds.claim
 
         out-then : IsOut wiki.state ticket
-        out-then = out-taken is_whole shared old mid wiki taken ticket holds
+        out-then = out-taken shared old mid wiki taken ticket holds
 
         out-now : (event : Option Event) → HasMadeAtMost told wiki after event → LeavesOut ticket event → IsOut after.state ticket
         out-now None made leaves = subst (λ (s : State). IsOut s ticket) (sym (ap (λ (w : WikiSeen K). w.state) made.wiki)) out-then

@@ -1,5 +1,5 @@
 -- What each call of the wiki comes to: one event or none, which closes at most what is open, and what is told of it.
-use Rattle.std.proofs.Common.{◌≡◌, ◌≢◌, ℕ, ◌+◌, ◌-◌, ◌≤◌, ◌^◌, Bool, true, false, min, List, length, Option, Some, None, refl, ap, ◌∙◌, subst, arith}
+use Rattle.std.proofs.Common.{◌≡◌, ◌≢◌, ℕ, ◌+◌, ◌-◌, ◌≤◌, ◌^◌, Bool, true, false, min, List, length, Option, Some, None, refl, sym, ap, ◌∙◌, subst, arith}
 use Rattle.std.specs.Prelude.{IsSome, IfSome, IfNone, Result, Ok, Err, IfOk, IfErr, OnOk, OnErr, option_map}
 use Rattle.wk_base.specs.Faults.{Rose}
 use Rattle.wk_table_rules.specs.Rows.{StoreTables}
@@ -23,7 +23,7 @@ use Rattle.wk_revs.specs.declared.verdict.SaveRefusal.{SaveRefusal}
 use Rattle.wk_expand.specs.Answers.{answer_of}
 use Rattle.wk_expand.specs.declared.answer.Answer.{Answer}
 use Rattle.wk_core.specs.Answers.{event_of_answer, fanned_outcome, saved_outcome, told_stale}
-use Rattle.wk_core.specs.Seen.{WikiSeen, is_claim_refused_now, is_fan_refused_now, verdict_now}
+use Rattle.wk_core.specs.Seen.{WikiSeen, failed_where, is_claim_refused_now, is_fan_refused_now, verdict_now}
 use Rattle.wk_core.specs.Steps.{HasMade, HasMadeAtMost, HasMadeNothing}
 use Rattle.wk_core.specs.declared.outcomes.ClaimRefusal.{ClaimRefusal}
 use Rattle.wk_core.specs.declared.outcomes.ClaimRefusal.TheVariants as claim
@@ -36,7 +36,7 @@ use Rattle.wk_core.specs.declared.outcomes.Saved.{Saved}
 use Rattle.wk_turn.specs.Journal.{IsOpen}
 use Rattle.wk_shared.specs.Answers.{BackTold, ClaimTold, FanTold, FetchTold, FinishTold, SaveTold}
 use Rattle.wk_shared.specs.Calls.{MayFail}
-use Rattle.wk_shared.specs.Desk.{ClosesOpen}
+use Rattle.wk_shared.specs.Desk.{ClosesOpen, TellsOf}
 
 pub record Outcome {K : Type 0} (told : K → Option StoreTables) (own : List ℕ) (old new : WikiSeen K) (Call : Start → State → ℕ → Option Event → Type 0) : Type 0 where
   pub event : Option Event
@@ -172,9 +172,13 @@ fetch-made told own old title kind answer answered = record {
 at-end : (before now : ℕ) → Rose before now → now ≡ before → 2 ^ 64 - 1 ≤ before
 at-end before now rose same = let up : min (before + 1) (2 ^ 64 - 1) ≤ now = rose in grind arith
 
+-- the count of faults rose, which stays where the keeper is whole
+rose-at-end : (whole : Bool) (before now : ℕ) (failed : Option ℕ) → (whole ≡ true → now ≡ before) → Rose before now → failed_where whole before ≡ failed → IfSome failed (λ n. 2 ^ 64 - 1 ≤ n)
+rose-at-end true before now failed kept rose told = subst (λ (o : Option ℕ). IfSome o (λ n. 2 ^ 64 - 1 ≤ n)) told (at-end before now rose (kept refl))
+rose-at-end false before now failed kept rose told = subst (λ (o : Option ℕ). IfSome o (λ n. 2 ^ 64 - 1 ≤ n)) told tt
+
 -- a fault where the count of faults rose
-pub may-fail : {K : Type 0} (is_whole : K → Bool) (faults : K → ℕ) (start : Start) (old new : WikiSeen K) → old.start ≡ start → is_whole old.keeper ≡ old.start.whole
-    → (old.start.whole ≡ true → faults new.keeper ≡ faults old.keeper) → Rose (faults old.keeper) (faults new.keeper) → MayFail is_whole faults start
-may-fail is_whole faults start old new same whole kept rose = λ is.
-    let there : old.start.whole ≡ true = ap (λ (s : Start). s.whole) same ∙ is in
-    (old.keeper, whole ∙ there, at-end (faults old.keeper) (faults new.keeper) rose (kept there))
+pub may-fail : {K : Type 0} (is_whole : K → Bool) (faults : K → ℕ) (start : Start) (old new : WikiSeen K) → old.start ≡ start → TellsOf is_whole faults old.start old.keeper
+    → (old.start.whole ≡ true → faults new.keeper ≡ faults old.keeper) → Rose (faults old.keeper) (faults new.keeper) → MayFail start
+may-fail is_whole faults start old new same tells kept rose =
+    subst MayFail same (rose-at-end (is_whole old.keeper) (faults old.keeper) (faults new.keeper) old.start.failed (λ is. kept (sym tells.whole ∙ is)) rose tells.failed)

@@ -1,5 +1,5 @@
 -- Calls of a shared wiki, as the pass of the caller tells them (own). A point is the length of a journal.
-use Rattle.std.specs.Prelude.{◌≡◌, ◌≢◌, ℕ, ◌+◌, ◌-◌, ◌≤◌, ◌^◌, Bool, true, [], ◌∷◌, ◌++◌, length, slice_get, Option, Some, None, IfSome}
+use Rattle.std.specs.Prelude.{◌≡◌, ◌≢◌, ℕ, ◌+◌, ◌-◌, ◌≤◌, ◌^◌, [], ◌∷◌, ◌++◌, length, slice_get, Option, Some, None, IfSome}
 use mathlib.Core.List.{IsPrefix}
 use Rattle.wk_wiki_rules.specs.States.{State}
 use Rattle.wk_wiki_rules.specs.Events.{Event}
@@ -77,7 +77,7 @@ pub record IsMadeAt (start : Start) (old new : Story Start Event) (Call : Start 
   -- each ticket that the pass held, and that the event doesn't bring in, it holds still
   pub tickets : (ticket : ClaimOutcome) → HoldsTicket start old ticket → LeavesOut ticket event → HoldsTicket start new ticket
 
--- A keeper that tells that it is whole, and whose count of faults stands at its end all the same: unless there is such a
--- one, no fault comes of a wiki whose keeper is whole.
-abbrev pub MayFail : {K : Type 0} → (K → Bool) → (K → ℕ) → Start → Type 0
-MayFail {K = K} is_whole faults start = start.whole ≡ true → (keeper : K) × (is_whole keeper ≡ true) × (2 ^ 64 - 1 ≤ faults keeper)
+-- A fault may come of the store of a wiki that began so: its keeper isn't whole, or it is, and its count of faults stands at
+-- its end all the same.
+abbrev pub MayFail : Start → Type 0
+MayFail start = IfSome start.failed (λ n. 2 ^ 64 - 1 ≤ n)

@@ -46,7 +46,7 @@ fn keep(
 }
 
 /// Keeps what the world answers now to a title and a kind, which weren't asked yet. It waits.
-fn ask_now<K: Keeper, R: Wait>(
+pub fn ask_now<K: Keeper, R: Wait>(
     shared: &Shared<K>,
     rt: &R,
     pass: &mut Pass<Wiki<K>>,

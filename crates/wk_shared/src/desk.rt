@@ -1,7 +1,7 @@
 //! Taking the wiki for a call, and giving it back.
 ghost use Rattle.std.specs.Prelude.{◌≡◌, None, Some};
 ghost use Rattle.wk_turn.specs.Told.{IsOf};
-ghost use Rattle.wk_shared.specs.Desk.{IsGiven, IsTaken, MakesAtMostOne};
+ghost use Rattle.wk_shared.specs.Desk.{IsGiven, IsTaken, MakesAtMostOne, TellsOf};
 
 use crate::shared::Shared;
 use std::sync::Wait;
@@ -13,8 +13,9 @@ impl<K: Keeper> Shared<K> {
     pub(crate) fn take_wiki<R: Wait>(&self, rt: &R, pass: &mut Pass<Wiki<K>>) -> Held<Wiki<K>>
         requires turn { IsOf self.now pass.old }
         requires free { pass.old.held ≡ None }
-        ensures taken { IsTaken K.is_whole self.now pass.old pass.new result.value }
+        ensures taken { IsTaken self.now pass.old pass.new result.value }
         ensures before { result.before.value ≡ result.value }
+        ensures keeper { TellsOf K.is_whole K.faults result.value.start result.value.keeper }
     {
         let held = self.turn.enter(rt, pass);
         held.value.facts();

@@ -44,7 +44,7 @@ impl<K: Keeper> Shared<K> {
         requires draft { HoldsDraft self.now.start pass.old ticket draft }
         ensures pass { HasSeen self.now pass.old pass.new result.1 }
         ensures call { IsMadeAt self.now.start pass.old pass.new (FinishTold ticket.ticket draft.reads result.0) }
-        ensures fault { result.0 ≡ Finished.StoreFault → MayFail K.is_whole K.faults self.now.start }
+        ensures fault { result.0 ≡ Finished.StoreFault → MayFail self.now.start }
     {
         let mut held = self.take_wiki(rt, pass);
         let answer = held.value.finish(ticket, draft);
@@ -76,7 +76,7 @@ impl<K: Keeper> Shared<K> {
         requires free { pass.old.held ≡ None }
         ensures pass { HasSeen self.now pass.old pass.new result.1 }
         ensures call { IsMadeAt self.now.start pass.old pass.new (FanTold result.0) }
-        ensures fault { result.0 ≡ Err FanRefusal.StoreFault → MayFail K.is_whole K.faults self.now.start }
+        ensures fault { result.0 ≡ Err FanRefusal.StoreFault → MayFail self.now.start }
     {
         let mut held = self.take_wiki(rt, pass);
         let answer = held.value.fan();

@@ -27,7 +27,7 @@ impl<K: Keeper> Shared<K> {
         requires unsealed { self.now.start.sealed ≡ None }
         ensures pass { HasSeen self.now pass.old pass.new result.1 }
         ensures call { IsMadeAt self.now.start pass.old pass.new (SaveTold (edit_asked edit.now) now result.0) }
-        ensures fault { result.0 ≡ Err SaveRefusal.StoreFault → MayFail K.is_whole K.faults self.now.start }
+        ensures fault { result.0 ≡ Err SaveRefusal.StoreFault → MayFail self.now.start }
     {
         let mut held = self.take_wiki(rt, pass);
         let answer = held.value.save(edit, now);
@@ -50,7 +50,7 @@ impl<K: Keeper> Shared<K> {
         requires unsealed { self.now.start.sealed ≡ None }
         ensures pass { HasSeen self.now pass.old pass.new result.1 }
         ensures call { IsMadeAt self.now.start pass.old pass.new (SaveTold (deletion title.now base) now result.0) }
-        ensures fault { result.0 ≡ Err SaveRefusal.StoreFault → MayFail K.is_whole K.faults self.now.start }
+        ensures fault { result.0 ≡ Err SaveRefusal.StoreFault → MayFail self.now.start }
     {
         let mut held = self.take_wiki(rt, pass);
         let answer = held.value.remove(title, base, now);

@@ -1,5 +1,5 @@
 -- What a keeper answers, by what the database answered.
-use Rattle.std.proofs.Common.{◌≡◌, Option, Some, Result, Ok, Err, IfOk, IfErr, OnOk, OnErr, IsErr, refl, sym, ap, subst, ◌∙◌, true≢false}
+use Rattle.std.proofs.Common.{◌≡◌, ◌≢◌, ℕ, Option, Some, Result, Ok, Err, IfOk, IfErr, OnOk, OnErr, IsErr, refl, sym, ap, subst, ◌∙◌, true≢false}
 use Rattle.sqlite.specs.declared.error.Error.{Error}
 use Rattle.wk_keeper.specs.declared.keeper.KeeperRefusal.{KeeperRefusal}
 use Rattle.wk_keeper.specs.declared.keeper.KeeperRefusal.TheVariants.{Failed, Memory as NoMemory}
@@ -25,3 +25,14 @@ statement_refused (Err error) (Ok value) cause refused of_statement kept told me
 statement_refused (Err error) (Err Failed) cause refused of_statement kept told memory = (refl, kept ∙ ap Some of_statement)
 statement_refused (Err error) (Err NoMemory) cause refused of_statement kept told memory =
     absurd (let first = memory refl in let then = kept ∙ ap Some of_statement in cc)
+
+-- what is counted is as it was, but where the answer is a fault
+pub uncounted : {A C : Type 0} (faults : C → ℕ) (result : Result A KeeperRefusal) (old new at_ok at_memory : C) → OnOk result (new ≡ at_ok) → (result ≡ Err NoMemory → new ≡ at_memory)
+    → faults at_ok ≡ faults old → faults at_memory ≡ faults old → result ≢ Err Failed → faults new ≡ faults old
+uncounted faults (Ok value) old new at_ok at_memory is memory as_ok as_memory other = ap faults is ∙ as_ok
+uncounted faults (Err Failed) old new at_ok at_memory is memory as_ok as_memory other = absurd (other refl)
+uncounted faults (Err NoMemory) old new at_ok at_memory is memory as_ok as_memory other = ap faults (memory refl) ∙ as_memory
+
+pub given_through : {A E F : Type 0} (P : A → Type 0) (answer : Result A E) (result : Result A F) → IfOk result (λ value. answer ≡ Ok value) → IfOk answer P → IfOk result P
+given_through P answer (Ok value) same p = subst (λ (r : Result _ _). IfOk r P) same p
+given_through P answer (Err e) same p = tt

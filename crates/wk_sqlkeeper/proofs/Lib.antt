@@ -1,3 +1,10 @@
-mod Answered
-mod Queries
-mod RisingLists
+pub mod Answered
+pub mod Decoding
+pub mod KeptReads
+pub mod ListQueries
+pub mod Makings
+pub mod Objects
+pub mod Queries
+pub mod QueryMeanings
+pub mod Rests
+pub mod RisingLists

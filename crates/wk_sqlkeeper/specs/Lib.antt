@@ -1,4 +1,8 @@
 pub mod Causes
+pub mod Decoded
+pub mod Kept
+pub mod Making
+pub mod Queries
 pub mod Reading
 pub mod Rising
 pub mod SqlKeeper

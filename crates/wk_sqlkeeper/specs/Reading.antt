@@ -1,5 +1,7 @@
 -- Which columns can be read as the fields of a wiki's rows, and which rows of a query were read (own).
 use Rattle.std.specs.Prelude.{◌≡◌, ◌≢◌, ℕ, ℤ, pos, ◌<◌, ◌^◌, Bool, List, [], ◌∷◌, length, IsUtf8, ⊤}
+use Rattle.std.specs.declared.cmp.Ordering.{Ordering}
+use Rattle.std.specs.List.Sorted.{IsPermutation, IsSorted}
 use Rattle.sqlite_value.specs.declared.value.Value.{Value}
 use Rattle.sqlite_value.specs.declared.value.Value.TheVariants.{Int, Text}
 use Rattle.sqlite_value.specs.Order.{column}
@@ -97,3 +99,10 @@ pub record ReadsAll {R : Type 0} (stands : List Value → R → Type 0) (query :
   pub shown : List (List Value)
   pub all : Shown query [] old new shown
   pub read : StandAs stands shown rows
+
+-- the rows are all that the query shows between these two states, in this order
+pub record ReadsSorted {R : Type 0} (stands : List Value → R → Type 0) (cmp : R → R → Ordering) (query : List ℕ) (old new : State) (rows : List R) : Type 0 where
+  pub read : List R
+  pub all : ReadsAll stands query old new read
+  pub same : IsPermutation read rows
+  pub sorted : IsSorted cmp rows

@@ -1,6 +1,6 @@
 -- How the rows of a wiki stand in a database, whose numbers are from -2^63 to 2^63 - 1 (own). A row of a query has a
 -- column for each field of the table's row, in the order of the fields.
-use Rattle.std.specs.Prelude.{◌≡◌, pos, List}
+use Rattle.std.specs.Prelude.{◌≡◌, ◌<◌, ◌^◌, pos, List}
 use Rattle.sqlite_value.specs.declared.value.Value.{Value}
 use Rattle.sqlite_value.specs.declared.value.Value.TheVariants.{Int, Text}
 use Rattle.sqlite_value.specs.Order.{column}
@@ -19,6 +19,7 @@ pub record IsRevision (values : List Value) (revision : RevisionColumns) : Type 
   pub page : column values 1 ≡ Int (pos revision.rev_page)
   pub parent : column values 2 ≡ Int (pos revision.rev_parent_id)
   pub timestamp : column values 3 ≡ Int (stored_moment revision.rev_timestamp)
+  pub fits : revision.rev_timestamp < 2 ^ 64
   pub len : column values 4 ≡ Int (pos revision.rev_len)
   pub gone : column values 5 ≡ Int (stored_flag revision.rev_gone)
   pub text : column values 6 ≡ Text revision.rev_text

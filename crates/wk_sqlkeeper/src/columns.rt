@@ -1,5 +1,5 @@
 //! The columns of the database's rows as the fields of a wiki's rows.
-ghost use Rattle.std.specs.Prelude.{◌≡◌, pos, IfErr, IfOk};
+ghost use Rattle.std.specs.Prelude.{◌≡◌, ◌<◌, ◌^◌, pos, IfErr, IfOk};
 ghost use Rattle.sqlite_value.specs.declared.value.Value.TheVariants.{Int, Text as TextValue};
 ghost use Rattle.sqlite_value.specs.Order.{column};
 ghost use Rattle.wk_sqlkeeper.specs.Reading.{HasFlag, HasNumber, HasText, HasWhole, OnlyUnless};
@@ -57,6 +57,7 @@ pub fn namespace_at(row: &Row, at: usize) -> Result<i64, Error>
 /// The moment of the column, or the error where it isn't a whole number.
 pub fn moment_at(row: &Row, at: usize) -> Result<u64, Error>
     ensures read { IfOk result (λ seconds. column row.now at ≡ Int (stored_moment seconds)) }
+    ensures fits { IfOk result (λ seconds. seconds < 2 ^ 64) }
     ensures refused { IfErr result (OnlyUnless (HasWhole row.now at)) }
 {
     let stored = namespace_at(row, at)?;

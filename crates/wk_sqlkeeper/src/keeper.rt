@@ -1,13 +1,15 @@
 //! The keeper over a database.
-ghost use Rattle.std.specs.Prelude.{◌≡◌, ◌↔◌, ◌≤◌, None, Some, true, false, is_some, IfErr, IfOk, IfSome, IsErr, IsOk, IsSome, IsTrue, OnErr, OnOk};
+ghost use Rattle.std.specs.Prelude.{◌≡◌, ◌≢◌, ◌↔◌, ◌≤◌, None, Some, true, false, is_some, IfErr, IfOk, IfSome, IsErr, IsOk, IsSome, IsTrue, OnErr, OnOk};
 ghost use Rattle.sqlite.specs.Held.{state};
 ghost use Rattle.sqlite.specs.State.{HasCleanDisk};
+ghost use Rattle.sqlite.specs.Steps.{IsEmpty};
 ghost use Rattle.wk_base.specs.Faults.{Rose};
 ghost use Rattle.wk_table_rules.specs.Changes.{applied, fits};
-ghost use Rattle.wk_table_rules.specs.Rows.{StoreTables};
+ghost use Rattle.wk_table_rules.specs.Rows.{StoreTables, no_tables};
 ghost use Rattle.wk_keeper.specs.CallCounts.{CountsOne};
 ghost use Rattle.wk_sqltables.specs.Edits.{Keeps};
 ghost use Rattle.wk_sqlkeeper.specs.Causes.{cause_of};
+ghost use Rattle.wk_sqlkeeper.specs.Kept.{IsInRange, StillKeeps};
 ghost use Rattle.wk_sqlkeeper.specs.Rising.{change_rises};
 ghost use Rattle.wk_sqlkeeper.specs.SqlKeeper.{connection_of, sql_calls, sql_cause, sql_faults, sql_told, sql_whole};
 
@@ -75,6 +77,7 @@ impl<S: Alter + Drop> SqlKeeper<S> {
     ) -> Result<SqlKeeper<S>, (Connection<S>, KeeperRefusal)>
         ensures no_faults { IfOk result (λ keeper. sql_faults keeper ≡ 0) }
         ensures in_transaction { connection.in_transaction ≡ true → result ≡ Err (connection, KeeperRefusal.Failed) }
+        ensures blank { IfOk result (λ keeper. HasCleanDisk (state S.Store (connection_of keeper)) → IsEmpty (state S.Store connection) → Keeps (state S.Store (connection_of keeper)) no_tables) }
     {
         match SqlKeeper::adopt_or_cause(alloc, connection) {
             Ok(keeper) => Ok(keeper),
@@ -92,6 +95,7 @@ impl<S: Alter + Drop> SqlKeeper<S> {
         ensures no_calls { IfOk result (λ keeper. sql_calls keeper ≡ Some 0) }
         ensures no_cause { IfOk result (λ keeper. sql_cause keeper ≡ None) }
         ensures in_transaction { connection.in_transaction ≡ true → result ≡ Err (connection, SqlCause.Statement) }
+        ensures blank { IfOk result (λ keeper. HasCleanDisk (state S.Store (connection_of keeper)) → IsEmpty (state S.Store connection) → Keeps (state S.Store (connection_of keeper)) no_tables) }
     {
         let made = make_tables(&mut connection);
         kept(alloc, connection, made)
@@ -143,7 +147,7 @@ impl<S: Alter + Drop> Keeper for SqlKeeper<S> {
         ensures stays_whole { sql_whole self.new ≡ sql_whole self.old }
         ensures never_falls { sql_faults self.old ≤ sql_faults self.new }
         ensures whole { sql_whole self.old ≡ true → sql_faults self.new ≡ sql_faults self.old }
-        ensures no_fault { OnOk result (sql_faults self.new ≡ sql_faults self.old) }
+        ensures no_fault { result ≢ Err KeeperRefusal.Failed → sql_faults self.new ≡ sql_faults self.old }
         ensures cause { result ≡ Err KeeperRefusal.Failed → Rose (sql_faults self.old) (sql_faults self.new) }
         ensures one_call { OnOk result (CountsOne (sql_calls self.old) (sql_calls self.new)) }
         ensures failed_call { result ≡ Err KeeperRefusal.Failed → CountsOne (sql_calls self.old) (sql_calls self.new) }
@@ -152,6 +156,9 @@ impl<S: Alter + Drop> Keeper for SqlKeeper<S> {
         ensures no_cause { OnOk result (sql_cause self.new ≡ None) }
         ensures why { IsErr result → IsSome (sql_cause self.new) }
         ensures memory { (result ≡ Err KeeperRefusal.Memory) ↔ (sql_cause self.new ≡ Some SqlCause.Memory) }
+        ensures read { HasCleanDisk (state S.Store (connection_of self.new)) → IfOk result (λ loaded. (tables : StoreTables) → Keeps (state S.Store (connection_of self.old)) tables → IsInRange tables → loaded.tables ≡ tables) }
+        ensures kept { HasCleanDisk (state S.Store (connection_of self.new)) → OnOk result (StillKeeps (state S.Store (connection_of self.old)) (state S.Store (connection_of self.new))) }
+        ensures stays { HasCleanDisk (state S.Store (connection_of self.new)) → IsTrue (state S.Store (connection_of self.new)).is_open → OnErr result (StillKeeps (state S.Store (connection_of self.old)) (state S.Store (connection_of self.new))) }
     {
         let made = self.calls.made();
         let permit = self.calls.permit();
@@ -173,7 +180,7 @@ impl<S: Alter + Drop> Keeper for SqlKeeper<S> {
         ensures stays_whole { sql_whole self.new ≡ sql_whole self.old }
         ensures never_falls { sql_faults self.old ≤ sql_faults self.new }
         ensures whole { sql_whole self.old ≡ true → sql_faults self.new ≡ sql_faults self.old }
-        ensures no_fault { OnOk result (sql_faults self.new ≡ sql_faults self.old) }
+        ensures no_fault { result ≢ Err KeeperRefusal.Failed → sql_faults self.new ≡ sql_faults self.old }
         ensures cause { result ≡ Err KeeperRefusal.Failed → Rose (sql_faults self.old) (sql_faults self.new) }
         ensures one_call { OnOk result (CountsOne (sql_calls self.old) (sql_calls self.new)) }
         ensures failed_call { result ≡ Err KeeperRefusal.Failed → CountsOne (sql_calls self.old) (sql_calls self.new) }

@@ -1,17 +1,23 @@
 //! The tables of a wiki out of the database, one query a table.
-ghost use Rattle.std.specs.Prelude.{◌≡◌, [], IfOk};
-ghost use Rattle.sqlite.specs.State.{HasCleanDisk};
+ghost use Rattle.std.specs.Prelude.{◌≡◌, [], IfOk, IsTrue, OnErr, OnOk};
+ghost use Rattle.sqlite.specs.State.{HasCleanDisk, QueriesRow};
 ghost use Rattle.sqlite.specs.Held.{state};
 ghost use Rattle.sqlite.specs.Given.{IsPlain};
 ghost use Rattle.sqlite.specs.Listing.{understood};
-ghost use Rattle.wk_sqlkeeper.specs.Reading.{ReadsAll};
+ghost use Rattle.wk_table_rules.specs.Rows.{StoreTables};
+ghost use Rattle.wk_sqltables.specs.Held.{link_cmp, member_cmp};
+ghost use Rattle.wk_sqltables.specs.Edits.{Keeps};
+ghost use Rattle.wk_sqlkeeper.specs.Kept.{IsInRange, IsListOf, Rests, StillKeeps};
+ghost use Rattle.wk_sqlkeeper.specs.Queries.{version_text};
+ghost use Rattle.wk_sqlkeeper.specs.Reading.{ReadsAll, ReadsSorted};
+ghost use Rattle.wk_sqlkeeper.specs.Stored.{IsLink, IsMember};
 
 use crate::answers::{Permit, no_memory};
 use crate::columns::text_at;
 use crate::order::{sort_links, sort_members};
 use crate::rows::FromColumns;
 use sqlite::types::Type;
-use sqlite::{Alter, Connection, Error, ErrorCode};
+use sqlite::{Alter, Connection, Error, ErrorCode, Row};
 use std::alloc::Global;
 use wk_bytes::decimal;
 use wk_tables::{
@@ -26,6 +32,9 @@ fn read_all<S: Alter, R: FromColumns>(
 ) -> Result<Vec<R>, Error>
     ensures all { IsPlain (understood connection.old.schema query.now) → HasCleanDisk (state S.Store connection.new)
         → IfOk result (λ rows. ReadsAll R.FromColumns.stands_as query.now (state S.Store connection.old) (state S.Store connection.new) rows.items) }
+    ensures refused { IsPlain (understood connection.old.schema query.now) → HasCleanDisk (state S.Store connection.new)
+        → OnErr result (Rests (state S.Store connection.old) (state S.Store connection.new)) }
+    ensures clean { HasCleanDisk (state S.Store connection.new) → HasCleanDisk (state S.Store connection.old) }
 {
     let mut read = Vec::new(alloc);
     let mut rows = connection.query(query, &[])?;
@@ -41,7 +50,12 @@ fn read_all<S: Alter, R: FromColumns>(
 fn read_pages<S: Alter>(
     alloc: Global,
     connection: &mut Connection<S>,
-) -> Result<Vec<PageRow>, Error> {
+) -> Result<Vec<PageRow>, Error>
+    ensures read { HasCleanDisk (state S.Store connection.new) → IfOk result (λ rows. IsListOf (λ tables. tables.pages) (state S.Store connection.old) rows.items) }
+    ensures kept { HasCleanDisk (state S.Store connection.new) → OnOk result (StillKeeps (state S.Store connection.old) (state S.Store connection.new)) }
+    ensures stays { HasCleanDisk (state S.Store connection.new) → IsTrue (state S.Store connection.new).is_open → OnErr result (StillKeeps (state S.Store connection.old) (state S.Store connection.new)) }
+    ensures clean { HasCleanDisk (state S.Store connection.new) → HasCleanDisk (state S.Store connection.old) }
+{
     read_all(
         alloc,
         connection,
@@ -52,7 +66,12 @@ fn read_pages<S: Alter>(
 fn read_revisions<S: Alter>(
     alloc: Global,
     connection: &mut Connection<S>,
-) -> Result<Vec<RevisionRow>, Error> {
+) -> Result<Vec<RevisionRow>, Error>
+    ensures read { HasCleanDisk (state S.Store connection.new) → IfOk result (λ rows. IsListOf (λ tables. tables.revisions) (state S.Store connection.old) rows.items) }
+    ensures kept { HasCleanDisk (state S.Store connection.new) → OnOk result (StillKeeps (state S.Store connection.old) (state S.Store connection.new)) }
+    ensures stays { HasCleanDisk (state S.Store connection.new) → IsTrue (state S.Store connection.new).is_open → OnErr result (StillKeeps (state S.Store connection.old) (state S.Store connection.new)) }
+    ensures clean { HasCleanDisk (state S.Store connection.new) → HasCleanDisk (state S.Store connection.old) }
+{
     read_all(
         alloc,
         connection,
@@ -65,7 +84,13 @@ fn read_links<S: Alter>(
     alloc: Global,
     connection: &mut Connection<S>,
     query: &str,
-) -> Result<Vec<LinkRow>, Error> {
+) -> Result<Vec<LinkRow>, Error>
+    ensures all { IsPlain (understood connection.old.schema query.now) → HasCleanDisk (state S.Store connection.new)
+        → IfOk result (λ rows. ReadsSorted IsLink link_cmp query.now (state S.Store connection.old) (state S.Store connection.new) rows.items) }
+    ensures refused { IsPlain (understood connection.old.schema query.now) → HasCleanDisk (state S.Store connection.new)
+        → OnErr result (Rests (state S.Store connection.old) (state S.Store connection.new)) }
+    ensures clean { HasCleanDisk (state S.Store connection.new) → HasCleanDisk (state S.Store connection.old) }
+{
     let mut rows = read_all(alloc, connection, query)?;
     sort_links(&mut rows);
     Ok(rows)
@@ -74,7 +99,12 @@ fn read_links<S: Alter>(
 fn read_pagelinks<S: Alter>(
     alloc: Global,
     connection: &mut Connection<S>,
-) -> Result<Vec<LinkRow>, Error> {
+) -> Result<Vec<LinkRow>, Error>
+    ensures read { HasCleanDisk (state S.Store connection.new) → IfOk result (λ rows. IsListOf (λ tables. tables.pagelinks) (state S.Store connection.old) rows.items) }
+    ensures kept { HasCleanDisk (state S.Store connection.new) → OnOk result (StillKeeps (state S.Store connection.old) (state S.Store connection.new)) }
+    ensures stays { HasCleanDisk (state S.Store connection.new) → IsTrue (state S.Store connection.new).is_open → OnErr result (StillKeeps (state S.Store connection.old) (state S.Store connection.new)) }
+    ensures clean { HasCleanDisk (state S.Store connection.new) → HasCleanDisk (state S.Store connection.old) }
+{
     read_links(
         alloc,
         connection,
@@ -85,7 +115,12 @@ fn read_pagelinks<S: Alter>(
 fn read_templatelinks<S: Alter>(
     alloc: Global,
     connection: &mut Connection<S>,
-) -> Result<Vec<LinkRow>, Error> {
+) -> Result<Vec<LinkRow>, Error>
+    ensures read { HasCleanDisk (state S.Store connection.new) → IfOk result (λ rows. IsListOf (λ tables. tables.templatelinks) (state S.Store connection.old) rows.items) }
+    ensures kept { HasCleanDisk (state S.Store connection.new) → OnOk result (StillKeeps (state S.Store connection.old) (state S.Store connection.new)) }
+    ensures stays { HasCleanDisk (state S.Store connection.new) → IsTrue (state S.Store connection.new).is_open → OnErr result (StillKeeps (state S.Store connection.old) (state S.Store connection.new)) }
+    ensures clean { HasCleanDisk (state S.Store connection.new) → HasCleanDisk (state S.Store connection.old) }
+{
     read_links(
         alloc,
         connection,
@@ -96,7 +131,12 @@ fn read_templatelinks<S: Alter>(
 fn read_existlinks<S: Alter>(
     alloc: Global,
     connection: &mut Connection<S>,
-) -> Result<Vec<LinkRow>, Error> {
+) -> Result<Vec<LinkRow>, Error>
+    ensures read { HasCleanDisk (state S.Store connection.new) → IfOk result (λ rows. IsListOf (λ tables. tables.existlinks) (state S.Store connection.old) rows.items) }
+    ensures kept { HasCleanDisk (state S.Store connection.new) → OnOk result (StillKeeps (state S.Store connection.old) (state S.Store connection.new)) }
+    ensures stays { HasCleanDisk (state S.Store connection.new) → IsTrue (state S.Store connection.new).is_open → OnErr result (StillKeeps (state S.Store connection.old) (state S.Store connection.new)) }
+    ensures clean { HasCleanDisk (state S.Store connection.new) → HasCleanDisk (state S.Store connection.old) }
+{
     read_links(
         alloc,
         connection,
@@ -104,23 +144,48 @@ fn read_existlinks<S: Alter>(
     )
 }
 
+/// The rows of categorylinks that the query gives, in the order of their categories.
+fn read_members<S: Alter>(
+    alloc: Global,
+    connection: &mut Connection<S>,
+    query: &str,
+) -> Result<Vec<CategoryRow>, Error>
+    ensures all { IsPlain (understood connection.old.schema query.now) → HasCleanDisk (state S.Store connection.new)
+        → IfOk result (λ rows. ReadsSorted IsMember member_cmp query.now (state S.Store connection.old) (state S.Store connection.new) rows.items) }
+    ensures refused { IsPlain (understood connection.old.schema query.now) → HasCleanDisk (state S.Store connection.new)
+        → OnErr result (Rests (state S.Store connection.old) (state S.Store connection.new)) }
+    ensures clean { HasCleanDisk (state S.Store connection.new) → HasCleanDisk (state S.Store connection.old) }
+{
+    let mut rows = read_all(alloc, connection, query)?;
+    sort_members(&mut rows);
+    Ok(rows)
+}
+
 fn read_categorylinks<S: Alter>(
     alloc: Global,
     connection: &mut Connection<S>,
-) -> Result<Vec<CategoryRow>, Error> {
-    let mut rows = read_all(
+) -> Result<Vec<CategoryRow>, Error>
+    ensures read { HasCleanDisk (state S.Store connection.new) → IfOk result (λ rows. IsListOf (λ tables. tables.categorylinks) (state S.Store connection.old) rows.items) }
+    ensures kept { HasCleanDisk (state S.Store connection.new) → OnOk result (StillKeeps (state S.Store connection.old) (state S.Store connection.new)) }
+    ensures stays { HasCleanDisk (state S.Store connection.new) → IsTrue (state S.Store connection.new).is_open → OnErr result (StillKeeps (state S.Store connection.old) (state S.Store connection.new)) }
+    ensures clean { HasCleanDisk (state S.Store connection.new) → HasCleanDisk (state S.Store connection.old) }
+{
+    read_members(
         alloc,
         connection,
         "SELECT cl_from, cl_to, cl_sortkey, cl_sortkey_prefix FROM categorylinks ORDER BY cl_from, cl_to",
-    )?;
-    sort_members(&mut rows);
-    Ok(rows)
+    )
 }
 
 fn read_redirects<S: Alter>(
     alloc: Global,
     connection: &mut Connection<S>,
-) -> Result<Vec<RedirectRow>, Error> {
+) -> Result<Vec<RedirectRow>, Error>
+    ensures read { HasCleanDisk (state S.Store connection.new) → IfOk result (λ rows. IsListOf (λ tables. tables.redirects) (state S.Store connection.old) rows.items) }
+    ensures kept { HasCleanDisk (state S.Store connection.new) → OnOk result (StillKeeps (state S.Store connection.old) (state S.Store connection.new)) }
+    ensures stays { HasCleanDisk (state S.Store connection.new) → IsTrue (state S.Store connection.new).is_open → OnErr result (StillKeeps (state S.Store connection.old) (state S.Store connection.new)) }
+    ensures clean { HasCleanDisk (state S.Store connection.new) → HasCleanDisk (state S.Store connection.old) }
+{
     read_all(
         alloc,
         connection,
@@ -128,10 +193,12 @@ fn read_redirects<S: Alter>(
     )
 }
 
-fn read_jobs<S: Alter>(
-    alloc: Global,
-    connection: &mut Connection<S>,
-) -> Result<Vec<JobRow>, Error> {
+fn read_jobs<S: Alter>(alloc: Global, connection: &mut Connection<S>) -> Result<Vec<JobRow>, Error>
+    ensures read { HasCleanDisk (state S.Store connection.new) → IfOk result (λ rows. IsListOf (λ tables. tables.jobs) (state S.Store connection.old) rows.items) }
+    ensures kept { HasCleanDisk (state S.Store connection.new) → OnOk result (StillKeeps (state S.Store connection.old) (state S.Store connection.new)) }
+    ensures stays { HasCleanDisk (state S.Store connection.new) → IsTrue (state S.Store connection.new).is_open → OnErr result (StillKeeps (state S.Store connection.old) (state S.Store connection.new)) }
+    ensures clean { HasCleanDisk (state S.Store connection.new) → HasCleanDisk (state S.Store connection.old) }
+{
     read_all(
         alloc,
         connection,
@@ -139,14 +206,36 @@ fn read_jobs<S: Alter>(
     )
 }
 
-/// The number of the table site's row `version`.
-fn read_version<S: Alter>(alloc: Global, connection: &mut Connection<S>) -> Result<u64, Error> {
-    let row = connection.query_row(
+fn run_version<S: Alter>(connection: &mut Connection<S>) -> Result<Row, Error>
+    ensures row { HasCleanDisk (state S.Store connection.new) → QueriesRow version_text [] (state S.Store connection.old) (state S.Store connection.new) result }
+    ensures clean { HasCleanDisk (state S.Store connection.new) → HasCleanDisk (state S.Store connection.old) }
+{
+    connection.query_row(
         "SELECT site_value FROM site WHERE site_key = 'version'",
         &[],
-    )?;
+    )
+}
+
+/// The number of the table site's row `version`.
+fn read_version<S: Alter>(alloc: Global, connection: &mut Connection<S>) -> Result<u64, Error>
+    ensures read { HasCleanDisk (state S.Store connection.new) → IfOk result (λ version. (tables : StoreTables) → Keeps (state S.Store connection.old) tables → IsInRange tables → version ≡ tables.version) }
+    ensures kept { HasCleanDisk (state S.Store connection.new) → OnOk result (StillKeeps (state S.Store connection.old) (state S.Store connection.new)) }
+    ensures stays { HasCleanDisk (state S.Store connection.new) → IsTrue (state S.Store connection.new).is_open → OnErr result (StillKeeps (state S.Store connection.old) (state S.Store connection.new)) }
+    ensures clean { HasCleanDisk (state S.Store connection.new) → HasCleanDisk (state S.Store connection.old) }
+{
+    let row = run_version(connection)?;
     let value = text_at(alloc, &row, 0)?;
-    decimal(value.as_str().as_bytes()).ok_or(Error::InvalidColumnType(0, Type::Text))
+    let Some(version) = decimal(value.as_str().as_bytes()) else {
+        return Err(Error::InvalidColumnType(0, Type::Text));
+    };
+    Ok(version)
+}
+
+/// The tables of these rows.
+fn made(alloc: Global, rows: TableRows) -> Result<Tables, Error>
+    ensures { IfOk result (λ made. made.tables ≡ rows) }
+{
+    Tables::from_rows(alloc, rows).map_err(no_memory)
 }
 
 /// The tables of the wiki. Each list is in the order of its first column, and then of the titles.
@@ -154,17 +243,30 @@ pub fn load_tables<S: Alter>(
     alloc: Global,
     connection: &mut Connection<S>,
     _: Permit,
-) -> Result<Tables, Error> {
+) -> Result<Tables, Error>
+    ensures read { HasCleanDisk (state S.Store connection.new) → IfOk result (λ loaded. (tables : StoreTables) → Keeps (state S.Store connection.old) tables → IsInRange tables → loaded.tables ≡ tables) }
+    ensures kept { HasCleanDisk (state S.Store connection.new) → OnOk result (StillKeeps (state S.Store connection.old) (state S.Store connection.new)) }
+    ensures stays { HasCleanDisk (state S.Store connection.new) → IsTrue (state S.Store connection.new).is_open → OnErr result (StillKeeps (state S.Store connection.old) (state S.Store connection.new)) }
+{
+    let pages = read_pages(alloc, connection)?;
+    let revisions = read_revisions(alloc, connection)?;
+    let pagelinks = read_pagelinks(alloc, connection)?;
+    let templatelinks = read_templatelinks(alloc, connection)?;
+    let existlinks = read_existlinks(alloc, connection)?;
+    let categorylinks = read_categorylinks(alloc, connection)?;
+    let redirects = read_redirects(alloc, connection)?;
+    let jobs = read_jobs(alloc, connection)?;
+    let version = read_version(alloc, connection)?;
     let rows = TableRows {
-        pages: read_pages(alloc, connection)?,
-        revisions: read_revisions(alloc, connection)?,
-        pagelinks: read_pagelinks(alloc, connection)?,
-        templatelinks: read_templatelinks(alloc, connection)?,
-        existlinks: read_existlinks(alloc, connection)?,
-        categorylinks: read_categorylinks(alloc, connection)?,
-        redirects: read_redirects(alloc, connection)?,
-        jobs: read_jobs(alloc, connection)?,
-        version: read_version(alloc, connection)?,
+        pages,
+        revisions,
+        pagelinks,
+        templatelinks,
+        existlinks,
+        categorylinks,
+        redirects,
+        jobs,
+        version,
     };
-    Tables::from_rows(alloc, rows).map_err(no_memory)
+    made(alloc, rows)
 }

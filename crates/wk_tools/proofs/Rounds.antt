@@ -290,13 +290,14 @@ module _ {K : Type 0} (told : K → Option StoreTables) (faults : K → ℕ) whe
     whole = λ is. ap faults same;
   }
 
-  pub round-goes : (old new : WikiSeen K) → GoesOnBy old new → GoesOn told faults old new → IsRound told faults old new None
-  round-goes old new goes keeper = record {
+  pub round-goes : (old new : WikiSeen K) → GoesOnBy old new → GoesOn told faults old new → faults new.keeper ≡ faults old.keeper → IsRound told faults old new None
+  round-goes old new goes keeper count = record {
     goes = goes;
     ends = λ some. absurd (let e : false ≡ true = some in cc);
     done = λ e. absurd cc;
     full = λ e. absurd cc;
     fault = λ e. absurd cc;
+    no_fault = λ _. count;
     keeper = keeper;
   }
 
@@ -307,16 +308,18 @@ module _ {K : Type 0} (told : K → Option StoreTables) (faults : K → ℕ) whe
     done = λ e. absurd cc;
     full = λ e. absurd cc;
     fault = λ e. rose;
+    no_fault = λ other. absurd (other refl);
     keeper = keeper;
   }
 
-  pub round-lacks : (old new : WikiSeen K) → EndsBy told old new → GoesOn told faults old new → IsRound told faults old new (Some end.Memory)
-  round-lacks old new ends keeper = record {
+  pub round-lacks : (old new : WikiSeen K) → EndsBy told old new → GoesOn told faults old new → faults new.keeper ≡ faults old.keeper → IsRound told faults old new (Some end.Memory)
+  round-lacks old new ends keeper count = record {
     goes = tt;
     ends = λ some. ends;
     done = λ e. absurd cc;
     full = λ e. absurd cc;
     fault = λ e. absurd cc;
+    no_fault = λ _. count;
     keeper = keeper;
   }
 
@@ -327,19 +330,21 @@ module _ {K : Type 0} (told : K → Option StoreTables) (faults : K → ℕ) whe
     done = λ e. none;
     full = λ e. absurd cc;
     fault = λ e. absurd cc;
+    no_fault = λ _. refl;
     keeper = same-keeper told faults wiki;
   }
 
   -- where a journal was to begin anew
-  pub round-renews : (old middle new : WikiSeen K) (answer : Option DrainEnd) → HasMadeNothing told old middle → GoesOn told faults old middle → middle.start.whole ≡ old.start.whole
+  pub round-renews : (old middle new : WikiSeen K) (answer : Option DrainEnd) → HasMadeNothing told old middle → GoesOn told faults old middle → faults middle.keeper ≡ faults old.keeper → middle.start.whole ≡ old.start.whole
       → IfNone answer (Renews middle new) → (IsSome answer → new ≡ middle) → (answer ≡ Some end.JournalFull → middle.journal ≡ []) → answer ≢ Some end.Done → answer ≢ Some end.StoreFault → new.keeper ≡ middle.keeper
       → (old.journal ≡ [] → IsFull old) → IsRound told faults old new answer
-  round-renews old middle new answer nothing goes_on same renews ends full not_done no_fault keeper is_full = record {
+  round-renews old middle new answer nothing goes_on count same renews ends full not_done no_fault keeper is_full = record {
     goes = by answer renews;
     ends = λ some. with_nothing (subst (λ (w : WikiSeen K). HasMadeNothing told old w) (sym (ends some)) nothing);
     done = λ e. absurd (not_done e);
     full = λ e. is_full (sym (ap (λ (w : WikiSeen K). w.journal) nothing.wiki) ∙ full e);
     fault = λ e. absurd (no_fault e);
+    no_fault = λ _. ap faults keeper ∙ count;
     keeper = keeper-then told faults old middle new same goes_on (goes-same middle new keeper);
   }
     where

@@ -1,5 +1,5 @@
 -- The rounds of a drain.
-use Rattle.std.specs.Prelude.{◌≡◌, ◌⊎◌, ℕ, ◌+◌, ◌≤◌, ◌<◌, false, List, [], ◌∷◌, ◌++◌, length, Option, Some, None, IfNone, IsSome}
+use Rattle.std.specs.Prelude.{◌≡◌, ◌≢◌, ◌⊎◌, ℕ, ◌+◌, ◌≤◌, ◌<◌, false, List, [], ◌∷◌, ◌++◌, length, Option, Some, None, IfNone, IsSome}
 use Rattle.std.specs.List.{list_any}
 use Rattle.wk_base.specs.Faults.{Rose}
 use Rattle.wk_page_rules.specs.Verdict.{max_job}
@@ -51,6 +51,7 @@ pub record IsRound {K : Type 0} (told : K → Option StoreTables) (faults : K �
   pub done : answer ≡ Some end.Done → HasNoJob new.state
   pub full : answer ≡ Some end.JournalFull → IsFull old
   pub fault : answer ≡ Some end.StoreFault → Rose (faults old.keeper) (faults new.keeper)
+  pub no_fault : answer ≢ Some end.StoreFault → faults new.keeper ≡ faults old.keeper
   pub keeper : GoesOn told faults old new
 
 -- The wiki lives on as a drain has it: in its first life, or in a later one that began behind others.

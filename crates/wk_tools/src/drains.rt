@@ -100,6 +100,7 @@ fn drain_rounds<K: Keeper>(wiki: &mut Wiki<K>, trees: &mut Trees) -> DrainEnd
     ensures done { result ≡ DrainEnd.Done → HasNoJob wiki.new.state }
     ensures full { result ≡ DrainEnd.JournalFull → CanBeFull wiki.old }
     ensures fault { result ≡ DrainEnd.StoreFault → Rose (K.faults wiki.old.keeper) (K.faults wiki.new.keeper) }
+    ensures no_fault { result ≢ DrainEnd.StoreFault → K.faults wiki.new.keeper ≡ K.faults wiki.old.keeper }
 {
     'rounds: loop {
         wiki.facts();
@@ -116,13 +117,14 @@ fn drain_rounds<K: Keeper>(wiki: &mut Wiki<K>, trees: &mut Trees) -> DrainEnd
 ///
 /// `Done`: no job is left. `JournalFull` only where a job was left at the call, and the journal's limit is below 2, or the
 /// number of the next job, with the pages above the cursors of all fan jobs, is above 2^62. `StoreFault` only where the
-/// keeper's count of faults rose; `Memory` may come. Whatever the end, the state is given by lives of which the first goes on
+/// keeper's count of faults rose, which at each other end is as it was; `Memory` may come. Whatever the end, the state is given by lives of which the first goes on
 /// from the wiki's journal, and nothing was saved. The limits stay, and a wiki that wasn't sealed isn't.
 pub fn drain_here<K: Keeper>(wiki: &mut Wiki<K>) -> DrainEnd
     ensures lived { HasLived wiki.old wiki.new }
     ensures done { result ≡ DrainEnd.Done → HasNoJob wiki.new.state }
     ensures full { result ≡ DrainEnd.JournalFull → CanBeFull wiki.old }
     ensures fault { result ≡ DrainEnd.StoreFault → Rose (K.faults wiki.old.keeper) (K.faults wiki.new.keeper) }
+    ensures no_fault { result ≢ DrainEnd.StoreFault → K.faults wiki.new.keeper ≡ K.faults wiki.old.keeper }
     ensures history { wiki.new.state.history ≡ wiki.old.state.history }
     ensures limits { wiki.new.start.limits ≡ wiki.old.start.limits }
     ensures whole { wiki.new.start.whole ≡ wiki.old.start.whole }

@@ -1,5 +1,5 @@
 //! Pages that are generated.
-ghost use Rattle.std.specs.Prelude.{◌≡◌, ◌∷◌, ◌++◌, ◌+◌, ◌≤◌, ◌<◌, ◌^◌, List, None, Some, string_bytes, IfOk, IfErr, OnErr, OnOk};
+ghost use Rattle.std.specs.Prelude.{◌≡◌, ◌≢◌, ◌∷◌, ◌++◌, ◌+◌, ◌≤◌, ◌<◌, ◌^◌, List, None, Some, string_bytes, IfOk, IfErr, OnErr, OnOk};
 ghost use Rattle.wk_base.specs.Faults.{Rose};
 ghost use Rattle.wk_page_rules.specs.Verdict.{EditAsked};
 ghost use Rattle.wk_core.specs.Steps.{GoesOn};
@@ -66,6 +66,7 @@ fn save_next<K: Keeper, C: Clock>(
     ensures unsealed { wiki.new.start.sealed ≡ None }
     ensures keeper { GoesOn K.told K.faults wiki.old wiki.new }
     ensures fault { result ≡ Err SaveRefusal.StoreFault → Rose (K.faults wiki.old.keeper) (K.faults wiki.new.keeper) }
+    ensures no_fault { result ≢ Err SaveRefusal.StoreFault → K.faults wiki.new.keeper ≡ K.faults wiki.old.keeper }
 {
     let now = clock.now();
     wiki.save(edit, now)?;
@@ -89,6 +90,7 @@ fn save_page<K: Keeper, C: Clock>(
     ensures unsealed { wiki.new.start.sealed ≡ None }
     ensures keeper { GoesOn K.told K.faults wiki.old wiki.new }
     ensures fault { result ≡ Err SaveRefusal.StoreFault → Rose (K.faults wiki.old.keeper) (K.faults wiki.new.keeper) }
+    ensures no_fault { result ≢ Err SaveRefusal.StoreFault → K.faults wiki.new.keeper ≡ K.faults wiki.old.keeper }
 {
     let Ok((edit, later)) = page_edit(wiki.allocator(), pages, page, seed) else {
         return Err(SaveRefusal::Memory);
@@ -107,6 +109,7 @@ fn save_infobox<K: Keeper, C: Clock>(wiki: &mut Wiki<K>, clock: &mut C) -> Resul
     ensures unsealed { wiki.new.start.sealed ≡ None }
     ensures keeper { GoesOn K.told K.faults wiki.old wiki.new }
     ensures fault { result ≡ Err SaveRefusal.StoreFault → Rose (K.faults wiki.old.keeper) (K.faults wiki.new.keeper) }
+    ensures no_fault { result ≢ Err SaveRefusal.StoreFault → K.faults wiki.new.keeper ≡ K.faults wiki.old.keeper }
 {
     let Ok(edit) = infobox_edit(wiki.allocator()) else {
         return Err(SaveRefusal::Memory);
@@ -122,6 +125,7 @@ fn save_note<K: Keeper, C: Clock>(wiki: &mut Wiki<K>, clock: &mut C) -> Result<(
     ensures unsealed { wiki.new.start.sealed ≡ None }
     ensures keeper { GoesOn K.told K.faults wiki.old wiki.new }
     ensures fault { result ≡ Err SaveRefusal.StoreFault → Rose (K.faults wiki.old.keeper) (K.faults wiki.new.keeper) }
+    ensures no_fault { result ≢ Err SaveRefusal.StoreFault → K.faults wiki.new.keeper ≡ K.faults wiki.old.keeper }
 {
     let Ok(edit) = note_edit(wiki.allocator()) else {
         return Err(SaveRefusal::Memory);
@@ -135,7 +139,7 @@ fn save_note<K: Keeper, C: Clock>(wiki: &mut Wiki<K>, clock: &mut C) -> Result<(
 /// At Ok all of them were saved, or had changed nothing. A refusal is that of the first edit that was refused, and those
 /// before it were saved: one of the rules' where their verdict on that edit is to refuse it so (the edits are made so that
 /// this is `WikiFull` or `JournalFull`, which no clause says), `StoreFault` only where the keeper's count of faults rose, or
-/// `Memory`, which may come.
+/// `Memory`, which may come. At each answer but `StoreFault` that count is as it was.
 pub fn generate<K: Keeper, C: Clock>(
     wiki: &mut Wiki<K>,
     pages: u32,
@@ -147,6 +151,7 @@ pub fn generate<K: Keeper, C: Clock>(
     ensures refused { IfErr result (IsRefusedAt wiki.old wiki.new (generated pages number) (C.left clock.old)) }
     ensures keeper { GoesOn K.told K.faults wiki.old wiki.new }
     ensures fault { result ≡ Err SaveRefusal.StoreFault → Rose (K.faults wiki.old.keeper) (K.faults wiki.new.keeper) }
+    ensures no_fault { result ≢ Err SaveRefusal.StoreFault → K.faults wiki.new.keeper ≡ K.faults wiki.old.keeper }
 {
     save_infobox(wiki, clock)?;
     save_note(wiki, clock)?;

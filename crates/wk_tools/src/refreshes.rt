@@ -39,7 +39,7 @@ fn bring_in<K: Keeper>(wiki: &mut Wiki<K>, ticket: Ticket, trees: &mut Trees) ->
     ensures tables { result ≢ Finished.Done → K.told wiki.new.keeper ≡ K.told wiki.old.keeper }
     ensures keeper { GoesOn K.told K.faults wiki.old wiki.new }
     ensures fault { result ≡ Finished.StoreFault → Rose (K.faults wiki.old.keeper) (K.faults wiki.new.keeper) }
-    ensures no_fault { result ≡ Finished.Done → K.faults wiki.new.keeper ≡ K.faults wiki.old.keeper }
+    ensures no_fault { result ≢ Finished.StoreFault → K.faults wiki.new.keeper ≡ K.faults wiki.old.keeper }
 {
     let drafted = draft_now(
         wiki.allocator(),
@@ -66,9 +66,9 @@ fn bring_in<K: Keeper>(wiki: &mut Wiki<K>, ticket: Ticket, trees: &mut Trees) ->
 ///
 /// `Ok(false)` exactly where no refresh job is queued. `JournalFull` exactly where one is and the journal has no room for
 /// the claim and for the event by which its ticket comes in; the wiki is then as before. `StoreFault` comes only where the
-/// keeper's count of faults rose, and `Memory` may come: behind a claim, the job is then queued again. Whatever is answered,
-/// the tickets that are out are those that were: none is left out. What was drafted is never stale, since nothing comes
-/// between.
+/// keeper's count of faults rose, and at each other answer that count is as it was; `Memory` may come: behind a claim, the
+/// job is then queued again. Whatever is answered, the tickets that are out are those that were: none is left out. What was
+/// drafted is never stale, since nothing comes between.
 pub fn refresh_here<K: Keeper>(
     wiki: &mut Wiki<K>,
     trees: &mut Trees,
@@ -86,7 +86,7 @@ pub fn refresh_here<K: Keeper>(
     ensures tables { result ≢ Ok true → K.told wiki.new.keeper ≡ K.told wiki.old.keeper }
     ensures keeper { GoesOn K.told K.faults wiki.old wiki.new }
     ensures fault { result ≡ Err RefreshRefusal.StoreFault → Rose (K.faults wiki.old.keeper) (K.faults wiki.new.keeper) }
-    ensures no_fault { OnOk result (K.faults wiki.new.keeper ≡ K.faults wiki.old.keeper) }
+    ensures no_fault { result ≢ Err RefreshRefusal.StoreFault → K.faults wiki.new.keeper ≡ K.faults wiki.old.keeper }
 {
     wiki.facts();
     match wiki.claim() {

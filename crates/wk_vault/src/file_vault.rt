@@ -1,5 +1,5 @@
 //! The vault of the program's stores.
-ghost use Rattle.std.specs.Prelude.{◌≡◌, ◌↔◌, ◌≤◌, true, None, Some, IfOk, IfSome, IsOk, IsSome, OnOk};
+ghost use Rattle.std.specs.Prelude.{◌≡◌, ◌≢◌, ◌↔◌, ◌≤◌, true, None, Some, IfOk, IfSome, IsOk, IsSome, OnOk};
 ghost use Rattle.wk_base.specs.Faults.{Rose, one_more};
 ghost use Rattle.wk_keeper.specs.CallCounts.{CountsOne};
 ghost use Rattle.wk_vault.specs.Stores.{stored_faults, stored_told, stored_whole};
@@ -75,7 +75,7 @@ fn answered<T: Drop>(
 ) -> Result<T, OpenRefusal>
     ensures given { IfOk result (λ store. opened ≡ Ok store) }
     ensures kept { IsOk opened → IsOk result }
-    ensures no_fault { OnOk result (faults.new ≡ faults.old) }
+    ensures no_fault { result ≢ Err OpenRefusal.Failed → faults.new ≡ faults.old }
     ensures memory { result ≡ Err OpenRefusal.Memory → faults.new ≡ faults.old }
     ensures counted { result ≡ Err OpenRefusal.Failed → faults.new ≡ one_more faults.old }
     ensures never_falls { faults.old ≤ faults.new }
@@ -133,7 +133,7 @@ impl<'a> Vault for FileVault<'a> {
         ensures tells { vault_told self.new ≡ vault_told self.old }
         ensures tells_whole { vault_opens_whole self.new ≡ vault_opens_whole self.old }
         ensures never_falls { vault_faults self.old ≤ vault_faults self.new }
-        ensures no_fault { OnOk result (vault_faults self.new ≡ vault_faults self.old) }
+        ensures no_fault { result ≢ Err OpenRefusal.Failed → vault_faults self.new ≡ vault_faults self.old }
         ensures cause { result ≡ Err OpenRefusal.Failed → Rose (vault_faults self.old) (vault_faults self.new) }
         ensures one_call { OnOk result (CountsOne (vault_calls self.old) (vault_calls self.new)) }
         ensures failed_call { result ≡ Err OpenRefusal.Failed → CountsOne (vault_calls self.old) (vault_calls self.new) }

@@ -1,5 +1,5 @@
 //! A store of the program, as one keeper.
-ghost use Rattle.std.specs.Prelude.{◌≡◌, ◌≤◌, None, Some, true, is_some, IfOk, IfSome, IsErr, OnErr, OnOk};
+ghost use Rattle.std.specs.Prelude.{◌≡◌, ◌≢◌, ◌≤◌, None, Some, true, is_some, IfOk, IfSome, IsErr, OnErr, OnOk};
 ghost use Rattle.wk_base.specs.Faults.{Rose};
 ghost use Rattle.wk_table_rules.specs.Changes.{applied, fits};
 ghost use Rattle.wk_keeper.specs.CallCounts.{CountsOne};
@@ -60,7 +60,7 @@ impl Keeper for Stored {
         ensures stays_whole { stored_whole self.new ≡ stored_whole self.old }
         ensures never_falls { stored_faults self.old ≤ stored_faults self.new }
         ensures whole { stored_whole self.old ≡ true → stored_faults self.new ≡ stored_faults self.old }
-        ensures no_fault { OnOk result (stored_faults self.new ≡ stored_faults self.old) }
+        ensures no_fault { result ≢ Err KeeperRefusal.Failed → stored_faults self.new ≡ stored_faults self.old }
         ensures cause { result ≡ Err KeeperRefusal.Failed → Rose (stored_faults self.old) (stored_faults self.new) }
         ensures one_call { OnOk result (CountsOne (stored_calls self.old) (stored_calls self.new)) }
         ensures failed_call { result ≡ Err KeeperRefusal.Failed → CountsOne (stored_calls self.old) (stored_calls self.new) }

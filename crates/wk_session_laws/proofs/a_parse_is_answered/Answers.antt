@@ -3,7 +3,7 @@ use Rattle.wk_session_laws.proofs.Pointed.{parse_answered, parse_reached}
 use Rattle.wk_session_laws.proofs.a_parse_is_answered.Goals as goal
 
 pub returns-clause-seen : goal.returns-clause-seen
-returns-clause-seen c = λ world is_whole faults start. parse_answered (MayFail is_whole faults start)
+returns-clause-seen c = λ start. parse_answered (MayFail start)
 
 pub returns-clause-reached : goal.returns-clause-reached
-returns-clause-reached c = λ world is_whole faults start. parse_reached (MayFail is_whole faults start)
+returns-clause-reached c = λ start. parse_reached (MayFail start)

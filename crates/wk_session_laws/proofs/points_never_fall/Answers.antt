@@ -3,10 +3,10 @@ use Rattle.wk_session_laws.proofs.Pointed.{all_steps_rise, replies_rise, step_be
 use Rattle.wk_session_laws.proofs.points_never_fall.Goals as goal
 
 pub returns-clause-replies : goal.returns-clause-replies
-returns-clause-replies c = λ world is_whole faults start. replies_rise (MayFail is_whole faults start)
+returns-clause-replies c = λ start. replies_rise (MayFail start)
 
 pub returns-clause-steps : goal.returns-clause-steps
-returns-clause-steps c = λ world is_whole faults start. all_steps_rise (MayFail is_whole faults start)
+returns-clause-steps c = λ start. all_steps_rise (MayFail start)
 
 pub returns-clause-behind : goal.returns-clause-behind
-returns-clause-behind c = λ world is_whole faults start. step_behind (MayFail is_whole faults start)
+returns-clause-behind c = λ start. step_behind (MayFail start)

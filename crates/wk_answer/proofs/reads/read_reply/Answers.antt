@@ -2,7 +2,8 @@ use Rattle.std.proofs.Common.{◌≡◌, Result, Err, sym, ap, ◌∙◌, subst}
 use Rattle.std.specs.Prelude.{IfOk}
 use Rattle.std.proofs.lemmas.Bool.{lt-ltb}
 use Rattle.serde_json.specs.View.{view}
-use Rattle.wk_request.specs.Asked.{ask_of, request_asked}
+use Rattle.wk_request_rules.specs.Requests.{Ask}
+use Rattle.wk_request.specs.Asked.{ask_of, read_of, request_asked}
 use Rattle.wk_core.specs.declared.outcomes.PageRead.{PageRead}
 use Rattle.wk_core.specs.declared.outcomes.ReadRefusal.{ReadRefusal}
 use Rattle.wk_core.specs.declared.outcomes.ReadRefusal.TheVariants.{Future}
@@ -23,10 +24,13 @@ returns-in-Err-clause-future c latest most state moment is later =
     (sym (early most state latest moment (request_asked c.args.request.now) (lt-ltb latest c.args.request.now.least later)))
     (c.early_reply.ensures latest same)
 
-pub returns-in-Ok-clause-value : goal.returns-in-Ok-clause-value
-returns-in-Ok-clause-value c found most state moment is right reached =
-    let same : c.in-Ok.read ≡ found = cc in
+pub returns-clause-value : goal.returns-clause-value
+returns-clause-value c found most state moment is right reached =
+    let same : c.in-Ok.found ≡ found = cc in
     let ask = ask_of c.args.request.now.ask in
-    let answered = c.found_reply.ensures most state moment (subst (λ (f : PageRead). IsRightRead state ask (reading_of f)) (sym same) right) in
+    let asks : read_of c.in-Read.asked ≡ ask = c.in-Read.ensures in
+    let answered = c.found_reply.ensures most state moment
+    (subst (λ (a : Ask). IsRightRead state a (reading_of c.in-Ok.found)) (sym asks) (subst (λ (f : PageRead). IsRightRead state ask (reading_of f)) (sym same) right)) in
     subst (λ (a : Answered). IfOk c.found_reply.result (λ v. view v ≡ a.reply.value))
-    (ap (λ (f : PageRead). answer_to_ask most state f.point moment ask) same ∙ sym (reached-answer most state found.point moment (request_asked c.args.request.now) reached)) answered
+    (ap (λ (a : Ask). answer_to_ask most state c.in-Ok.found.point moment a) asks
+    ∙ (ap (λ (f : PageRead). answer_to_ask most state f.point moment ask) same ∙ sym (reached-answer most state found.point moment (request_asked c.args.request.now) c.requires.asked reached))) answered

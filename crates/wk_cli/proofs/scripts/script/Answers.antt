@@ -7,7 +7,7 @@ pub returns-in-Ok : goal.returns-in-Ok
 returns-in-Ok g c = record {
   scripted = over_a_store c.in-Ok.store
       (record { tables = c.in-Ok.ensures.given; whole = c.in-Ok.ensures.whole; no_fault = c.in-Ok.ensures.no_faults })
-      c.in-Ok.ensures.no_fault c.script_over.ensures.over;
+      (c.in-Ok.ensures.no_fault (λ e. cc)) c.script_over.ensures.over;
   reads_never_fall = c.script_over.ensures.reads_never_fall;
   no_read_fault = c.script_over.ensures.no_read_fault;
   read_fault = c.script_over.ensures.read_fault;

@@ -9,7 +9,7 @@ pub returns-in-Ok : goal.returns-in-Ok
 returns-in-Ok g c = record {
   served = λ rest. over_the_store c.in-Ok.store
       (record { tables = c.in-Ok.ensures.given; whole = c.in-Ok.ensures.whole; no_fault = c.in-Ok.ensures.no_faults })
-      c.in-Ok.ensures.no_fault
+      (c.in-Ok.ensures.no_fault (λ e. cc))
       (record {
         left = c.serve_over.result.keeper;
         end = c.serve_over.result.end;

@@ -6,7 +6,7 @@ use Rattle.wk_complete_laws.specs.Example.{save_a}
 use Rattle.wk_complete_laws.proofs.examples.an_edit_that_is_answered.Goals as goal
 
 pub returns-clause-began : goal.returns-clause-began
-returns-clause-began c = record { whole = refl; count = λ keeper is. lit≤ tt }
+returns-clause-began c = record { count = 0; failed = refl; rises = lit≤ tt }
 
 pub returns-clause-answered : goal.returns-clause-answered
 unfolding computing

@@ -3,5 +3,5 @@ use Rattle.wk_complete_laws.proofs.Answering.{page-shown-or-starved}
 use Rattle.wk_complete_laws.proofs.replies.a_page_that_exists_is_shown.Goals as goal
 
 pub returns : goal.returns
-returns c = λ world is_whole faults start old new least page title moments reply made named reached there x.
-    page-shown-or-starved old new least page title named (MayFail is_whole faults start) moments reply made reached there x
+returns c = λ start old new least page title moments reply made named reached there x.
+    page-shown-or-starved old new least page title named (MayFail start) moments reply made reached there x

@@ -14,5 +14,5 @@ returns g c = λ page title asked named there reached.
     let same : answer_to_request wiki.start.limits wiki.state (length wiki.journal) 0 request ≡ answer_to_request wiki.start.limits wiki.state (length wiki.journal) 0 (record request { ask = parse page }) =
     ap (λ (a : Ask). answer_to_request wiki.start.limits wiki.state (length wiki.journal) 0 (record request { ask = a })) asked in
     told-value view _ _ c.answer.result
-    (ap (λ (a : Answered). a.reply.value) (same ∙ parse-shows wiki.start.limits wiki.state (length wiki.journal) 0 request.least page title named there reached))
+    (ap (λ (a : Answered). a.reply.value) (same ∙ parse-shows wiki.start.limits wiki.state (length wiki.journal) 0 request.least page request.subst title named there reached))
     (c.answer.ensures 0)

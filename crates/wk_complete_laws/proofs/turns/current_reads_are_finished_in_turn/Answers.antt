@@ -7,5 +7,5 @@ pub returns-clause-call : goal.returns-clause-call
 returns-clause-call g c =
     made-at c.args.shared.now.start c.args.pass.now c.finish_job.new.pass (FinishTold c.args.ticket.ticket c.args.draft.reads c.finish_job.result.0) (IsFinishInTurn c.args.ticket.ticket c.args.draft.reads c.finish_job.result.0)
     (λ state point event told. finish-in-turn c.args.ticket.ticket c.args.draft.reads c.finish_job.result.0 c.args.shared.now.start state point event
-    (λ is. never-fails g.K.Keeper.is_whole g.K.Keeper.faults c.args.shared.now.start c.requires.whole (c.finish_job.ensures.fault is)) told)
+    (λ is. never-fails c.args.shared.now.start c.requires.whole (c.finish_job.ensures.fault is)) told)
     c.finish_job.ensures.call

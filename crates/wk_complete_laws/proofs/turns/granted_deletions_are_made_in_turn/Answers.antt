@@ -8,5 +8,5 @@ pub returns-clause-call : goal.returns-clause-call
 returns-clause-call g c =
     made-at c.args.shared.now.start c.args.pass.now c.remove.new.pass (SaveTold (deletion c.args.title.now c.args.base) c.args.now c.remove.result.0) (IsSaveInTurn (deletion c.args.title.now c.args.base) c.args.now c.remove.result.0)
     (λ state point event told. save-in-turn (deletion c.args.title.now c.args.base) c.args.now c.remove.result.0 c.args.shared.now.start state point event
-    (λ is. never-fails g.K.Keeper.is_whole g.K.Keeper.faults c.args.shared.now.start c.requires.whole (c.remove.ensures.fault is)) told)
+    (λ is. never-fails c.args.shared.now.start c.requires.whole (c.remove.ensures.fault is)) told)
     c.remove.ensures.call

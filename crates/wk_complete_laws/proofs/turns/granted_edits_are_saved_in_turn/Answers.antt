@@ -8,5 +8,5 @@ pub returns-clause-call : goal.returns-clause-call
 returns-clause-call g c =
     made-at c.args.shared.now.start c.args.pass.now c.save.new.pass (SaveTold (edit_asked c.args.edit.now) c.args.now c.save.result.0) (IsSaveInTurn (edit_asked c.args.edit.now) c.args.now c.save.result.0)
     (λ state point event told. save-in-turn (edit_asked c.args.edit.now) c.args.now c.save.result.0 c.args.shared.now.start state point event
-    (λ is. never-fails g.K.Keeper.is_whole g.K.Keeper.faults c.args.shared.now.start c.requires.whole (c.save.ensures.fault is)) told)
+    (λ is. never-fails c.args.shared.now.start c.requires.whole (c.save.ensures.fault is)) told)
     c.save.ensures.call

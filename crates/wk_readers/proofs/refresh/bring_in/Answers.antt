@@ -17,11 +17,11 @@ give_back-point-requires-clause-ticket g c = c.drafted.ensures.tickets c.args.ti
 
 pub returns-in-Ok : goal.returns-in-Ok
 returns-in-Ok g c =
-    subst (IsBroughtIn g.K.Keeper.is_whole g.K.Keeper.faults c.args.shared.now c.args.pass.now c.finish_job-answer.new.pass c.args.ticket) (sym c.came_in.ensures)
-    (finished-in g.K.Keeper.is_whole g.K.Keeper.faults c.args.shared.now c.args.pass.now c.drafted.new.pass c.finish_job-answer.new.pass c.drafted.ensures.pass c.finish_job-answer.result.1 c.finish_job-answer.ensures.pass c.args.ticket
+    subst (IsBroughtIn c.args.shared.now c.args.pass.now c.finish_job-answer.new.pass c.args.ticket) (sym c.came_in.ensures)
+    (finished-in c.args.shared.now c.args.pass.now c.drafted.new.pass c.finish_job-answer.new.pass c.drafted.ensures.pass c.finish_job-answer.result.1 c.finish_job-answer.ensures.pass c.args.ticket
     c.in-Ok.draft.reads c.in-Ok.ensures.draft.since c.in-Ok.title c.finish_job-answer.result.0 (c.in-Ok.ensures.title ∙ c.title.ensures) c.finish_job-answer.ensures.call c.finish_job-answer.ensures.fault)
 
 pub returns-in-Err : goal.returns-in-Err
 returns-in-Err g c =
-    given-in g.K.Keeper.is_whole g.K.Keeper.faults c.args.shared.now c.args.pass.now c.drafted.new.pass c.give_back-point.new.pass c.drafted.ensures.pass c.give_back-point.result c.give_back-point.ensures.pass c.args.ticket
+    given-in c.args.shared.now c.args.pass.now c.drafted.new.pass c.give_back-point.new.pass c.drafted.ensures.pass c.give_back-point.result c.give_back-point.ensures.pass c.args.ticket
     c.give_back-point.ensures.call

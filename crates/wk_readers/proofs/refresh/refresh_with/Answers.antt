@@ -2,20 +2,20 @@ use Rattle.wk_readers.proofs.StepLaws.{claimed-step, fanned-step, fault-step, fu
 use Rattle.wk_readers.proofs.refresh.refresh_with.Goals as goal
 
 pub returns-in-Idle : goal.returns-in-Idle
-returns-in-Idle g c = idle-step g.K.Keeper.is_whole g.K.Keeper.faults c.args.shared.now c.args.pass.now c.begin.new.pass c.in-Idle.claimed c.in-Idle.ensures
+returns-in-Idle g c = idle-step c.args.shared.now c.args.pass.now c.begin.new.pass c.in-Idle.claimed c.in-Idle.ensures
 
 pub returns-in-Fanned : goal.returns-in-Fanned
-returns-in-Fanned g c = fanned-step g.K.Keeper.is_whole g.K.Keeper.faults c.args.shared.now c.args.pass.now c.begin.new.pass c.in-Fanned.fanned c.in-Fanned.ensures
+returns-in-Fanned g c = fanned-step c.args.shared.now c.args.pass.now c.begin.new.pass c.in-Fanned.fanned c.in-Fanned.ensures
 
 pub returns-in-Claimed : goal.returns-in-Claimed
 returns-in-Claimed g c =
-    claimed-step g.K.Keeper.is_whole g.K.Keeper.faults c.args.shared.now c.args.pass.now c.begin.new.pass c.in-Claimed.ticket c.in-Claimed.ensures c.bring_in.new.pass c.bring_in.result c.bring_in.ensures
+    claimed-step c.args.shared.now c.args.pass.now c.begin.new.pass c.in-Claimed.ticket c.in-Claimed.ensures c.bring_in.new.pass c.bring_in.result c.bring_in.ensures
 
 pub returns-in-JournalFull : goal.returns-in-JournalFull
-returns-in-JournalFull g c = full-step g.K.Keeper.is_whole g.K.Keeper.faults c.args.shared.now c.args.pass.now c.begin.new.pass c.in-JournalFull.ensures
+returns-in-JournalFull g c = full-step c.args.shared.now c.args.pass.now c.begin.new.pass c.in-JournalFull.ensures
 
 pub returns-in-StoreFault : goal.returns-in-StoreFault
-returns-in-StoreFault g c = fault-step g.K.Keeper.is_whole g.K.Keeper.faults c.args.shared.now c.args.pass.now c.begin.new.pass c.in-StoreFault.ensures
+returns-in-StoreFault g c = fault-step c.args.shared.now c.args.pass.now c.begin.new.pass c.in-StoreFault.ensures
 
 pub returns-in-Memory : goal.returns-in-Memory
-returns-in-Memory g c = wanting-step g.K.Keeper.is_whole g.K.Keeper.faults c.args.shared.now c.args.pass.now c.begin.new.pass c.in-Memory.ensures
+returns-in-Memory g c = wanting-step c.args.shared.now c.args.pass.now c.begin.new.pass c.in-Memory.ensures

@@ -12,6 +12,6 @@ pub returns : goal.returns
 returns g c =
     let long = c.work_all.auto.hands in
     let whole = c.as_mut_slice.ensures.len in
-    drained g.K.Keeper.is_whole g.K.Keeper.faults c.args.shared.now (λ h. h.worker) (λ w. w.reader.pass) (λ h. h.end) c.args.workers.items c.as_mut_slice.result.now c.work_all.new.hands _ c.dismiss.new.workers.items c.dismiss.result
+    drained c.args.shared.now (λ h. h.worker) (λ w. w.reader.pass) (λ h. h.end) c.args.workers.items c.as_mut_slice.result.now c.work_all.new.hands _ c.dismiss.new.workers.items c.dismiss.result
     (sliced _ _ _ _ c.as_mut_slice.ensures.value (made-for _ _ _ _ c.requires.no_hand c.hire.ensures)) long c.work_all.ensures (written _ _ _ (omega (arith, long, whole)))
     (none-before _ _ _ c.requires.none_back c.dismiss.ensures.workers) c.dismiss.ensures.refusal

@@ -5,5 +5,5 @@ use Rattle.wk_script.proofs.api.api.Goals as goal
 
 pub returns-in-Err : goal.returns-in-Err
 returns-in-Err g c =
-    declined _ _ c.args.wiki.now c.args.tickets.now.items _ (requested c.args.query.now [] true) c.in-Err.refusal c.decline.result
-    c.requires.holds c.in-Err.ensures.err c.decline.ensures
+    declined _ _ c.args.wiki.now c.args.tickets.now.items _ (requested c.args.query.now [] true) c.in-Err.refusal c.declined.result
+    c.requires.holds c.in-Err.ensures.err (rw c.point.ensures at c.declined.ensures)

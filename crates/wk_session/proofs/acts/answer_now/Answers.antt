@@ -10,12 +10,12 @@ use Rattle.wk_session.proofs.acts.answer_now.Goals as goal
 
 pub give-point-requires-clause-made : goal.give-point-requires-clause-made
 give-point-requires-clause-made g c =
-    makes g.K.Keeper.told g.K.Keeper.is_whole c.args.shared.now c.args.reader.now.pass c.take-held.new.reader.pass c.take-held.result.value c.take-held.result.value c.take-held.ensures.taken
+    makes g.K.Keeper.told c.args.shared.now c.args.reader.now.pass c.take-held.new.reader.pass c.take-held.result.value c.take-held.result.value c.take-held.ensures.taken
     NothingTold _ c.take-held.ensures.before (looked g.K.Keeper.told c.args.reader.now.pass.own c.take-held.result.value)
 
 pub returns-in-Ok : goal.returns-in-Ok
 returns-in-Ok g c =
-    let fails = MayFail g.K.Keeper.is_whole g.K.Keeper.faults c.args.shared.now.start in
+    let fails = MayFail c.args.shared.now.start in
     let request = request_asked c.args.request.now in
     let parsed = valid request in
     let taken = c.take-held.ensures.taken in
@@ -24,23 +24,23 @@ returns-in-Ok g c =
     (request-none wiki.start.limits wiki.state (length wiki.journal) 0 request c.requires.asks) (c.in-Ok.ensures 0) in
     let Call = ActTold fails parsed [] c.in-Ok.value in
     told-of c.args.shared.now fails c.args.reader.now.pass c.give-point.new.reader.pass c.give-point.result
-    (has-seen g.K.Keeper.told g.K.Keeper.is_whole c.args.shared.now c.args.reader.now.pass c.take-held.new.reader.pass wiki wiki taken _ _ _
+    (has-seen g.K.Keeper.told c.args.shared.now c.args.reader.now.pass c.take-held.new.reader.pass wiki wiki taken _ _ _
     c.requires.turn c.take-held.ensures.before c.give-point.ensures Call out)
-    parsed [] c.in-Ok.value (no-moments request.ask request.least c.requires.asks)
-    (is-made g.K.Keeper.told g.K.Keeper.is_whole c.args.shared.now c.args.reader.now.pass c.take-held.new.reader.pass wiki wiki taken _ _ _
+    parsed [] c.in-Ok.value (no-moments request c.requires.asks)
+    (is-made g.K.Keeper.told c.args.shared.now c.args.reader.now.pass c.take-held.new.reader.pass wiki wiki taken _ _ _
     c.requires.turn c.take-held.ensures.before c.give-point.ensures Call out)
 
 pub returns-in-Err : goal.returns-in-Err
 returns-in-Err g c =
-    let fails = MayFail g.K.Keeper.is_whole g.K.Keeper.faults c.args.shared.now.start in
+    let fails = MayFail c.args.shared.now.start in
     let request = request_asked c.args.request.now in
     let taken = c.take-held.ensures.taken in
     let wiki = c.take-held.result.value in
     let out = looked g.K.Keeper.told c.args.reader.now.pass.own wiki in
     starved c.args.shared.now fails c.args.reader.now.pass c.give-point.new.reader.pass c.give-point.result
-    (has-seen g.K.Keeper.told g.K.Keeper.is_whole c.args.shared.now c.args.reader.now.pass c.take-held.new.reader.pass wiki wiki taken _ _ _
+    (has-seen g.K.Keeper.told c.args.shared.now c.args.reader.now.pass c.take-held.new.reader.pass wiki wiki taken _ _ _
     c.requires.turn c.take-held.ensures.before c.give-point.ensures NothingTold out)
     (valid request) [] c.no_memory.result
-    (is-made g.K.Keeper.told g.K.Keeper.is_whole c.args.shared.now c.args.reader.now.pass c.take-held.new.reader.pass wiki wiki taken _ _ _
+    (is-made g.K.Keeper.told c.args.shared.now c.args.reader.now.pass c.take-held.new.reader.pass wiki wiki taken _ _ _
     c.requires.turn c.take-held.ensures.before c.give-point.ensures NothingTold out)
-    (no-moments request.ask request.least c.requires.asks) c.no_memory.ensures.point c.no_memory.ensures.value
+    (no-moments request c.requires.asks) c.no_memory.ensures.point c.no_memory.ensures.value

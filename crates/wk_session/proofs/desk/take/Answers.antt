@@ -10,5 +10,7 @@ returns-clause-taken g c = record {
   own = c.enter-held.ensures.own;
   still_open = c.enter-held.ensures.still_open;
   run = c.facts.ensures.run;
-  whole = c.facts.ensures.whole;
 }
+
+pub returns-clause-keeper : goal.returns-clause-keeper
+returns-clause-keeper g c = record { whole = c.facts.ensures.whole; failed = c.facts.ensures.failed }

@@ -10,7 +10,7 @@ returns-in-Err-clause-replied g c = nothing-replied _ _ _ _ c.args.points.now.it
 
 pub returns-clause-replied : goal.returns-clause-replied
 returns-clause-replied g c =
-    replied-with c.args.shared.now (MayFail g.K.Keeper.is_whole g.K.Keeper.faults c.args.shared.now.start) c.args.worker.now.reader.pass c.answer_message-answer.new.worker.reader.pass
+    replied-with c.args.shared.now (MayFail c.args.shared.now.start) c.args.worker.now.reader.pass c.answer_message-answer.new.worker.reader.pass
     (message_in c.args.message.now) _ _ _ _ _ _ c.answer_message-answer.result c.args.points.now.items _ _ c.args.message.now.last
     c.send_answer.ensures.rest c.answer_message-answer.ensures refl
     (c.note.ensures ∙ ap (λ l. l ++ option_to_list c.answer_message-answer.result.point) c.reserve.ensures.items) c.send_answer.ensures.sent

@@ -9,7 +9,7 @@ use Rattle.wk_session.proofs.session.serve_all.Goals as goal
 
 pub messages-init : goal.messages-init
 messages-init g c = record {
-  served = served-begun (MayFail g.K.Keeper.is_whole g.K.Keeper.faults c.args.shared.now.start) (seen_by c.args.shared.now.start c.args.worker.now.reader.pass) _ c.new-messages.result c.args.points.now.items c.args.refreshes.now.items
+  served = served-begun (MayFail c.args.shared.now.start) (seen_by c.args.shared.now.start c.args.worker.now.reader.pass) _ c.new-messages.result c.args.points.now.items c.args.refreshes.now.items
       c.new-messages.ensures c.requires.no_point c.requires.no_refresh;
   free = record { turn = c.requires.turn; free = c.requires.free };
   few = (let none = ap (λ (r : Reading). r.total) c.new-messages.ensures in omega (arith, none));
@@ -20,7 +20,7 @@ messages-init g c = record {
 -- the reading ended
 pub returns-in-Err-clause-session : goal.returns-in-Err-clause-session
 returns-in-Err-clause-session g c =
-    session-read (MayFail g.K.Keeper.is_whole g.K.Keeper.faults c.args.shared.now.start) _ _ _ _ c.messages.messages c.next.new.self _ _ c.messages.invariant.served _ _ _ _
+    session-read (MayFail c.args.shared.now.start) _ _ _ _ c.messages.messages c.next.new.self _ _ c.messages.invariant.served _ _ _ _
     c.in-Err.end c.end_reading.result c.next.ensures.few c.in-Err.ensures.err c.next.ensures.written c.end_reading.ensures.rest c.end_reading.ensures.ended
 
 pub returns-in-Err-clause-counted : goal.returns-in-Err-clause-counted
@@ -33,7 +33,7 @@ returns-in-Err-clause-counted g c =
 -- a message wasn't answered in full
 pub returns-in-Err-serve_one-clause-session : goal.returns-in-Err-serve_one-clause-session
 returns-in-Err-serve_one-clause-session g c =
-    let fails = MayFail g.K.Keeper.is_whole g.K.Keeper.faults c.args.shared.now.start in
+    let fails = MayFail c.args.shared.now.start in
     let start = c.args.shared.now.start in
     let middle : Outside = record { rest = g.L.Source.rest c.messages.link; moments = g.C.Clock.left c.messages.clock; taken = g.L.Sink.taken c.messages.link } in
     session-part fails _ _ (seen_by start c.messages.worker.reader.pass) middle c.messages.messages c.messages.points.items c.messages.refreshes.items c.messages.invariant.served
@@ -44,7 +44,7 @@ returns-in-Err-serve_one-clause-session g c =
 -- it was the last
 pub returns-then-message-clause-session : goal.returns-then-message-clause-session
 returns-then-message-clause-session g c =
-    let fails = MayFail g.K.Keeper.is_whole g.K.Keeper.faults c.args.shared.now.start in
+    let fails = MayFail c.args.shared.now.start in
     let start = c.args.shared.now.start in
     let middle : Outside = record { rest = g.L.Source.rest c.messages.link; moments = g.C.Clock.left c.messages.clock; taken = g.L.Sink.taken c.messages.link } in
     session-closed fails _ _ (seen_by start c.messages.worker.reader.pass) middle c.messages.messages c.messages.points.items c.messages.refreshes.items c.messages.invariant.served
@@ -63,7 +63,7 @@ messages-smaller g c =
 
 pub messages-preserved : goal.messages-preserved
 messages-preserved g c =
-    let fails = MayFail g.K.Keeper.is_whole g.K.Keeper.faults c.args.shared.now.start in
+    let fails = MayFail c.args.shared.now.start in
     let start = c.args.shared.now.start in
     let middle : Outside = record { rest = g.L.Source.rest c.messages.link; moments = g.C.Clock.left c.messages.clock; taken = g.L.Sink.taken c.messages.link } in
     record {

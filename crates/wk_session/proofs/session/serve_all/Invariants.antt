@@ -7,7 +7,7 @@ use Rattle.wk_session.proofs.session.serve_all.Given as goal
 -- the messages so far were answered in full
 abbrev pub invariant-messages : goal.invariant-messages
 invariant-messages g l = record {
-  served : HasServed (MayFail g.K.Keeper.is_whole g.K.Keeper.faults l.shared.start) (seen_by l.shared.start l.fn.worker.reader.pass) (seen_by l.shared.start l.worker.reader.pass)
+  served : HasServed (MayFail l.shared.start) (seen_by l.shared.start l.fn.worker.reader.pass) (seen_by l.shared.start l.worker.reader.pass)
       (record { rest = g.L.Source.rest l.fn.link; moments = g.C.Clock.left l.fn.clock; taken = g.L.Sink.taken l.fn.link })
       (record { rest = g.L.Source.rest l.link; moments = g.C.Clock.left l.clock; taken = g.L.Sink.taken l.link })
       l.messages l.points.items l.refreshes.items;

@@ -13,13 +13,13 @@ returns-in_default-clause-session g c =
     let shared = c.args.shared.now in
     let old = c.args.worker.now.reader.pass in
     let new = c.look-point.new.reader.pass in
-    session-unbegun (MayFail g.K.Keeper.is_whole g.K.Keeper.faults shared.start) (seen_by shared.start old) (seen_by shared.start new) _ _ _
+    session-unbegun (MayFail shared.start) (seen_by shared.start old) (seen_by shared.start new) _ _ _
     (read-goes shared old new (seen-read shared old new _ c.look-point.ensures.pass c.look-point.ensures.own)) c.new-points.ensures.items c.new-refreshes.ensures.items
 
 pub returns-clause-session : goal.returns-clause-session
 returns-clause-session g c =
     let shared = c.args.shared.now in
-    let fails = MayFail g.K.Keeper.is_whole g.K.Keeper.faults shared.start in
+    let fails = MayFail shared.start in
     let old = c.args.worker.now.reader.pass in
     let begun = c.look-point.new.reader.pass in
     let new = c.serve_all-end.new.worker.reader.pass in

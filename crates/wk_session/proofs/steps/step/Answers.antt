@@ -6,6 +6,6 @@ use Rattle.wk_session.proofs.steps.step.Goals as goal
 
 pub returns : goal.returns
 returns g c =
-    subst (IsStepTold c.args.shared.now (MayFail g.K.Keeper.is_whole g.K.Keeper.faults c.args.shared.now.start) c.args.worker.now.reader.pass c.refresh_one-refreshed.new.reader.pass)
+    subst (IsStepTold c.args.shared.now (MayFail c.args.shared.now.start) c.args.worker.now.reader.pass c.refresh_one-refreshed.new.reader.pass)
     (sym c.kind_of.ensures)
-    (refreshed-step g.K.Keeper.is_whole g.K.Keeper.faults c.args.shared.now c.args.worker.now.reader.pass c.refresh_one-refreshed.new.reader.pass c.refresh_one-refreshed.result c.refresh_one-refreshed.ensures.refreshed)
+    (refreshed-step c.args.shared.now c.args.worker.now.reader.pass c.refresh_one-refreshed.new.reader.pass c.refresh_one-refreshed.result c.refresh_one-refreshed.ensures.refreshed)

@@ -13,7 +13,7 @@ returns-then-left-gt0-3 g c =
     let claimed = ap (λ l. l.claimed) c.left-left.ensures in
     let some = c.if-left-gt0-3.true in
     round-renews g.K.Keeper.told g.K.Keeper.faults c.args.wiki.now c.args.wiki.now c.begin_anew.new.wiki c.begin_anew.result
-    (nothing-same g.K.Keeper.told c.args.wiki.now c.args.wiki.now refl) (same-keeper g.K.Keeper.told g.K.Keeper.faults c.args.wiki.now) refl
+    (nothing-same g.K.Keeper.told c.args.wiki.now c.args.wiki.now refl) (same-keeper g.K.Keeper.told g.K.Keeper.faults c.args.wiki.now) refl refl
     c.begin_anew.ensures.goes c.begin_anew.ensures.ends c.begin_anew.ensures.full c.begin_anew.ensures.not_done c.begin_anew.ensures.no_fault c.begin_anew.ensures.keeper
     (λ empty. absurd (claimed-not-empty c.args.wiki.now c.facts.ensures.run empty (omega (arith, claimed, some))))
 

@@ -14,13 +14,13 @@ ends-by told old new (inr each) = with_return each
 
 pub returns-in-Ok-true : goal.returns-in-Ok-true
 returns-in-Ok-true g c =
-    round-goes g.K.Keeper.told g.K.Keeper.faults c.args.wiki.now c.refresh_here.new.wiki (by_refresh (c.in-Ok-true.ensures.done (ap (λ b. Ok b) c.in-Ok-true.field-0-test))) c.in-Ok-true.ensures.keeper
+    round-goes g.K.Keeper.told g.K.Keeper.faults c.args.wiki.now c.refresh_here.new.wiki (by_refresh (c.in-Ok-true.ensures.done (ap (λ b. Ok b) c.in-Ok-true.field-0-test))) c.in-Ok-true.ensures.keeper (c.in-Ok-true.ensures.no_fault (λ e. cc))
 
 pub returns-in-Err-JournalFull : goal.returns-in-Err-JournalFull
 returns-in-Err-JournalFull g c =
     let full = c.in-Err-JournalFull.ensures.full (ap (λ r. Err r) c.in-Err-JournalFull.field-0-is) in
     round-renews g.K.Keeper.told g.K.Keeper.faults c.args.wiki.now c.refresh_here.new.wiki c.begin_anew.new.wiki c.begin_anew.result
-    (nothing-same g.K.Keeper.told c.args.wiki.now c.refresh_here.new.wiki full.2) c.in-Err-JournalFull.ensures.keeper (ap (λ w. w.start.whole) full.2)
+    (nothing-same g.K.Keeper.told c.args.wiki.now c.refresh_here.new.wiki full.2) c.in-Err-JournalFull.ensures.keeper (ap (λ (v : WikiSeen _). g.K.Keeper.faults v.keeper) full.2) (ap (λ w. w.start.whole) full.2)
     c.begin_anew.ensures.goes c.begin_anew.ensures.ends c.begin_anew.ensures.full c.begin_anew.ensures.not_done c.begin_anew.ensures.no_fault c.begin_anew.ensures.keeper
     (λ empty. claim-full c.args.wiki.now c.facts.ensures.run empty full.0 full.1)
 
@@ -33,3 +33,4 @@ pub returns-in-Err-Memory : goal.returns-in-Err-Memory
 returns-in-Err-Memory g c =
     let is = ap (λ r. Err r) c.in-Err-Memory.field-0-is in
     round-lacks g.K.Keeper.told g.K.Keeper.faults c.args.wiki.now c.refresh_here.new.wiki (ends-by g.K.Keeper.told c.args.wiki.now c.refresh_here.new.wiki (c.in-Err-Memory.ensures.memory is)) c.in-Err-Memory.ensures.keeper
+    (c.in-Err-Memory.ensures.no_fault (λ e. let memory = is in cc))

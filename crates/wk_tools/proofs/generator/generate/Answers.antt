@@ -1,6 +1,7 @@
-use Rattle.std.proofs.Common.{◌≡◌, ◌+◌, ◌∷◌, Err, arith, rules}
+use Rattle.std.proofs.Common.{◌≡◌, ◌+◌, ◌∷◌, ◌∙◌, Err, arith, rules}
 use Rattle.std.proofs.lemmas.Grind.{common_steps}
 use Rattle.wk_tool_rules.specs.Generator.{generated}
+use Rattle.wk_revs.specs.declared.verdict.SaveRefusal.TheVariants.{StoreFault}
 use Rattle.wk_tools.specs.Generating.{infobox_save, note_save, pages_left}
 use Rattle.wk_tools.proofs.Generating.{at-first, behind-infobox, behind-note, behind-page, generating-refused, keeper-on, refused-page}
 use Rattle.wk_tools.proofs.generator.generate.Goals as goal
@@ -34,6 +35,7 @@ pages-init g c =
       c.in_ok-save_note.ensures.unsealed,
       keeper-on told faults c.args.wiki.now c.args.pages c.args.number left first second (note_save ∷ pages_left c.args.pages 1 c.args.number) later
           (behind-infobox told faults c.args.wiki.now c.args.pages c.args.number left first later saved) c.in_ok-save_infobox.ensures.keeper c.in_ok-save_note.ensures.keeper,
+      c.in_ok-save_note.ensures.no_fault (λ e. cc) ∙ c.in_ok-save_infobox.ensures.no_fault (λ e. cc),
     )
 
 pub returns-in-Err-clause-refused : goal.returns-in-Err-clause-refused
@@ -57,4 +59,13 @@ pages-preserved g c =
       c.in-Ok.ensures.unsealed,
       keeper-on told faults c.args.wiki.now c.args.pages c.args.number left c.pages.wiki c.save_page.new.wiki (pages_left c.args.pages (c.pages.done + 1) c.pages.seed) between c.pages.invariant.0 c.pages.invariant.2
           c.in-Ok.ensures.keeper,
+      c.in-Ok.ensures.no_fault (λ e. cc) ∙ c.pages.invariant.3,
     )
+
+pub returns-in_err-save_note-clause-no_fault : goal.returns-in_err-save_note-clause-no_fault
+returns-in_err-save_note-clause-no_fault g c =
+    let is : c.from_residual-in_err-save_note.result ≡ Err c.in_err-save_note.field-0.0 = first_of (search rules, grind (arith, common_steps)) in
+    λ other. c.in_err-save_note.ensures.no_fault (λ e. other (is ∙ e)) ∙ c.in_ok-save_infobox.ensures.no_fault (λ e. cc)
+
+pub returns-in-Err-clause-no_fault : goal.returns-in-Err-clause-no_fault
+returns-in-Err-clause-no_fault g c = λ other. c.in-Err.ensures.no_fault (λ e. other (let is : Err c.in-Err.refusal ≡ Err StoreFault = e in cc)) ∙ c.pages.invariant.3

@@ -13,7 +13,7 @@ pub invariant_of-self : goal.invariant_of-self
 invariant_of-self g c =
     let holds : page_held_by c.self.inside.life.life.state.jobs c.args.ticket.ticket ≡ Some c.requires.out.page =
     ap (λ (w : WikiSeen g.row.K.Denot). page_held_by w.state.jobs c.args.ticket.ticket) c.self.view_is ∙ c.requires.out.held in
-    let made = subst (λ n. IsNext c.self.inside.life.life (Back n) c.give_back.new.self.life) c.spend.ensures c.give_back.ensures in
+    let made = subst (λ n. IsNext c.self.inside.life.life (Back n) c.give_back.new.self.life) c.let_go.ensures c.give_back.ensures in
     let tables = back-tables c.self.inside.life.life c.facts.ensures c.args.ticket.ticket c.requires.out.page holds c.give_back.new.self.life made in
     record {
       tables = told-same (g.K.Keeper.told c.self.inside.keeper) (g.K.Keeper.told c.self.inside.keeper) c.self.inside.life.life.state c.give_back.new.self.life.state refl tables c.self.invariant.tables;

@@ -3,7 +3,7 @@ use Rattle.wk_refresh.proofs.hands.Hand.work.Goals as goal
 
 pub returns-in-Some-end_of : goal.returns-in-Some-end_of
 returns-in-Some-end_of g c =
-    steps-end g.K.Keeper.is_whole g.K.Keeper.faults c.args.shared.now c.args.self.now.worker.reader.pass c.steps.self.worker.reader.pass c.refresh_one-answer.new.reader.pass c.refresh_one-answer.result
+    steps-end c.args.shared.now c.args.self.now.worker.reader.pass c.steps.self.worker.reader.pass c.refresh_one-answer.new.reader.pass c.refresh_one-answer.result
     c.in-Some-end_of.end c.steps.invariant c.refresh_one-answer.ensures.refreshed c.in-Some-end_of.ensures.end
 
 pub steps-preserved-after-is_idle : goal.steps-preserved-after-is_idle

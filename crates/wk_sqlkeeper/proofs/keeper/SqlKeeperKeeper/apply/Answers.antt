@@ -1,5 +1,12 @@
-use Rattle.wk_sqlkeeper.proofs.Answered.{err_through, ok_through, statement_refused}
+use Rattle.std.proofs.Common.{ap}
+use Rattle.wk_sqlkeeper.specs.declared.answers.Calls.{Calls}
+use Rattle.wk_sqlkeeper.proofs.Answered.{err_through, ok_through, statement_refused, uncounted}
 use Rattle.wk_sqlkeeper.proofs.keeper.SqlKeeperKeeper.apply.Goals as goal
+
+pub returns-clause-no_fault : goal.returns-clause-no_fault
+returns-clause-no_fault g c =
+    let count = ap (λ (calls : Calls). calls.faults) c.permit-permit.ensures in
+    uncounted (λ (calls : Calls). calls.faults) c.answered.result c.args.self.now.calls c.answered.new.self _ _ c.answered.ensures.no_fault c.answered.ensures.memory count count
 
 pub returns-clause-kept : goal.returns-clause-kept
 returns-clause-kept g c clean = ok_through _ c.make_change-answer.result c.answered.result c.answered.ensures.given (c.make_change-answer.ensures.made clean)

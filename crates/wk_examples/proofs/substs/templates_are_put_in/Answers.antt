@@ -1,0 +1,7 @@
+use Rattle.std.proofs.Common.{refl}
+use Rattle.wk_script_rules.specs.Computing.{computing as scripts}
+use Rattle.wk_examples.proofs.substs.templates_are_put_in.Goals as goal
+
+pub returns : goal.returns
+unfolding scripts
+returns c = refl

@@ -1,5 +1,0 @@
-use Rattle.wk_session.proofs.Replying.{nothing-sent}
-use Rattle.wk_session.proofs.serving.send.Goals as goal
-
-pub returns-in-Err-clause-sent : goal.returns-in-Err-clause-sent
-returns-in-Err-clause-sent g c = nothing-sent c.args.status c.args.body.now c.args.close _

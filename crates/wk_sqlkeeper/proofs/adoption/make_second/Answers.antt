@@ -1,0 +1,17 @@
+use Rattle.wk_sqltables.proofs.Inside.{on_ok}
+use Rattle.wk_sqlkeeper.proofs.Makings.{on_both}
+use Rattle.wk_sqlkeeper.proofs.adoption.make_second.Goals as goal
+
+pub returns-clause-made : goal.returns-clause-made
+returns-clause-made g c clean =
+    on_both c.make_site.result (c.make_site.ensures.made clean) (c.make_site.ensures.clean clean) (λ made clean_3 was.
+    let clean_2 = c.in_ok-make_job.ensures.clean clean_3 in
+    let clean_1 = c.in_ok-make_categorylinks.ensures.clean clean_2 in
+    made (c.in_ok-make_job.ensures.made clean_3 (c.in_ok-make_categorylinks.ensures.made clean_2 (c.in_ok-make_existlinks.ensures.made clean_1 was))))
+
+pub returns-clause-clean : goal.returns-clause-clean
+returns-clause-clean g c clean =
+    on_ok c.make_site.result (c.make_site.ensures.clean clean) (λ clean_3.
+    let clean_2 = c.in_ok-make_job.ensures.clean clean_3 in
+    let clean_1 = c.in_ok-make_categorylinks.ensures.clean clean_2 in
+    c.in_ok-make_existlinks.ensures.clean clean_1)

@@ -1,0 +1,9 @@
+use Rattle.wk_sqlkeeper.proofs.loading.read_members.Goals as goal
+
+pub returns-clause-all : goal.returns-clause-all
+returns-clause-all g c plain clean = record {
+  read = c.in_ok-rows.rows.items;
+  all = rw c.in_ok-rows.was at (c.read_all.ensures.all plain clean);
+  same = c.sort_members.ensures.same;
+  sorted = c.sort_members.ensures.sorted;
+}

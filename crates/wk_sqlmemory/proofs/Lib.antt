@@ -1,0 +1,2 @@
+pub mod EditRanges
+pub mod Told
