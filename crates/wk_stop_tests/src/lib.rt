@@ -1,5 +1,5 @@
-//! Tests of stores that stop or fail: keepers over a database and in memory, and vaults. Nothing stands on this crate, and it
-//! holds nothing but tests.
+//! Tests of stores that stop or fail: keepers over a database and in memory, and vaults; and of a wiki over a database in
+//! memory. Nothing stands on this crate, and it holds nothing but tests.
 #![tactic(auto)]
 
 #[cfg(test)]
@@ -14,3 +14,5 @@ mod same;
 mod samples;
 #[cfg(test)]
 mod stops;
+#[cfg(test)]
+mod told;

@@ -24,7 +24,7 @@ pub fn adopted<S: Alter + Drop>(
 }
 
 /// The rows of the keeper's tables, where it gives them.
-pub fn rows_of<S: Alter + Drop>(keeper: &mut SqlKeeper<S>) -> Option<TableRows> {
+pub fn rows_of<K: Keeper>(keeper: &mut K) -> Option<TableRows> {
     let Ok(tables) = keeper.load() else {
         return None;
     };
