@@ -1,0 +1,16 @@
+//! The feed of a shared wiki: the lines of the tables at its start, and then a line for each event, each once and in their order.
+#![tactic(auto)]
+
+mod events;
+mod feeder;
+mod lines;
+mod output;
+mod rows;
+mod start;
+
+pub use feeder::Feeder;
+pub use output::{Fed, FeedOutput, Outset};
+pub use start::{FeedRefusal, feed_start};
+pub use wk_base::Sink;
+pub use wk_core::{Keeper, Wiki};
+pub use wk_shared::{Pass, Shared};
