@@ -22,7 +22,7 @@ use Rattle.wk_wiki_laws.specs.WellFormed.{IsWellFormed}
 use Rattle.wk_life_laws.proofs.Marks.{Answered, exists-now}
 use Rattle.wk_wiki_rules.specs.Passes.{shown_number}
 use Rattle.wk_expand.specs.Drafts.{DraftShown}
-use Rattle.wk_present.specs.Drafted.{IsPresent}
+use Rattle.wk_live.specs.Drafted.{IsPresent}
 use Rattle.wk_request_rules.specs.Requests.{Ask, Request, asks_to_save, edit, delete, parse, expand_text, backlinks, embedded, members, changes, revisions, tokens, site_info}
 use Rattle.wk_answer_rules.specs.ApiErrors.{api_error, futurepoint, missingtitle}
 use Rattle.wk_answer_rules.specs.Pages.{PageShown, fails, page_shown, parse_entries, shows}

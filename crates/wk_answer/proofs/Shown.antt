@@ -1,9 +1,10 @@
 -- A draft of the present world shows what the rules show of the page.
-use Rattle.std.proofs.Common.{◌≡◌, ℕ, ◌≤◌, if◌then◌else◌, length, List, Option, None, Some, sym, ap, subst, ◌∙◌}
-use Rattle.std.proofs.lemmas.Bool.{le-ltb}
+use Rattle.std.proofs.Common.{◌≡◌, ◌≢◌, ℕ, ◌≤◌, true, not, if◌then◌else◌, length, List, Option, None, Some, sym, ap, subst, ◌∙◌}
+use Rattle.std.specs.Prelude.{◌==◌, unwrap_or}
+use Rattle.std.proofs.lemmas.Bool.{le-ltb, ne_eqb}
 use Rattle.wk_text_rules.specs.Marked.{text_of}
 use Rattle.wk_text_rules.specs.Titles.{PageTitle}
-use Rattle.wk_page_rules.specs.History.{current_revision}
+use Rattle.wk_page_rules.specs.History.{History, current_revision, page_exists, page_number}
 use Rattle.wk_page_rules.specs.PageRows.{PageRows}
 use Rattle.wk_view_rules.specs.Rows.{rows}
 use Rattle.wk_view_rules.specs.Worlds.{Agrees, World, of_world}
@@ -15,7 +16,15 @@ use Rattle.wk_answer_rules.specs.ApiErrors.{contenttoobig}
 use Rattle.wk_answer_rules.specs.Pages.{expand_entries, expanded_in, fails, page_shown, shows, text_shown}
 use Rattle.wk_listings.specs.Replied.{value_at}
 use Rattle.wk_expand.specs.Drafts.{DraftShown}
-use Rattle.wk_present.specs.Drafted.{IsPresent}
+use Rattle.wk_live.specs.Drafted.{IsPresent}
+use Rattle.wk_revs.specs.Standing.{standing}
+use Rattle.wk_revs.specs.declared.standing.Standing.{Standing}
+
+-- the number of a page that exists
+pub number-shown : (h : History) (title : PageTitle) (s : Standing) → s ≡ standing h title → s.current ≢ 0 → unwrap_or s.page 0 ≡ shown_number h title
+number-shown h title s is some =
+    let exists : page_exists h title ≡ true = sym (ap (λ (x : Standing). not (x.current == 0)) is) ∙ ap not (ne_eqb s.current 0 some) in
+    ap (λ (x : Standing). unwrap_or x.page 0) is ∙ sym (ap (λ b. if b then unwrap_or (page_number h title) 0 else 0) exists)
 
 pub text-shown : (pages : World) (title : PageTitle) (given : Option (List ℕ)) (d : DraftShown) → IsPresent pages title given d → text_of d.expanded.out ≡ text_shown (drafted_in pages title given)
 text-shown pages title given d present = sym (ap text_shown present.drafted)

@@ -1,7 +1,7 @@
 //! What is told of a page and of a given text (MediaWiki's API:Parsing wikitext and API:Expandtemplates).
-ghost use Rattle.std.specs.Prelude.{◌≡◌, IfOk};
+ghost use Rattle.std.specs.Prelude.{◌≡◌, ◌≢◌, IfOk};
 ghost use Rattle.serde_json.specs.View.{view};
-ghost use Rattle.wk_wiki_rules.specs.Passes.{shown_number};
+ghost use Rattle.wk_revs.specs.Standing.{standing as standing_of};
 ghost use Rattle.wk_answer_rules.specs.Pages.{expand_answer, expanded_in, page_shown, parse_answer, parse_entries, shows};
 ghost use Rattle.wk_listings.specs.Replied.{value_at};
 
@@ -11,44 +11,33 @@ use wk_bytes::Text;
 use wk_expand::{Root, Trees};
 use wk_good_rows::MAX_TEXT;
 use wk_listings::{invalid_title, missing_title};
-use wk_live::Live;
+use wk_live::{Live, draft_now};
 use wk_memory::Memory;
-use wk_present::draft_now;
 use wk_replies::{PageShown, expanded, parsed};
-use wk_revs::{Revs, real_title};
+use wk_revs::{Standing, real_title};
 use wk_rows::rows;
 use wk_saving::content_too_big;
 use wk_title::{Title, named};
 
-/// The number of the title's page, 0 where it doesn't exist.
-fn shown_number(revs: &Revs, title: &Title) -> u32
-    ensures { result ≡ shown_number revs.now.history title.now }
-{
-    if revs.current(title) == 0 {
-        return 0;
-    }
-    match revs.page(title) {
-        Some(page) => page,
-        None => 0,
-    }
-}
-
-/// What is told of a page that exists.
+/// What is told of a page that exists, of whose title this stands.
 fn parsed_page(
     alloc: Global,
     live: &Live,
     title: &Title,
+    standing: Standing,
     point: u64,
     trees: &mut Trees,
 ) -> Result<Value, Memory>
+    requires standing { standing ≡ standing_of live.now.state.history title.now }
+    requires exists { standing.current ≢ 0 }
     ensures { IfOk result (λ v. view v ≡ value_at point (shows (parse_entries (page_shown live.now.state title.now)))) }
 {
     let draft = draft_now(alloc, live, title, &Root::Page, trees)?;
     let rows = rows(alloc, &draft)?;
     let page = PageShown {
         title,
-        number: shown_number(live.revs(), title),
-        revision: live.revs().current(title),
+        number: standing.page.unwrap_or(0),
+        revision: standing.current,
         text: draft.out().text(),
         rows: &rows,
     };
@@ -68,10 +57,11 @@ pub fn parse(
     match real_title(alloc, page)? {
         None => invalid_title(alloc, point),
         Some(title) => {
-            if live.revs().current(&title) == 0 {
+            let standing = live.revs().standing(&title);
+            if standing.current == 0 {
                 return missing_title(alloc, point);
             }
-            parsed_page(alloc, live, &title, point, trees)
+            parsed_page(alloc, live, &title, standing, point, trees)
         }
     }
 }

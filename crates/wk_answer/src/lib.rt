@@ -12,5 +12,5 @@ pub use reading::{list_answer, read_answer, site_answer};
 pub use reads::read_reply;
 pub use refusals::{declined, no_memory};
 pub use requests::{act, act_with, answer};
+pub use wk_replies::error_reply;
 pub use wk_revs::real_title;
-pub use wk_saving::error_reply;

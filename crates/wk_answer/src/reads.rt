@@ -91,7 +91,7 @@ fn early_reply(alloc: Global, refusal: ReadRefusal) -> Result<Value, Memory>
     ensures { (latest : ℕ) → refusal ≡ Future latest → IfOk result (λ v. view v ≡ (api_error (futurepoint latest) latest).value) }
 {
     match refusal {
-        ReadRefusal::Future(latest) => Ok(future_point(alloc, latest, latest)?),
+        ReadRefusal::Future(latest) => future_point(alloc, latest, latest),
         ReadRefusal::Memory => unreachable!(),
     }
 }

@@ -16,15 +16,12 @@ fn numbered(alloc: Global, number: u8, parameter: &str, point: u64) -> Result<Va
     ensures { IfOk result (λ v. view v ≡ (api_error (error_numbered number parameter.now) point).value) }
 {
     match number {
-        1 => Ok(bad_value(alloc, parameter, point)?),
-        2 => {
-            let info = "This action must be posted.";
-            Ok(error_reply(alloc, "mustbeposted", info, point)?)
-        }
-        3 => Ok(error_reply(alloc, "badtoken", "Invalid token.", point)?),
-        4 => Ok(no_title(alloc, parameter, point)?),
-        5 => Ok(error_reply(alloc, "notext", "The text must be set.", point)?),
-        _ => Ok(bad_integer(alloc, parameter, point)?),
+        1 => bad_value(alloc, parameter, point),
+        2 => error_reply(alloc, "mustbeposted", "This action must be posted.", point),
+        3 => error_reply(alloc, "badtoken", "Invalid token.", point),
+        4 => no_title(alloc, parameter, point),
+        5 => error_reply(alloc, "notext", "The text must be set.", point),
+        _ => bad_integer(alloc, parameter, point),
     }
 }
 
@@ -32,7 +29,7 @@ fn numbered(alloc: Global, number: u8, parameter: &str, point: u64) -> Result<Va
 pub fn no_memory(alloc: Global, point: u64) -> Result<Value, Memory>
     ensures { IfOk result (λ v. view v ≡ (api_error nomemory point).value) }
 {
-    Ok(error_reply(alloc, "nomemory", "Out of memory.", point)?)
+    error_reply(alloc, "nomemory", "Out of memory.", point)
 }
 
 /// The reply to parameters that ask nothing, by their refusal (MediaWiki's API:Errors and warnings; the order is own), or that

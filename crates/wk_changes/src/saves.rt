@@ -4,11 +4,12 @@ ghost use Rattle.std.specs.Option.{option_copied, option_to_list};
 ghost use Rattle.wk_page_rules.specs.PageRows.{PageRows};
 ghost use Rattle.wk_table_rules.specs.Changes.{add_revision, set_page};
 ghost use Rattle.wk_wiki_rules.specs.Jobs.{JobLists, has_fan, refresh_queued, wider};
-ghost use Rattle.wk_wiki_rules.specs.Steps.{reach_of_save};
 ghost use Rattle.wk_wiki_rules.specs.Users.{some_page_names};
-ghost use Rattle.wk_wiki_rules.specs.TableChanges.{fan_edits, refresh_edits, save_change, saved_page, saved_revision};
+ghost use Rattle.wk_wiki_rules.specs.TableChanges.{fan_edits, refresh_edits, save_change};
 ghost use Rattle.wk_tables.specs.Edits.{edit_of};
+ghost use Rattle.wk_revs.specs.Standing.{standing as standing_of};
 ghost use Rattle.wk_changes.specs.Parts.{is_fan_wanted, parts};
+ghost use Rattle.wk_changes.specs.Saved.{page_of_save, revision_of_save};
 
 use crate::job_rows::{refresh_row, row_of_fan};
 use crate::rows::{page_row, revision_row};
@@ -18,68 +19,38 @@ use wk_index::Index;
 use wk_jobs::{FanJob, Jobs};
 use wk_memory::Memory;
 use wk_page_rules::Reach;
-use wk_revs::Revs;
-use wk_tables::{Change, PageRow, RevisionRow, RowEdit};
+use wk_revs::{Revs, Standing};
+use wk_tables::{Change, PageRow, RowEdit};
 use wk_title::Title;
 
-/// The row of the revision that the save makes.
-fn saved_revision(
-    alloc: Global,
-    revs: &Revs,
-    title: &Title,
-    text: Option<&Text>,
-    moment: u64,
-) -> Result<RevisionRow, Memory>
-    ensures { IfOk result (λ row. row ≡ saved_revision revs.now.history title.now (option_copied text.entry) moment) }
+/// The row that the page of a save has from then on, where this stands of its title.
+fn saved_page(standing: Standing, title: &Title, text: Option<&Text>) -> Result<PageRow, Memory>
+    ensures { IfOk result (λ row. row ≡ page_of_save standing title.now (option_copied text.entry)) }
 {
-    let number = revs.next_revision();
-    let page = revs.page_to_save(title);
-    let parent = revs.current(title);
-    revision_row(alloc, number, page, parent, moment, text)
-}
-
-/// The row that the page of the save has from then on.
-fn saved_page(revs: &Revs, title: &Title, text: Option<&Text>) -> Result<PageRow, Memory>
-    ensures { IfOk result (λ row. row ≡ saved_page revs.now.history title.now (option_copied text.entry)) }
-{
-    let page = revs.page_to_save(title);
     // A deletion leaves the page missing.
-    let latest = if text.is_some() {
-        revs.next_revision()
-    } else {
-        0
-    };
-    page_row(page, title, latest, text)
+    let latest = if text.is_some() { standing.next } else { 0 };
+    page_row(standing.to_save, title, latest, text)
 }
 
-/// The edits of the revision and of the page.
+/// The edits of the revision and of the page of a save, where this stands of its title.
 fn page_edits(
     alloc: Global,
-    revs: &Revs,
+    standing: Standing,
     title: &Title,
     text: Option<&Text>,
     moment: u64,
 ) -> Result<Vec<RowEdit>, Memory>
-    ensures { IfOk result (λ edits. map edit_of edits.items ≡ add_revision (saved_revision revs.now.history title.now (option_copied text.entry) moment)
-        ∷ set_page (saved_page revs.now.history title.now (option_copied text.entry)) ∷ []) }
+    ensures { IfOk result (λ edits. map edit_of edits.items ≡ add_revision (revision_of_save standing (option_copied text.entry) moment)
+        ∷ set_page (page_of_save standing title.now (option_copied text.entry)) ∷ []) }
 {
-    let revision = saved_revision(alloc, revs, title, text, moment)?;
-    let page = saved_page(revs, title, text)?;
+    let number = standing.next;
+    let parent = standing.current;
+    let revision = revision_row(alloc, number, standing.to_save, parent, moment, text)?;
+    let page = saved_page(standing, title, text)?;
     let mut edits = Vec::with_capacity(alloc, 4)?;
     edits.push(RowEdit::AddRevision(revision))?;
     edits.push(RowEdit::SetPage(page))?;
     Ok(edits)
-}
-
-/// Whether the save reaches the pages that test for the title's existence.
-fn reach_of_save(existed: bool, exists: bool) -> Reach
-    ensures { result ≡ reach_of_save existed exists }
-{
-    if existed == exists {
-        Reach::Text
-    } else {
-        Reach::Both
-    }
 }
 
 /// The edit that adds a refresh job of the page, which has this title, where it has none.
@@ -173,27 +144,29 @@ fn push_some(edits: &mut Vec<RowEdit>, edit: Option<RowEdit>) -> Result<(), Memo
 }
 
 /// The change of the tables that goes with a save of the title, of this text or, where there is none, of a deletion, at
-/// this many seconds since 1970: the revision, its page, and the jobs that it queues. Whether it wants a fan job is told.
-/// Texts and titles are shared. Its cost doesn't grow with the wiki, but for the fan jobs, among which the title's is
-/// looked for.
+/// this many seconds since 1970: the revision, its page, and the jobs that it queues. What stands of the title is told, and
+/// whether the save wants a fan job. Texts and titles are shared. Its cost doesn't grow with the wiki, but for the fan jobs,
+/// among which the title's is looked for.
 pub fn save_change(
     alloc: Global,
     revs: &Revs,
     jobs: &Jobs,
     index: &Index,
+    standing: Standing,
     title: &Title,
     text: Option<&Text>,
     moment: u64,
     wants_fan: bool,
 ) -> Result<Change, Memory>
+    requires standing { standing ≡ standing_of revs.now.history title.now }
     requires numbers { jobs.now.lists.next < 2 ^ 63 }
     requires wants_fan { wants_fan ≡ is_fan_wanted (parts revs.now jobs.now index.now) title.now (option_copied text) }
     ensures { IfOk result (λ change. change ≡ save_change (parts revs.now jobs.now index.now) title.now (option_copied text.entry) moment) }
 {
-    let page = revs.page_to_save(title);
-    let reach = reach_of_save(revs.current(title) != 0, text.is_some());
+    let page = standing.to_save;
+    let reach = standing.reach(text.is_some());
     let number = number_behind(jobs, page);
-    let mut edits = page_edits(alloc, revs, title, text, moment)?;
+    let mut edits = page_edits(alloc, standing, title, text, moment)?;
     push_some(&mut edits, refresh_edit(alloc, jobs, page, title)?)?;
     push_some(
         &mut edits,

@@ -1,5 +1,5 @@
 -- What holds of a fan.
-use Rattle.std.proofs.Common.{◌≡◌, ℕ, ◌+◌, ◌≤◌, ◌<◌, ◌^◌, Bool, true, false, cond, ◌&&◌, eqb, not, List, [], ◌∷◌, length, Option, Some, None, refl, sym, ap, ◌∙◌, subst, arith}
+use Rattle.std.proofs.Common.{◌≡◌, ℕ, ◌≤◌, ◌<◌, ◌^◌, Bool, false, ◌&&◌, eqb, not, List, [], ◌∷◌, length, Option, Some, None, refl, sym, ap, ◌∙◌, subst, arith}
 use Rattle.std.proofs.lemmas.List.{length-take}
 use Rattle.std.specs.List.{enumerate_from}
 use Rattle.std.specs.Prelude.{count_by, filter, map, nat_lt, option_map, slice_get, IsSome}
@@ -8,12 +8,11 @@ use Rattle.wk_page_rules.specs.PageRows.{PageRows, names}
 use Rattle.wk_page_rules.specs.declared.Reach.{Reach}
 use Rattle.wk_table_rules.specs.Changes.{TableEdit}
 use Rattle.wk_wiki_rules.specs.Jobs.{FanEntry, JobLists, first_fan, has_refresh}
-use Rattle.wk_wiki_rules.specs.Steps.{after_fan, cursor_behind, fan_pages, next_served}
+use Rattle.wk_wiki_rules.specs.Steps.{cursor_behind, fan_pages, next_served}
 use Rattle.wk_wiki_rules.specs.Users.{users}
 use Rattle.wk_wiki_rules.specs.States.{State}
 use Rattle.wk_wiki_rules.specs.Events.{Fan}
 use Rattle.wk_wiki_rules.specs.Tables.{tables_of}
-use Rattle.wk_wiki_rules.specs.Verdicts.{journal_use}
 use Rattle.wk_wiki_rules.specs.Fans.{FanOutcome, fan_outcome, next_fan_outcome}
 use Rattle.wk_wiki_rules.specs.Room.{is_fan_refused}
 use Rattle.wk_wiki_rules.specs.TableChanges.{fan_change}

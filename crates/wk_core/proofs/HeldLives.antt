@@ -1,21 +1,20 @@
 -- What a life holds behind each event.
-use Rattle.std.proofs.Common.{◌≡◌, Bool, ℕ, suc, ◌+◌, ◌-◌, ◌≤◌, true, false, cond, List, [], ◌∷◌, ◌++◌, length, map, take, drop, Option, Some, None, refl, sym, ap, ◌∙◌, subst, arith, length-append, length-drop, length-take-le}
+use Rattle.std.proofs.Common.{◌≡◌, ℕ, suc, ◌+◌, ◌-◌, ◌≤◌, false, List, [], ◌∷◌, ◌++◌, length, drop, Option, Some, None, refl, sym, ap, ◌∙◌, subst, arith, length-append, length-drop, length-take-le}
 use Rattle.std.proofs.lemmas.List.{length-map}
 use Rattle.std.specs.Prelude.{IsSome}
 use Rattle.wk_text_rules.specs.Titles.{PageTitle}
 use Rattle.wk_page_rules.specs.History.{Revision, next_revision}
-use Rattle.wk_page_rules.specs.Verdict.{accept, max_journal}
 use Rattle.wk_wiki_rules.specs.Jobs.{JobLists, claimed_by, first_queued, given_back, page_held_by}
 use Rattle.wk_wiki_rules.specs.Steps.{after_fan, fan_pages}
 use Rattle.wk_wiki_rules.specs.States.{State}
-use Rattle.wk_wiki_rules.specs.Events.{Event, Save, Claim, Done, Back, Fan, step, with_jobs, with_refreshed, with_saved}
-use Rattle.wk_wiki_laws.specs.Saves.{Continues, PageSave, save_of, saves}
+use Rattle.wk_wiki_rules.specs.Events.{Event, Save, Claim, Done, Back, Fan, with_jobs, with_refreshed, with_saved}
+use Rattle.wk_wiki_laws.specs.Saves.{PageSave, saves}
 use Rattle.wk_wiki_rules.specs.Entries.{entries_from}
 use Rattle.wk_wiki_rules.specs.Room.{is_claim_refused, is_fan_refused, tickets_out}
 use Rattle.wk_wiki_rules.specs.declared.Entry.{Entry}
 use Rattle.wk_wiki_rules.specs.declared.Entry.TheVariants as entry
 use Rattle.wk_wiki_laws.proofs.Room.{out-step-save, out-step-fan}
-use Rattle.wk_wiki_laws.proofs.TicketsOut.{out-claimed, out-dropped, out-given_back, out-one}
+use Rattle.wk_wiki_laws.proofs.TicketsOut.{out-claimed, out-dropped, out-given_back}
 use Rattle.wk_life_laws.specs.Lives.{Life, IsLife, journal_of, start_of}
 use Rattle.wk_life_laws.specs.Next.{IsNext, with_entry, with_event}
 use Rattle.wk_life_laws.proofs.Lives.{back_life, claimed_life, counted_life, done_life, fanned_life, saved_life}

@@ -1,5 +1,6 @@
 pub mod CacheFacts
 pub mod FanFacts
+pub mod FanJobs
 pub mod HeldLives
 pub mod LoadFacts
 pub mod RefreshFacts

@@ -1,7 +1,7 @@
 -- What holds of a life that begins.
-use Rattle.std.proofs.Common.{◌≡◌, ℕ, ◌+◌, ◌≤◌, Bool, true, false, cond, eqb, ne_eqb, Result, Ok, Err, List, [], length, Option, Some, None, refl, sym, ap, ◌∙◌, subst, arith}
-use Rattle.wk_page_rules.specs.Verdict.{MostHeld, full_limits, max_journal}
-use Rattle.wk_table_rules.specs.Rows.{StoreTables, newest_version}
+use Rattle.std.proofs.Common.{◌≡◌, ℕ, ◌≤◌, true, false, cond, eqb, ne_eqb, Result, Ok, Err, List, [], Option, Some, None, refl, sym, ap, ◌∙◌, subst, arith}
+use Rattle.wk_page_rules.specs.Verdict.{MostHeld, max_journal}
+use Rattle.wk_table_rules.specs.Rows.{StoreTables}
 use Rattle.wk_table_rules.specs.GoodStore.{IsGood, first_broken}
 use Rattle.wk_wiki_rules.specs.Steps.{reopened_jobs}
 use Rattle.wk_wiki_rules.specs.States.{State}
@@ -14,9 +14,8 @@ use Rattle.wk_wiki_laws.proofs.Room.{out-reopened}
 use Rattle.wk_wiki_laws.proofs.StoresOpened.{migration-makes, reopened-again}
 use Rattle.wk_wiki_rules.specs.TableChanges.{migration}
 use Rattle.wk_table_rules.specs.Changes.{TableEdit, applied, fits}
-use Rattle.wk_wiki_laws.specs.Makes.{Makes}
 use Rattle.std.specs.Prelude.{IfOk, IfSome, OnOk, is_some}
-use Rattle.wk_life_laws.specs.Lives.{Life, IsLife, journal_of, start_of}
+use Rattle.wk_life_laws.specs.Lives.{Life, journal_of, start_of}
 use Rattle.wk_wiki_rules.specs.declared.Entry.{Entry}
 use Rattle.wk_life_laws.specs.Next.{Begins, begun, new_start}
 use Rattle.wk_life_laws.proofs.Lives.{opened_life, reopened_life}

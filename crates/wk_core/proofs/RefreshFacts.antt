@@ -1,5 +1,5 @@
 -- What holds of a refresh that comes in.
-use Rattle.std.proofs.Common.{◌≡◌, ℕ, zero, suc, ◌+◌, ◌-◌, ◌≤◌, ◌<◌, eqb, Bool, true, false, cond, ◌&&◌, List, [], ◌∷◌, ◌++◌, length, filter, not, Option, Some, None, refl, sym, ap, ◌∙◌, inl, inr, subst, arith}
+use Rattle.std.proofs.Common.{◌≡◌, ℕ, zero, suc, ◌-◌, ◌≤◌, ◌<◌, eqb, Bool, true, false, cond, ◌&&◌, List, [], ◌∷◌, length, filter, not, Option, Some, None, refl, sym, ap, ◌∙◌, inl, inr, subst, arith}
 use Rattle.std.specs.Prelude.{slice_get, slice_set, is_some, IfSome, IsSome, bytes_eq, option_map, find, map, unwrap_or}
 use Rattle.std.specs.List.{All, AllByRecursion, list_any}
 use Rattle.std.proofs.lemmas.Bool.{cases_Bool, eqb-true, or_left, or_right, and_from, and_parts}
@@ -116,6 +116,15 @@ rows-get stored page rows there = elim (cases_Bool (eqb page 0)) [
   | inr other ↦ rw other at there
 ]
 
+-- the rows that are stored of a page that is there
+pub stored-there : (state : State) (page : ℕ) (rows : PageRows) → rows-at state.stored page ≡ Some rows → stored_at state page ≡ rows
+stored-there state page rows there = elim (cases_Bool (eqb page 0)) [
+  | inl zero_page ↦ absurd (let e : None ≡ Some rows = rw zero_page at there in cc)
+  | inr other ↦
+      ap (λ b. cond b no_rows (unwrap_or (slice_get state.stored (page - 1)) no_rows)) other
+      ∙ ap (λ o. unwrap_or o no_rows) (rows-get state.stored page rows there)
+]
+
 -- between the halves of a change the page is there still, with the rows of both
 pub rows-between : (stored : List PageRows) (page : ℕ) (old between : PageRows) → rows-at stored page ≡ Some old → rows-at (with_rows_at stored page between) page ≡ Some between
 rows-between stored page old between there = elim (cases_Bool (eqb page 0)) [
@@ -187,9 +196,7 @@ module _ (life : Life) (is : IsLife life) (ticket page : ℕ) (holds : page_held
   pub refreshed-same : stored_at life.state page ≡ rows (world_of life.state) (title_at life.state.history page) → with_jobs life.state (refresh_dropped life.state.jobs page) ≡ with_refreshed life.state page
   refreshed-same current =
       let there = rows-get life.state.stored page page-there.0 page-there.1 in
-      let at : stored_at life.state page ≡ page-there.0 =
-      ap (λ b. cond b no_rows (unwrap_or (slice_get life.state.stored (page - 1)) no_rows)) (not-zero page page-within.0)
-      ∙ ap (λ o. unwrap_or o no_rows) there in
+      let at : stored_at life.state page ≡ page-there.0 = stored-there life.state page page-there.0 page-there.1 in
       let same : page-there.0 ≡ rows (world_of life.state) (title_at life.state.history page) = sym at ∙ current in
       let set = set-same life.state.stored (page - 1) (rows (world_of life.state) (title_at life.state.history page)) (there ∙ ap (λ r. Some r) same) in
       ap (λ stored. let next : State = record { history = life.state.history; stored = stored; jobs = refresh_dropped life.state.jobs page } in next) (sym set)

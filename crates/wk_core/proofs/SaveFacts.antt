@@ -1,20 +1,17 @@
 -- What holds of a save that is accepted.
-use Rattle.std.proofs.Common.{◌≡◌, ℕ, ◌+◌, ◌≤◌, ◌<◌, ◌^◌, Bool, true, false, cond, ltb, List, length, Option, Some, None, refl, sym, ap, ◌∙◌, inl, inr, subst, arith}
+use Rattle.std.proofs.Common.{◌≡◌, ℕ, ◌+◌, ◌<◌, ◌^◌, Bool, true, false, cond, ltb, List, length, Option, Some, None, refl, sym, ◌∙◌, inl, inr, subst, arith}
 use Rattle.std.specs.Prelude.{is_some}
 use Rattle.std.specs.List.{list_any, position_or_len}
 use Rattle.std.proofs.lemmas.Bool.{cases_Bool}
 use Rattle.wk_text_rules.specs.Titles.{PageTitle, title_eq}
 use Rattle.wk_page_rules.specs.History.{History, Page, can_save, page_number}
-use Rattle.wk_page_rules.specs.Verdict.{EditAsked, Verdict, Refusal, accept, refuse, no_change, is_journal_full, judged, max_pages}
-use Rattle.wk_wiki_rules.specs.Jobs.{first_fan}
-use Rattle.wk_wiki_rules.specs.Steps.{fan_pages, reach_of_save}
-use Rattle.wk_wiki_rules.specs.States.{State}
-use Rattle.wk_wiki_rules.specs.Events.{Event, Save, step}
+use Rattle.wk_page_rules.specs.Verdict.{max_pages}
+use Rattle.wk_wiki_rules.specs.Steps.{fan_pages}
+use Rattle.wk_wiki_rules.specs.Events.{Save}
 use Rattle.wk_wiki_rules.specs.Tables.{tables_of}
-use Rattle.wk_wiki_rules.specs.Verdicts.{journal_use, verdict_in}
+use Rattle.wk_wiki_rules.specs.Verdicts.{journal_use}
 use Rattle.wk_wiki_laws.proofs.Formed.{placed-in}
 use Rattle.wk_wiki_laws.proofs.KeptStates.{accepted, LeavesRoom}
-use Rattle.wk_wiki_rules.specs.SaveOutcomes.{SaveOutcome, save_numbers}
 use Rattle.wk_wiki_rules.specs.TableChanges.{save_change}
 use Rattle.wk_wiki_laws.specs.Makes.{Makes}
 use Rattle.wk_wiki_laws.proofs.ChangesMade.{save-step}
@@ -22,9 +19,11 @@ use Rattle.wk_life_laws.proofs.Accepted.{can_save-verdict}
 use Rattle.wk_life_laws.specs.Lives.{Life, IsLife, journal_of, start_of}
 use Rattle.wk_life_laws.specs.Next.{IsNext}
 use Rattle.wk_life_laws.proofs.RunFacts.{run_kept}
-use Rattle.wk_life_laws.proofs.RunRoom.{accepted_in, full_in, not_full_only, accepted_only}
-use Rattle.wk_live.specs.Wanted.{fan_of_save, wants_fan}
+use Rattle.wk_live.specs.Wanted.{fan_of_save}
+use Rattle.wk_revs.specs.Standing.{standing}
 use Rattle.wk_core.specs.Accepted.{IsAccepted}
+use Rattle.wk_core.specs.LifeHeld.{LifeHeld}
+use Rattle.wk_core.specs.PlanShown.{PlanShown}
 
 -- ---- the page of a title that has none is a new one
 
@@ -58,6 +57,24 @@ module _ (life : Life) (is : IsLife life) (title : PageTitle) (text : Option (Li
   pub save-changes : (next : Life) (moment : ℕ) → IsNext life (Save title text moment) next → Makes (tables_of life.state) (save_change life.state title text moment) (tables_of next.state)
   save-changes next moment made =
       save-step fan_pages life.state next.state (length (journal_of life)) title text moment (run_kept (start_of life) (journal_of life) life.state is.run) made.done
+
+-- ---- a plan, by its parts
+
+module _ (held seen : LifeHeld) (parts plan : PlanShown) (same : held ≡ seen) (is : parts ≡ plan) where
+  pub parts-accepted : IsAccepted seen.life plan.title plan.text → IsAccepted held.life parts.title parts.text
+  parts-accepted accepts =
+      subst (λ (p : PlanShown). IsAccepted held.life p.title p.text) (sym is)
+      (subst (λ (h : LifeHeld). IsAccepted h.life plan.title plan.text) (sym same) accepts)
+
+  pub parts-stand : plan.standing ≡ standing seen.life.state.history plan.title → parts.standing ≡ standing held.life.state.history parts.title
+  parts-stand stands =
+      subst (λ (p : PlanShown). p.standing ≡ standing held.life.state.history p.title) (sym is)
+      (subst (λ (h : LifeHeld). plan.standing ≡ standing h.life.state.history plan.title) (sym same) stands)
+
+  pub parts-fan : (fan : Option PageTitle) → fan ≡ fan_of_save seen.life.state plan.title plan.text → fan ≡ fan_of_save held.life.state parts.title parts.text
+  parts-fan fan wanted =
+      subst (λ (p : PlanShown). fan ≡ fan_of_save held.life.state p.title p.text) (sym is)
+      (subst (λ (h : LifeHeld). fan ≡ fan_of_save h.life.state plan.title plan.text) (sym same) wanted)
 
 -- ---- the title of a fan job, where one is wanted
 

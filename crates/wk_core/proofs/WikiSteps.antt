@@ -1,5 +1,5 @@
 -- What a call leaves of a wiki, by what it leaves of its life and of its keeper.
-use Rattle.std.proofs.Common.{◌≡◌, Bool, ℕ, ◌+◌, ◌≤◌, true, false, List, ◌++◌, ◌∷◌, [], length, Option, Some, None, refl, sym, ap, ◌∙◌, subst, arith, length-take-le}
+use Rattle.std.proofs.Common.{◌≡◌, Bool, ℕ, ◌+◌, true, false, List, [], length, Option, Some, None, refl, sym, ap, ◌∙◌, subst, arith, length-take-le}
 use Rattle.std.specs.Prelude.{IfSome, is_some}
 use Rattle.wk_table_rules.specs.Rows.{StoreTables}
 use Rattle.wk_table_rules.specs.Changes.{TableEdit, applied, fits}
@@ -11,15 +11,13 @@ use Rattle.wk_life_laws.specs.Lives.{Life, IsLife, journal_of, start_of}
 use Rattle.wk_life_laws.specs.Next.{IsNext}
 use Rattle.wk_life_laws.specs.Runs.{IsRun}
 use Rattle.wk_page_rules.specs.History.{next_revision}
-use Rattle.wk_page_rules.specs.Verdict.{MostHeld}
 use Rattle.wk_wiki_rules.specs.Lives.{reopened}
-use Rattle.wk_wiki_rules.specs.Starts.{Start}
 use Rattle.wk_wiki_rules.specs.Entries.{entries_from}
 use Rattle.wk_life_laws.specs.Next.{Begins, new_start, with_seal}
 use Rattle.wk_life_laws.proofs.Lives.{sealed_life}
 use Rattle.wk_core.specs.Entries.{entries_seen}
 use Rattle.wk_core.specs.LifeHeld.{LifeHeld, KeepsLife}
-use Rattle.wk_core.specs.Seen.{WikiSeen, IsTold, failed_where, seen}
+use Rattle.wk_core.specs.Seen.{failed_where, seen}
 use Rattle.wk_core.specs.Steps.{GoesOn, HasMade, HasMadeNothing, KeeperGoesOn}
 
 -- the run of a wiki, whose start tells besides of its keeper

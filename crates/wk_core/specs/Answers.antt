@@ -1,5 +1,5 @@
 -- What the wiki's calls answer, as the rules have it.
-use Rattle.std.specs.Prelude.{◌≡◌, ℕ, ◌==◌, Option, Some, None, if◌then◌else◌}
+use Rattle.std.specs.Prelude.{ℕ, ◌==◌, Option, Some, None, if◌then◌else◌}
 use Rattle.wk_text_rules.specs.Titles.{PageTitle}
 use Rattle.wk_wiki_rules.specs.SaveOutcomes.{SaveNumbers, SaveOutcome, created, changed, unchanged}
 use Rattle.wk_wiki_rules.specs.Fans.{FanOutcome}

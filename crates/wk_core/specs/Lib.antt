@@ -6,6 +6,8 @@ pub mod LifeHeld
 pub mod LifeInside
 pub mod Limits
 pub mod Loads
+pub mod PlanShown
+pub mod Plans
 pub mod Seen
 pub mod Steps
 pub mod Tickets

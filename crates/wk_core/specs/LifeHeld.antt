@@ -1,5 +1,5 @@
 -- What a life holds.
-use Rattle.std.specs.Prelude.{◌≡◌, ℕ, ◌+◌, ◌≤◌, List, length}
+use Rattle.std.specs.Prelude.{◌≡◌, ℕ, ◌+◌, ◌≤◌, length}
 use Rattle.wk_page_rules.specs.Verdict.{max_journal}
 use Rattle.wk_wiki_rules.specs.Entries.{entries_from}
 use Rattle.wk_wiki_rules.specs.Room.{tickets_out}

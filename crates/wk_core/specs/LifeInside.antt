@@ -1,5 +1,5 @@
 -- What the parts of a life stand for together.
-use Rattle.std.specs.Prelude.{ℕ, false, List, Option, vec_capacity}
+use Rattle.std.specs.Prelude.{false, vec_capacity}
 use Rattle.wk_wiki_rules.specs.Steps.{reopened_jobs}
 use Rattle.wk_wiki_rules.specs.Starts.{StartKept}
 use Rattle.wk_revs.specs.Edit.{most_held}

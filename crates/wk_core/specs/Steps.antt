@@ -1,5 +1,5 @@
 -- What a call of a wiki leaves: one event more or none, and a keeper that goes on as it did (own).
-use Rattle.std.specs.Prelude.{◌≡◌, ℕ, ◌≤◌, Bool, true, List, [], ◌∷◌, ◌++◌, length, Option, Some, None, is_some}
+use Rattle.std.specs.Prelude.{◌≡◌, ℕ, ◌≤◌, Bool, true, [], ◌∷◌, ◌++◌, length, Option, Some, None, is_some}
 use Rattle.wk_table_rules.specs.Rows.{StoreTables}
 use Rattle.wk_wiki_rules.specs.Events.{Event, step}
 use Rattle.wk_core.specs.Seen.{WikiSeen}

@@ -1,5 +1,5 @@
 //! Refreshes that come in.
-ghost use Rattle.std.specs.Prelude.{◌≡◌, ◌≢◌, ◌≤◌, ℕ, IfNone, IsTrue, None, Some, IsSome, length, true, IfOk, IfSome, OnErr, OnOk};
+ghost use Rattle.std.specs.Prelude.{◌≡◌, ◌≢◌, ◌≤◌, ◌↔◌, ℕ, IfNone, IsTrue, None, Some, IsSome, length, true, IfOk, IfSome, OnErr, OnOk};
 ghost use Rattle.std.specs.Option.{option_map};
 ghost use Rattle.wk_base.specs.Faults.{Rose};
 ghost use Rattle.wk_table_rules.specs.Changes.{applied, fits};
@@ -53,9 +53,9 @@ fn stale_answer(live: &Live, reads: &[Read]) -> Option<Finished>
     }
 }
 
-/// Whether the page has these link rows already. Takes no memory.
+/// Whether the page is there and has these link rows already. Takes no memory.
 fn is_stored(live: &Live, page: u32, rows: &PageRows) -> bool
-    ensures { IsTrue result → stored_at live.now.state page ≡ rows.now }
+    ensures { IsTrue result ↔ (rows_at live.now.state.stored page ≡ Some rows.now) }
 {
     match live.index().rows(page) {
         Some(stored) => is_same(stored.rows(), rows),

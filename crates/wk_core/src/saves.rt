@@ -1,33 +1,31 @@
 //! Saves.
-ghost use Rattle.std.specs.Prelude.{◌≡◌, ◌≢◌, ◌≤◌, None, Some, length, IfOk, IfErr, IfSome, IsSome, OnErr, OnOk};
-ghost use Rattle.std.specs.Option.{option_copied};
+ghost use Rattle.std.specs.Prelude.{◌≡◌, ◌≢◌, ◌≤◌, None, Some, IfOk, IfErr, IfSome, IsSome, OnErr, OnOk};
 ghost use Rattle.wk_base.specs.Faults.{Rose};
-ghost use Rattle.wk_page_rules.specs.History.{next_revision};
 ghost use Rattle.wk_page_rules.specs.Verdict.{accept, refuse};
 ghost use Rattle.wk_wiki_rules.specs.Events.{Save};
-ghost use Rattle.wk_wiki_rules.specs.Verdicts.{event_of, verdict_in};
+ghost use Rattle.wk_wiki_rules.specs.Verdicts.{event_of};
 ghost use Rattle.wk_wiki_rules.specs.SaveOutcomes.{deletion, save_outcome};
 ghost use Rattle.wk_wiki_rules.specs.TableChanges.{save_change};
 ghost use Rattle.wk_revs.specs.Edit.{edit_asked};
-ghost use Rattle.wk_revs.specs.Verdict.{IfAccept, refusal_of, verdict_of};
+ghost use Rattle.wk_revs.specs.Standing.{standing as standing_of};
+ghost use Rattle.wk_revs.specs.Verdict.{refusal_of};
 ghost use Rattle.wk_live.specs.HeldState.{HasRoomFor};
 ghost use Rattle.wk_live.specs.Wanted.{fan_of_save};
-ghost use Rattle.wk_life_laws.specs.Lives.{journal_of};
 ghost use Rattle.wk_life_laws.specs.Next.{IsNext};
 ghost use Rattle.wk_core.specs.Accepted.{IsAccepted};
 ghost use Rattle.wk_core.specs.Answers.{saved_outcome, told_of_save};
+ghost use Rattle.wk_core.specs.Plans.{HasPlanned};
 ghost use Rattle.wk_core.specs.Seen.{IsTold, seen, verdict_now};
 ghost use Rattle.wk_core.specs.Steps.{GoesOn, HasMade, HasMadeAtMost, HasMadeNothing};
 
 use crate::life::Life;
 use crate::outcomes::Saved;
+use crate::plans::{Plan, Planned};
 use crate::wiki::Wiki;
-use wk_bytes::Text;
 use wk_changes::save_change;
 use wk_keeper::{Keeper, KeeperRefusal};
-use wk_live::reach_of_save;
 use wk_memory::Memory;
-use wk_revs::{Edit, SaveRefusal, Verdict};
+use wk_revs::{Edit, SaveRefusal, Standing};
 use wk_tables::Change;
 use wk_title::Title;
 use wk_wiki_rules::Entry;
@@ -41,48 +39,24 @@ struct Prepared {
 }
 
 impl Life {
-    /// What becomes of an edit: the first that applies.
-    fn judge(&self, edit: &Edit) -> Result<Verdict, Memory>
-        ensures verdict { IfOk result (λ verdict. verdict_of verdict
-            ≡ Some (verdict_in self.now.life.limits self.now.life.state (length (journal_of self.now.life)) (edit_asked edit.now))) }
-        ensures accepted { IfOk result (λ verdict. IfAccept verdict (IsAccepted self.now.life)) }
+    /// The title for the fan job that the save sets or adds, where it does.
+    fn fan_of_save(&self, plan: &Plan) -> Result<Option<Title>, Memory>
+        requires { plan.now.standing ≡ standing_of self.now.life.state.history plan.now.title }
+        ensures { IfOk result (λ fan. fan ≡ fan_of_save self.now.life.state plan.now.title plan.now.text) }
     {
-        let alloc = *self.entries.allocator();
-        match self.live.revs().judge(alloc, edit, &self.limits)? {
-            Verdict::Refuse(refusal) => Ok(Verdict::Refuse(refusal)),
-            Verdict::NoChange(title) => Ok(Verdict::NoChange(title)),
-            Verdict::Accept(title, text) => {
-                if self.is_full() {
-                    return Ok(Verdict::Refuse(SaveRefusal::JournalFull));
-                }
-                Ok(Verdict::Accept(title, text))
-            }
-        }
-    }
-
-    /// The title for the fan job that a save sets or adds, where it does.
-    fn fan_of_save(&self, title: &Title, text: Option<&Text>) -> Result<Option<Title>, Memory>
-        ensures { IfOk result (λ fan. fan ≡ fan_of_save self.now.life.state title.now (option_copied text.entry)) }
-    {
-        let existed = self.live.revs().current(title) != 0;
-        let reach = reach_of_save(existed, text.is_some());
-        if self.live.wants_fan(title, reach)? {
-            return Ok(Some(title.share()?));
+        if self.live.wants_fan(plan.title(), plan.reach())? {
+            return Ok(Some(plan.title().share()?));
         }
         Ok(None)
     }
 
     /// Takes the memory that a save wants.
-    fn prepare_save(
-        &mut self,
-        title: &Title,
-        text: Option<&Text>,
-        moment: u64,
-    ) -> Result<Prepared, Memory>
-        requires accepted { IsAccepted self.old.life title.now (option_copied text) }
-        ensures change { IfOk result (λ p. p.change ≡ save_change self.old.life.state title.now (option_copied text.entry) moment) }
-        ensures told { IfOk result (λ p. p.told ≡ title.now) }
-        ensures fan { IfOk result (λ p. p.fan ≡ fan_of_save self.old.life.state title.now (option_copied text.entry)) }
+    fn prepare_save(&mut self, plan: &Plan, moment: u64) -> Result<Prepared, Memory>
+        requires accepted { IsAccepted self.old.life plan.now.title plan.now.text }
+        requires standing { plan.now.standing ≡ standing_of self.old.life.state.history plan.now.title }
+        ensures change { IfOk result (λ p. p.change ≡ save_change self.old.life.state plan.now.title plan.now.text moment) }
+        ensures told { IfOk result (λ p. p.told ≡ plan.now.title) }
+        ensures fan { IfOk result (λ p. p.fan ≡ fan_of_save self.old.life.state plan.now.title plan.now.text) }
         ensures room { OnOk result (HasRoomFor 1 self.new.room) }
         ensures spare { OnOk result (1 ≤ self.new.spare) }
         ensures life { self.new.life ≡ self.old.life }
@@ -90,45 +64,53 @@ impl Life {
         self.live.make_room(1)?;
         self.make_room(1)?;
         let alloc = *self.entries.allocator();
-        let fan = self.fan_of_save(title, text)?;
+        let fan = self.fan_of_save(plan)?;
         let wants_fan = fan.is_some();
         let (revs, jobs, index) = (self.live.revs(), self.live.jobs(), self.live.index());
-        let change = save_change(alloc, revs, jobs, index, title, text, moment, wants_fan)?;
+        let standing = plan.standing();
+        let (title, text) = (plan.title(), plan.text());
+        let change = save_change(
+            alloc, revs, jobs, index, standing, title, text, moment, wants_fan,
+        )?;
         let told = title.share()?;
         Ok(Prepared { change, told, fan })
     }
 
-    /// Saves the text, and gives the number of the revision. Takes no memory.
-    fn save(&mut self, title: Title, text: Option<Text>, moment: u64, fan: Option<Title>) -> u64
-        requires accepted { IsAccepted self.old.life title text }
+    /// Saves what is planned. Takes no memory.
+    fn save(&mut self, plan: Plan, moment: u64, fan: Option<Title>)
+        requires accepted { IsAccepted self.old.life plan.title plan.text }
+        requires standing { plan.standing ≡ standing_of self.old.life.state.history plan.title }
         requires unsealed { self.old.life.sealed ≡ None }
-        requires fan { fan ≡ fan_of_save self.old.life.state title text }
+        requires fan { fan ≡ fan_of_save self.old.life.state plan.title plan.text }
         requires room { HasRoomFor 1 self.old.room }
         requires spare { 1 ≤ self.old.spare }
-        ensures next { IsNext self.old.life (Save title text moment) self.new.life }
-        ensures number { result ≡ next_revision self.old.life.state.history }
+        ensures { IsNext self.old.life (Save plan.title plan.text moment) self.new.life }
     {
-        let revision = self.live.save(title, text, moment, fan);
+        let Plan {
+            title,
+            text,
+            standing,
+        } = plan;
+        let revision = self.live.save(standing, title, text, moment, fan);
         self.entries.push_reserved(Entry::Save { revision });
         self.spare -= 1;
-        revision
     }
 }
 
-/// Saves what was accepted: writes it to the store, and then changes the wiki. All memory is taken before.
+/// Saves what is planned: writes it to the store, and then changes the wiki. All memory is taken before.
 fn save_accepted<K: Keeper>(
     keeper: &mut K,
     life: &mut Life,
-    title: Title,
-    text: Option<Text>,
+    plan: Plan,
     moment: u64,
 ) -> Result<Saved, SaveRefusal>
-    requires accepted { IsAccepted life.old.life title text }
+    requires accepted { IsAccepted life.old.life plan.title plan.text }
+    requires standing { plan.standing ≡ standing_of life.old.life.state.history plan.title }
     requires unsealed { life.old.life.sealed ≡ None }
     requires told { IsTold K.told life.old.life.state keeper.old }
     ensures told { IsTold K.told life.new.life.state keeper.new }
-    ensures saved { IfOk result (λ saved. Some (saved_outcome saved) ≡ save_outcome life.old.life.state.history (accept title text)) }
-    ensures event { OnOk result (HasMade (seen K.is_whole K.told K.faults life.old.life keeper.old) (seen K.is_whole K.told K.faults life.new.life keeper.new) (Save title text moment)) }
+    ensures saved { IfOk result (λ saved. Some (saved_outcome saved) ≡ save_outcome life.old.life.state.history (accept plan.title plan.text)) }
+    ensures event { OnOk result (HasMade (seen K.is_whole K.told K.faults life.old.life keeper.old) (seen K.is_whole K.told K.faults life.new.life keeper.new) (Save plan.title plan.text moment)) }
     ensures refused { OnErr result (HasMadeNothing K.told (seen K.is_whole K.told K.faults life.old.life keeper.old) (seen K.is_whole K.told K.faults life.new.life keeper.new)) }
     ensures refusal { IfErr result (λ refusal. refusal_of refusal ≡ None) }
     ensures keeper { GoesOn K.told K.faults (seen K.is_whole K.told K.faults life.old.life keeper.old) (seen K.is_whole K.told K.faults life.new.life keeper.new) }
@@ -136,38 +118,37 @@ fn save_accepted<K: Keeper>(
     ensures no_fault { result ≢ Err SaveRefusal.StoreFault → K.faults keeper.new ≡ K.faults keeper.old }
 {
     life.facts();
-    let Ok(prepared) = life.prepare_save(&title, text.as_ref(), moment) else {
+    let Ok(prepared) = life.prepare_save(&plan, moment) else {
         return Err(SaveRefusal::Memory);
     };
-    let page = life.live().revs().page_to_save(&title);
-    let old = life.live().revs().current(&title);
     match keeper.apply(&prepared.change) {
         Ok(()) => {
-            let new = life.save(title, text, moment, prepared.fan);
-            Ok(saved(prepared.told, page, old, new))
+            let standing = plan.standing();
+            life.save(plan, moment, prepared.fan);
+            Ok(saved(prepared.told, standing))
         }
         Err(KeeperRefusal::Failed) => Err(SaveRefusal::StoreFault),
         Err(KeeperRefusal::Memory) => Err(SaveRefusal::Memory),
     }
 }
 
-/// What is told of a save. Takes no memory.
-fn saved(title: Title, page: u32, old: u64, new: u64) -> Saved
-    ensures { saved_outcome result ≡ told_of_save title (record { page = page; old = old; new = new }) }
+/// What is told of a save, by what stood of its title. Takes no memory.
+fn saved(title: Title, standing: Standing) -> Saved
+    ensures { saved_outcome result ≡ told_of_save title (record { page = standing.to_save; old = standing.current; new = standing.next }) }
 {
-    if old == 0 {
+    if standing.current == 0 {
         Saved::New {
             title,
-            page,
-            old,
-            new,
+            page: standing.to_save,
+            old: standing.current,
+            new: standing.next,
         }
     } else {
         Saved::Changed {
             title,
-            page,
-            old,
-            new,
+            page: standing.to_save,
+            old: standing.current,
+            new: standing.next,
         }
     }
 }
@@ -199,19 +180,33 @@ impl<K: Keeper> Wiki<K> {
         ensures fault_at_event { result ≡ Err SaveRefusal.StoreFault → IsSome (event_of (verdict_now self.old (edit_asked edit.now)) now) }
         ensures no_fault { result ≢ Err SaveRefusal.StoreFault → K.faults self.new.keeper ≡ K.faults self.old.keeper }
     {
-        let Ok(verdict) = self.life.judge(edit) else {
+        let Ok(planned) = self.plan(edit) else {
             return Err(SaveRefusal::Memory);
         };
-        match verdict {
-            Verdict::Refuse(refusal) => Err(refusal),
-            Verdict::NoChange(title) => {
-                let page = self.life.live().revs().page_to_save(&title);
-                Ok(Saved::NoChange { title, page })
-            }
-            Verdict::Accept(title, text) => {
-                save_accepted(&mut self.keeper, &mut self.life, title, text, now)
-            }
+        match planned {
+            Planned::Refused(refusal) => Err(refusal),
+            Planned::NoChange { title, page } => Ok(Saved::NoChange { title, page }),
+            Planned::Save(plan) => self.save_planned(plan, now),
         }
+    }
+
+    /// Saves what `plan` has planned, at this many seconds since 1970, where the wiki isn't sealed and nothing has happened
+    /// since. It is the event of a save.
+    ///
+    /// `Memory` may come, and `StoreFault` only where the keeper's count of faults rose; no other refusal does. At each other
+    /// answer that count is as it was. After a refusal the wiki is as before.
+    pub fn save_planned(&mut self, plan: Plan, now: u64) -> Result<Saved, SaveRefusal>
+        requires unsealed { self.old.start.sealed ≡ None }
+        requires planned { HasPlanned self.old plan }
+        ensures saved { IfOk result (λ saved. Some (saved_outcome saved) ≡ save_outcome self.old.state.history (accept plan.title plan.text)) }
+        ensures event { OnOk result (HasMade self.old self.new (Save plan.title plan.text now)) }
+        ensures refusal { IfErr result (λ refusal. refusal_of refusal ≡ None) }
+        ensures refused { OnErr result (HasMadeNothing K.told self.old self.new) }
+        ensures keeper { GoesOn K.told K.faults self.old self.new }
+        ensures fault { result ≡ Err SaveRefusal.StoreFault → Rose (K.faults self.old.keeper) (K.faults self.new.keeper) }
+        ensures no_fault { result ≢ Err SaveRefusal.StoreFault → K.faults self.new.keeper ≡ K.faults self.old.keeper }
+    {
+        save_accepted(&mut self.keeper, &mut self.life, plan, now)
     }
 
     /// Deletes a page that exists: a save of nothing (MediaWiki's API:Delete). With a base it is refused as a conflict

@@ -15,7 +15,6 @@ pub mod PagePartLaws
 pub mod PartLaws
 pub mod PlainLaws
 pub mod ReadLaws
-pub mod ResumedLaws
 pub mod RoundLaws
 pub mod RunLaws
 pub mod SeenLaws

@@ -8,7 +8,6 @@ pub mod Kept
 pub mod Machines
 pub mod Nodes
 pub mod PageParts
-pub mod Resumed
 pub mod Rounds
 pub mod Running
 pub mod Runs

@@ -18,7 +18,6 @@ mod machine;
 mod names;
 mod parts;
 mod reads;
-mod resuming;
 mod search;
 mod seen;
 mod shared_draft;
@@ -37,7 +36,6 @@ pub use laws::{
     longer_seens_agree, rounds_of_drafts_come_to_an_end, steps_stay_true, steps_tell_of_worlds,
 };
 pub use machine::{Machine, Ran};
-pub use resuming::resumed;
 pub use seen::Seen;
 pub use shared_draft::SharedDraft;
 pub use trees::Trees;

@@ -9,7 +9,7 @@ mod rows;
 mod start;
 
 pub use feeder::Feeder;
-pub use output::{Fed, FeedOutput, Outset};
+pub use output::{Begins, Fed, FeedOutput};
 pub use start::{FeedRefusal, feed_start};
 pub use wk_base::Sink;
 pub use wk_core::{Keeper, Wiki};

@@ -17,12 +17,12 @@ use wk_base::Sink;
 use wk_core::{Keeper, Wiki};
 use wk_shared::Shared;
 
-/// What a sink told before the events of a feed, and of which shared wiki they are: for proofs alone.
-pub trait Outset {
-    /// The bytes that it had taken, where it tells them.
+/// How a feed's events begin: where they are sent, and of which shared wiki they are. It is for proofs alone.
+pub trait Begins {
+    /// The bytes that the sink had taken before the first of them, where it tells them.
     ghost told: { Option (List ℕ) };
 
-    /// How many of its writes had failed.
+    /// How many of the sink's writes had failed then.
     ghost faults: { ℕ };
 
     /// Which turn the wiki is behind, and how the wiki began.
@@ -32,7 +32,7 @@ pub trait Outset {
     ghost name: { Option GName };
 }
 
-impl Outset for Brand {
+impl Begins for Brand {
     ghost told = { None };
 
     ghost faults = { 0 };
@@ -45,11 +45,11 @@ impl Outset for Brand {
 /// A feeder and the sink that all it sends goes to, until a call is refused: from then on nothing is sent. It stands behind a lock,
 /// where many threads ask it.
 #[derive(Drop)]
-pub struct FeedOutput<'a, K: Keeper, O: Sink, E: Outset> {
+pub struct FeedOutput<'a, K: Keeper, O: Sink, E: Begins> {
     feeder: Feeder<K>,
     sink: &'a mut O,
     refused: Option<FeedRefusal>,
-    outset: PhantomData<E>,
+    begins: PhantomData<E>,
     ghost same: { Some sink.ghost_name ≡ E.name },
     ghost turn: { IfSome E.turn (λ turn. IsOf turn feeder.pass) } by { Prim.hlevel props },
     ghost free: { feeder.pass.held ≡ None },
@@ -70,7 +70,7 @@ pub struct Fed<'a, K: Keeper, O: Sink> {
     pub sent: Result<u64, FeedRefusal>,
 }
 
-impl<'a, K: Keeper, O: Sink, E: Outset> FeedOutput<'a, K, O, E> {
+impl<'a, K: Keeper, O: Sink, E: Begins> FeedOutput<'a, K, O, E> {
     /// Where the events of a wiki are sent to a sink, of which none was sent yet. Takes no memory.
     pub fn new(feeder: Feeder<K>, sink: &'a mut O) -> FeedOutput<'a, K, O, E>
         requires told { O.taken sink.old ≡ E.told }
@@ -84,7 +84,7 @@ impl<'a, K: Keeper, O: Sink, E: Outset> FeedOutput<'a, K, O, E> {
             feeder,
             sink,
             refused: None,
-            outset: PhantomData,
+            begins: PhantomData,
         }
     }
 
@@ -119,7 +119,7 @@ impl<'a, K: Keeper, O: Sink, E: Outset> FeedOutput<'a, K, O, E> {
             feeder,
             sink,
             refused,
-            outset: _,
+            begins: _,
         } = self;
         match refused {
             None => {

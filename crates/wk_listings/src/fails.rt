@@ -14,7 +14,7 @@ use wk_replies::error_reply;
 pub fn invalid_title(alloc: Global, point: u64) -> Result<Value, Memory>
     ensures { IfOk result (λ v. view v ≡ value_at point (fails invalidtitle)) }
 {
-    Ok(error_reply(alloc, "invalidtitle", "Bad title.", point)?)
+    error_reply(alloc, "invalidtitle", "Bad title.", point)
 }
 
 /// The title isn't that of a category.
@@ -22,12 +22,12 @@ pub fn invalid_category(alloc: Global, point: u64) -> Result<Value, Memory>
     ensures { IfOk result (λ v. view v ≡ value_at point (fails invalidcategory)) }
 {
     let info = "The title is not in the Category namespace.";
-    Ok(error_reply(alloc, "invalidcategory", info, point)?)
+    error_reply(alloc, "invalidcategory", info, point)
 }
 
 /// No save of the title was ever made, or its page doesn't exist.
 pub fn missing_title(alloc: Global, point: u64) -> Result<Value, Memory>
     ensures { IfOk result (λ v. view v ≡ value_at point (fails missingtitle)) }
 {
-    Ok(error_reply(alloc, "missingtitle", "The page does not exist.", point)?)
+    error_reply(alloc, "missingtitle", "The page does not exist.", point)
 }

@@ -1,3 +1,4 @@
+pub mod DraftLaws
 pub mod FanLaws
 pub mod LoadLaws
 pub mod ReadLaws

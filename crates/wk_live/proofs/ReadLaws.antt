@@ -4,7 +4,7 @@ use Rattle.std.specs.Prelude.{is_some, option_and_then, option_map}
 use Rattle.std.proofs.lemmas.Bool.{cases_Bool}
 use Rattle.wk_page_rules.specs.History.{History, Revision, text_of_revision}
 use Rattle.wk_view_rules.specs.Worlds as rule
-use Rattle.wk_view_rules.specs.Worlds.{World, mark}
+use Rattle.wk_view_rules.specs.Worlds.{World}
 use Rattle.wk_wiki_rules.specs.Entries.{revision_at}
 use Rattle.wk_wiki_rules.specs.Staleness.{first_stale, is_stale}
 use Rattle.wk_expand.specs.Drafts.{with_mark}

@@ -1,5 +1,5 @@
 -- What a save does to the jobs.
-use Rattle.std.proofs.Common.{◌≡◌, ℕ, ◌+◌, length, length-append, Bool, true, false, cond, ◌||◌, List, [], ◌∷◌, ◌++◌, Option, Some, None, refl, sym, ap, ap₂, ◌∙◌, inl, inr}
+use Rattle.std.proofs.Common.{◌≡◌, ℕ, ◌+◌, length, length-append, Bool, true, false, cond, eqb, not, ◌||◌, List, [], ◌∷◌, ◌++◌, Option, Some, None, refl, sym, ap, ap₂, ◌∙◌, inl, inr}
 use Rattle.std.specs.Prelude.{find, is_some}
 use Rattle.std.specs.List.{list_any}
 use Rattle.std.proofs.lemmas.Bool.{cases_Bool}
@@ -17,6 +17,8 @@ use Rattle.wk_wiki_rules.specs.Events.{jobs_after_save, stored_with, with_saved}
 use Rattle.wk_wiki_laws.proofs.Fanned.{fans-queued}
 use Rattle.wk_wiki_laws.proofs.Formed.{length-new, length-old, numbered}
 use Rattle.wk_wiki_laws.proofs.Saved.{pages-saved}
+use Rattle.wk_revs.specs.Standing.{standing}
+use Rattle.wk_revs.specs.declared.standing.Standing.{Standing}
 use Rattle.wk_live.specs.Wanted.{fan_of_save, queued_with, wants_fan}
 
 -- a title has a fan job where one is found
@@ -81,21 +83,22 @@ lengths-saved h stored title text moment same =
 abbrev state_with : History → List PageRows → JobLists → State
 state_with h stored jobs = record { history = h; stored = stored; jobs = jobs }
 
-pub saved-state : (state : State) (title : PageTitle) (text : Option (List ℕ)) (moment : ℕ) (h : History) (stored : List PageRows) (jobs : JobLists) (known : Option ℕ) (page : ℕ) (reach : Reach) (fan : Option PageTitle)
+-- by what stands of the title
+pub saved-state : (state : State) (title : PageTitle) (text : Option (List ℕ)) (moment : ℕ) (h : History) (stored : List PageRows) (jobs : JobLists) (stands : Standing) (reach : Reach) (fan : Option PageTitle)
+    → stands ≡ standing state.history title
     → h ≡ saved state.history title text moment
-    → known ≡ page_number state.history title
-    → stored ≡ cond (is_some known) state.stored (state.stored ++ no_rows ∷ [])
-    → page ≡ page_to_save state.history title
-    → reach ≡ reach_of_save (page_exists state.history title) (is_some text)
+    → stored ≡ cond (is_some stands.page) state.stored (state.stored ++ no_rows ∷ [])
+    → reach ≡ reach_of_save (not (eqb stands.current 0)) (is_some text)
     → fan ≡ fan_of_save state title text
-    → jobs ≡ queued_with state.jobs page reach fan
+    → jobs ≡ queued_with state.jobs stands.to_save reach fan
     → state_with h stored jobs ≡ with_saved state title text moment
-saved-state state title text moment h stored jobs known page reach fan h-is known-is stored-is page-is reach-is fan-is jobs-is =
-    let rows : stored ≡ stored_with state title = stored-is ∙ ap (λ (o : Option ℕ). cond (is_some o) state.stored (state.stored ++ no_rows ∷ [])) known-is in
+saved-state state title text moment h stored jobs stands reach fan is h-is stored-is reach-is fan-is jobs-is =
+    let rows : stored ≡ stored_with state title = stored-is ∙ ap (λ (s : Standing). cond (is_some s.page) state.stored (state.stored ++ no_rows ∷ [])) is in
+    let reaches : reach ≡ reach_of_save (page_exists state.history title) (is_some text) = reach-is ∙ ap (λ (s : Standing). reach_of_save (not (eqb s.current 0)) (is_some text)) is in
     let after : jobs ≡ jobs_after_save state title text =
     jobs-is
-    ∙ (ap (λ p. queued_with state.jobs p reach fan) page-is
-    ∙ (ap (λ r. queued_with state.jobs (page_to_save state.history title) r fan) reach-is
+    ∙ (ap (λ (s : Standing). queued_with state.jobs s.to_save reach fan) is
+    ∙ (ap (λ r. queued_with state.jobs (page_to_save state.history title) r fan) reaches
     ∙ (ap (queued_with state.jobs (page_to_save state.history title) (reach_of_save (page_exists state.history title) (is_some text))) fan-is
     ∙ saved-jobs state title text))) in
     λ i. state_with (h-is i) (rows i) (after i)

@@ -1,3 +1,4 @@
+pub mod Drafted
 pub mod Fanned
 pub mod HeldState
 pub mod LiveHeld

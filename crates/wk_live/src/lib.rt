@@ -2,6 +2,7 @@
 //! each event changes them. No store and no journal stands behind it.
 #![tactic(auto)]
 
+mod answering;
 mod claims;
 mod fans;
 mod kept;
@@ -12,7 +13,7 @@ mod reads;
 mod refreshes;
 mod saves;
 
+pub use answering::draft_now;
 pub use kept::Kept;
 pub use laws::{a_held_page_is_claimed, stale_reads_are_those_of_the_rules};
 pub use live::Live;
-pub use saves::reach_of_save;

@@ -1,7 +1,7 @@
 //! What the present world answers, and which reads of a draft it doesn't bear out any more.
 ghost use Rattle.std.specs.Prelude.{◌≡◌, IfOk};
 ghost use Rattle.std.specs.Option.{option_copied, option_map};
-ghost use Rattle.wk_page_rules.specs.History.{current_text};
+ghost use Rattle.wk_page_rules.specs.History.{text_of_revision};
 ghost use Rattle.wk_view_rules.specs.Worlds.{answer_in, mark};
 ghost use Rattle.wk_wiki_rules.specs.States.{world_of};
 ghost use Rattle.wk_expand.specs.Answers.{answer_of};
@@ -14,11 +14,11 @@ use wk_memory::Memory;
 use wk_revs::Revs;
 use wk_title::Title;
 
-/// The page's text, `None` exactly where the page is missing.
-fn current_text<'a>(revs: &'a Revs, title: &Title) -> Option<&'a Text>
-    ensures { option_copied result ≡ current_text revs.now.history title.now }
+/// The text of the revision with this number, `None` exactly where there is no such revision or it is a deletion.
+fn text_of_revision(revs: &Revs, number: u64) -> Option<&Text>
+    ensures { option_copied result ≡ text_of_revision revs.now.history number }
 {
-    match revs.revision(revs.current(title)) {
+    match revs.revision(number) {
         Some(revision) => revision.text(),
         None => None,
     }
@@ -29,16 +29,14 @@ impl Live {
     pub fn fetch(&self, title: &Title, kind: Kind) -> Result<Answer, Memory>
         ensures { IfOk result (λ answer. answer_of answer ≡ answer_in (world_of self.now.state) title.now kind) }
     {
-        let text = current_text(&self.revs, title);
+        let revision = self.revs.current(title);
+        let text = text_of_revision(&self.revs, revision);
         match kind {
             Kind::Exists => Ok(Answer::Exists(text.is_some())),
-            Kind::View | Kind::Include => {
-                let revision = self.revs.current(title);
-                match text {
-                    Some(text) => Ok(Answer::Page(Some((revision, text.share()?)))),
-                    None => Ok(Answer::Page(None)),
-                }
-            }
+            Kind::View | Kind::Include => match text {
+                Some(text) => Ok(Answer::Page(Some((revision, text.share()?)))),
+                None => Ok(Answer::Page(None)),
+            },
         }
     }
 
@@ -47,10 +45,11 @@ impl Live {
     pub fn present_mark(&self, title: &Title, kind: Kind) -> u64
         ensures { result ≡ mark (answer_in (world_of self.now.state) title.now kind) }
     {
-        match current_text(&self.revs, title) {
+        let revision = self.revs.current(title);
+        match text_of_revision(&self.revs, revision) {
             Some(_) => match kind {
                 Kind::Exists => 1,
-                Kind::View | Kind::Include => self.revs.current(title),
+                Kind::View | Kind::Include => revision,
             },
             None => 0,
         }

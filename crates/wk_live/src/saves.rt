@@ -1,11 +1,11 @@
 //! Saves.
 ghost use Rattle.std.specs.Prelude.{◌≡◌, ◌+◌, ◌≤◌, ◌<◌, ◌^◌, ◌++◌, ◌∷◌, [], None, true, IfOk, is_some, length, if◌then◌else◌};
-ghost use Rattle.wk_page_rules.specs.History.{can_save, next_revision, page_exists, page_number};
+ghost use Rattle.wk_page_rules.specs.History.{can_save, next_revision, page_number};
 ghost use Rattle.wk_page_rules.specs.Verdict.{max_pages};
 ghost use Rattle.wk_page_rules.specs.PageRows.{no_rows};
 ghost use Rattle.wk_wiki_rules.specs.Jobs.{has_fan};
-ghost use Rattle.wk_wiki_rules.specs.Steps.{reach_of_save};
 ghost use Rattle.wk_wiki_rules.specs.Events.{with_saved};
+ghost use Rattle.wk_revs.specs.Standing.{standing as standing_of};
 ghost use Rattle.wk_live.specs.HeldState.{HasRoomFor};
 ghost use Rattle.wk_live.specs.Wanted.{fan_of_save, queued_with, wants_fan};
 
@@ -15,27 +15,8 @@ use wk_index::Index;
 use wk_jobs::Jobs;
 use wk_memory::Memory;
 use wk_page_rules::Reach;
-use wk_revs::Revs;
+use wk_revs::Standing;
 use wk_title::Title;
-
-/// Which rows a save reaches, by whether the page existed before it and exists behind it: those of existence tests count
-/// only where the existence changes. Takes no memory.
-pub fn reach_of_save(existed: bool, exists: bool) -> Reach
-    ensures { result ≡ reach_of_save existed exists }
-{
-    if existed == exists {
-        Reach::Text
-    } else {
-        Reach::Both
-    }
-}
-
-/// Which rows a save of the title reaches, by whether its page exists behind it. Takes no memory.
-fn reach_in(revs: &Revs, title: &Title, exists: bool) -> Reach
-    ensures { result ≡ reach_of_save (page_exists revs.now.history title.now) exists }
-{
-    reach_of_save(revs.current(title) != 0, exists)
-}
 
 /// Adds a page without rows behind all pages where the title has no page. Takes no memory.
 fn add_page(index: &mut Index, page: Option<u32>)
@@ -91,22 +72,28 @@ impl Live {
     }
 
     /// Saves the text as the title's current revision, or a deletion where there is none, at this many seconds since
-    /// 1970, queues a refresh of its page and sets or adds the title's fan job; and gives the revision's number. The fan
-    /// job's title is given exactly where one is wanted. Takes no memory.
-    pub fn save(&mut self, title: Title, text: Option<Text>, moment: u64, fan: Option<Title>) -> u64
+    /// 1970, queues a refresh of its page and sets or adds the title's fan job; and gives the revision's number. What stands
+    /// of the title is given, and the fan job's title exactly where one is wanted. Takes no memory.
+    pub fn save(
+        &mut self,
+        standing: Standing,
+        title: Title,
+        text: Option<Text>,
+        moment: u64,
+        fan: Option<Title>,
+    ) -> u64
         requires room { HasRoomFor 1 self.old.room }
         requires possible { can_save self.old.state.history title text ≡ true }
         requires fits { page_number self.old.state.history title ≡ None → length self.old.state.history.pages < max_pages }
         requires numbers { self.old.state.jobs.next + 1 < 2 ^ 63 }
+        requires standing { standing ≡ standing_of self.old.state.history title }
         requires fan { fan ≡ fan_of_save self.old.state title text }
         ensures state { self.new.state ≡ with_saved self.old.state title text moment }
         ensures number { result ≡ next_revision self.old.state.history }
     {
-        let page = self.revs.page_to_save(&title);
-        let known = self.revs.page(&title);
-        let reach = reach_in(&self.revs, &title, text.is_some());
-        add_page(&mut self.index, known);
-        queue_jobs(&mut self.jobs, page, reach, fan);
+        let reach = standing.reach(text.is_some());
+        add_page(&mut self.index, standing.page);
+        queue_jobs(&mut self.jobs, standing.to_save, reach, fan);
         self.revs.add(title, text, moment)
     }
 }

@@ -1,1 +1,2 @@
 pub mod KnownItems
+pub mod ResumedLaws

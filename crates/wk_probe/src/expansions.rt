@@ -1,7 +1,7 @@
 //! What a page, or a text in the place of its own, expands to.
 ghost use Rattle.std.specs.Prelude.{◌≡◌, IfOk, None};
-ghost use Rattle.wk_expand.specs.Steps.{given_text};
-ghost use Rattle.wk_probe.specs.Drafted.{IsOf};
+ghost use Rattle.wk_expand.specs.Steps.{IsStep, given_text};
+ghost use Rattle.wk_probe.specs.Drafted.{AreRuns, IsOf};
 
 use crate::links::links_in;
 use crate::members::{add, shared_text, string_of};
@@ -13,7 +13,9 @@ use crate::titles::{shown_text, title_of};
 use crate::values::{Plain, list, members_of, object, object_with, put, value_of};
 use serde_json::{Map, Value};
 use std::alloc::Global;
-use wk_expand::{Counts, Draft, Read, Root, Seen, Step, Trees, draft, resumed};
+use wk_base::NoGate;
+use wk_drafts::{Ended, drafted_by};
+use wk_expand::{Counts, Draft, Machine, Read, Root, Seen, Step, Trees, draft};
 use wk_memory::Memory;
 use wk_out::Out;
 use wk_rows::rows;
@@ -91,6 +93,38 @@ fn is_resumed(request: &Value) -> bool {
     match request.get("resume") {
         Some(member) => member.as_bool() == Some(true),
         None => false,
+    }
+}
+
+/// What `draft` comes to by the answers that are known, where they are given to one machine one at a time, each when it is
+/// needed; and the number of the machine's runs, which is one more than that of the answers it was given.
+fn resumed(
+    alloc: Global,
+    page: &Title,
+    root: &Root,
+    known: &Seen,
+    trees: &mut Trees,
+) -> Result<(Step, u64), Memory>
+    ensures step { IfOk result (λ found. IsStep page.now root.now known.now found.0) }
+    ensures runs { IfOk result (λ found. AreRuns page.now root.now known.now found.0 found.1) }
+{
+    let machine = Machine::new(alloc, page, root)?;
+    let mut given = Seen::new(alloc);
+    let mut runs = 1;
+    match drafted_by(
+        &(),
+        known,
+        &mut runs,
+        &mut NoGate,
+        machine,
+        &mut given,
+        trees,
+    )? {
+        Ended::Made(draft) => {
+            let _page = draft.page();
+            Ok((Step::Done(draft), runs))
+        }
+        Ended::Unknown(title, kind) => Ok((Step::Needs(title, kind), runs)),
     }
 }
 

@@ -1,5 +1,5 @@
 //! A reader: a pass, with what it has read last.
-ghost use Rattle.std.specs.Prelude.{◌≡◌, ℕ, ◌+◌, ◌<◌, ◌≤◌, ◌++◌, [], IfErr, IfOk, IfSome, OnErr, OnOk, length, None, Some};
+ghost use Rattle.std.specs.Prelude.{◌≡◌, ℕ, ◌+◌, ◌<◌, ◌≤◌, ◌++◌, [], IfErr, IfOk, OnOk, length, None, Some};
 ghost use mathlib.Core.List.{IsPrefix};
 ghost use Rattle.wk_wiki_rules.specs.Entries.{closes};
 ghost use Rattle.wk_wiki_rules.specs.Passes.{IsReadAt, max_uses};

@@ -1,11 +1,12 @@
 -- Workers that drain a shared wiki (own). A point is the length of a journal.
-use Rattle.std.specs.Prelude.{◌≡◌, ◌⊎◌, ℕ, ◌≤◌, Contains, List, [], ◌∷◌, length, map, Some, None, Result, Ok, Err}
+use Rattle.std.specs.Prelude.{◌≡◌, ◌⊎◌, ℕ, ◌≤◌, Contains, List, [], ◌∷◌, length, map, Some, Result, Ok, Err}
 use Rattle.std.specs.List.{AllZip}
 use mathlib.Core.List.{IsPrefix}
 use Rattle.wk_wiki_rules.specs.States.{State}
 use Rattle.wk_wiki_rules.specs.Events.{Event}
 use Rattle.wk_wiki_rules.specs.Starts.{Start}
-use Rattle.wk_turn.specs.Told.{Begun, IsOf, Story}
+use Rattle.wk_turn.specs.Told.{Begun, Story}
+pub use Rattle.wk_shared.specs.Calls.{IsFree}
 use Rattle.wk_shared.specs.Calls.{MayFail, state_by}
 use Rattle.wk_readers.specs.Refreshes.{RefreshTold}
 use Rattle.wk_readers.specs.Worked.{HasWorked}
@@ -13,10 +14,6 @@ use Rattle.wk_readers.specs.declared.outcome.Refreshed.{Refreshed}
 use Rattle.wk_readers.specs.declared.outcome.Refreshed.TheVariants as refreshed
 use Rattle.wk_refresh.specs.declared.refusal.DrainRefusal.{DrainRefusal}
 use Rattle.wk_refresh.specs.declared.refusal.DrainRefusal.TheVariants.{JournalFull, StoreFault, Memory}
-
--- the pass is of this shared wiki, and hasn't taken it
-abbrev pub IsFree : Begun Start → Story Start Event → Type 0
-IsFree shared pass = IsOf shared pass × (pass.held ≡ None)
 
 -- ---- one worker
 

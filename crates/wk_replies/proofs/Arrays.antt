@@ -1,6 +1,6 @@
 -- Arrays of values, as replies have them.
 use Rattle.std.proofs.Common.{◌≡◌, List, [], ◌∷◌, map, Vec, Global, refl, ap, ◌∙◌}
-use Rattle.serde_json.specs.Data.{Data, array, item, Items}
+use Rattle.serde_json.specs.Data.{Data, array, item}
 use Rattle.serde_json.specs.View.{view, items_of as items_seen}
 use Rattle.serde_json.specs.declared.value.Value.{Value, Array}
 use Rattle.serde_json.proofs.Views.{view-Array}

@@ -1,15 +1,15 @@
 //! Listings (MediaWiki's API:Backlinks, API:Embeddedin, API:Categorymembers, API:RecentChanges and API:Revisions; what a
 //! listing goes on by is own).
-ghost use Rattle.std.specs.Prelude.{◌≡◌, ◌∷◌, [], IfOk, OnOk, unwrap_or};
+ghost use Rattle.std.specs.Prelude.{◌≡◌, [], IfOk, OnOk, unwrap_or};
 ghost use Rattle.serde_json.specs.View.{members_view, view};
 ghost use Rattle.wk_answer_rules.specs.Lists.{change_type, content_entries, continue_entries, deleted_entries, revision_entries};
 ghost use Rattle.wk_answer_rules.specs.Values.{object_of, reply_beside};
 ghost use Rattle.wk_replies.specs.Listed.{change_shown, first_of_revision, listed_entries, member_shown, page_shown};
 ghost use Rattle.wk_replies.specs.Members.{with_entries};
 
-use crate::members::{put, put_flag, put_number, put_text};
+use crate::members::{Plain, object_with, put, put_rows};
 use crate::values::shown_text;
-use serde_json::{Map, Value, json};
+use serde_json::{Map, Value};
 use std::alloc::Global;
 use wk_index::MemberPage;
 use wk_memory::Memory;
@@ -26,11 +26,13 @@ fn put_page(
     ensures { OnOk result (members_view members.new.entries
         ≡ with_entries (members_view members.old.entries) (page_shown page title.now)) }
 {
-    put_number(alloc, members, "pageid", u64::from(page))?;
-    let ns = i64::from(title.ns());
-    put(alloc, members, "ns", json!(in alloc; ns)?)?;
     let text = shown_text(alloc, title)?;
-    put_text(alloc, members, "title", &text)
+    let table = &[
+        ("pageid", Plain::Number(u64::from(page))),
+        ("ns", Plain::Namespace(title.ns())),
+        ("title", Plain::Text(text.as_str())),
+    ];
+    put_rows(alloc, members, table)
 }
 
 /// A page: its number and its title.
@@ -47,7 +49,8 @@ pub fn member_entry(alloc: Global, member: &MemberPage, title: &Title) -> Result
     ensures { IfOk result (λ v. view v ≡ object_of (member_shown member.now title.now)) }
 {
     let mut members = Map::new(alloc);
-    put_text(alloc, &mut members, "sortkeyprefix", member.prefix.as_str())?;
+    let prefix = &[("sortkeyprefix", Plain::Text(member.prefix.as_str()))];
+    put_rows(alloc, &mut members, prefix)?;
     put_page(alloc, &mut members, member.page, title)?;
     Ok(Value::Object(members))
 }
@@ -75,10 +78,13 @@ pub fn change_entry(
     ensures { IfOk result (λ v. view v ≡ object_of (change_shown number revision.now title.now)) }
 {
     let mut members = Map::new(alloc);
-    put_number(alloc, &mut members, "oldrevid", revision.parent())?;
-    put_number(alloc, &mut members, "revid", number)?;
-    put_number(alloc, &mut members, "timestamp", revision.moment())?;
-    put_text(alloc, &mut members, "type", change_type(revision))?;
+    let change = &[
+        ("oldrevid", Plain::Number(revision.parent())),
+        ("revid", Plain::Number(number)),
+        ("timestamp", Plain::Number(revision.moment())),
+        ("type", Plain::Text(change_type(revision))),
+    ];
+    put_rows(alloc, &mut members, change)?;
     put_page(alloc, &mut members, revision.page(), title)?;
     Ok(Value::Object(members))
 }
@@ -103,7 +109,7 @@ fn put_deleted(
         ≡ with_entries (members_view members.old.entries) (deleted_entries revision.now)) }
 {
     if revision.text().is_none() {
-        return put_flag(alloc, members, "deleted");
+        return put_rows(alloc, members, &[("deleted", Plain::Flag(true))]);
     }
     Ok(())
 }
@@ -119,7 +125,8 @@ fn put_content(
         ≡ with_entries (members_view members.old.entries) (content_entries content revision.now)) }
 {
     if content {
-        return put_text(alloc, members, "content", text_or_empty(revision));
+        let text = text_or_empty(revision);
+        return put_rows(alloc, members, &[("content", Plain::Text(text))]);
     }
     Ok(())
 }
@@ -134,10 +141,14 @@ fn put_revision(
     ensures { OnOk result (members_view members.new.entries
         ≡ with_entries (members_view members.old.entries) (first_of_revision number revision.now)) }
 {
-    put_number(alloc, members, "parentid", revision.parent())?;
-    put_number(alloc, members, "revid", number)?;
-    put_number(alloc, members, "size", text_or_empty(revision).len() as u64)?;
-    put_number(alloc, members, "timestamp", revision.moment())
+    let size = text_or_empty(revision).len() as u64;
+    let table = &[
+        ("parentid", Plain::Number(revision.parent())),
+        ("revid", Plain::Number(number)),
+        ("size", Plain::Number(size)),
+        ("timestamp", Plain::Number(revision.moment())),
+    ];
+    put_rows(alloc, members, table)
 }
 
 /// A revision of a page, with its text where that is asked for.
@@ -166,18 +177,9 @@ fn put_continue(
         ≡ with_entries (members_view members.old.entries) (continue_entries place)) }
 {
     match place {
-        Some(place) => put_number(alloc, members, "continue", place),
+        Some(place) => put_rows(alloc, members, &[("continue", Plain::Number(place))]),
         None => Ok(()),
     }
-}
-
-/// A list under its name.
-fn list_value(alloc: Global, name: &str, list: Value) -> Result<Value, Memory>
-    ensures { IfOk result (λ v. view v ≡ object_of ((name.now, view list) ∷ [])) }
-{
-    let mut members = Map::new(alloc);
-    put(alloc, &mut members, name, list)?;
-    Ok(Value::Object(members))
 }
 
 /// The reply with a list under its name; and what the listing goes on by, where more is left.
@@ -190,9 +192,9 @@ pub fn listed(
 ) -> Result<Value, Memory>
     ensures { IfOk result (λ v. view v ≡ (reply_beside (listed_entries name.now place (view list)) point).value) }
 {
-    let query = list_value(alloc, name, list)?;
+    let query = object_with(alloc, name, list)?;
     let mut members = Map::new(alloc);
-    put_number(alloc, &mut members, "point", point)?;
+    put(alloc, &mut members, "point", Value::from(point))?;
     put_continue(alloc, &mut members, place)?;
     put(alloc, &mut members, "query", query)?;
     Ok(Value::Object(members))

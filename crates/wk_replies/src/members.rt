@@ -1,53 +1,103 @@
-//! The members of an object, which come in the order of their keys.
-ghost use Rattle.std.specs.Prelude.{◌≡◌, OnOk, true};
-ghost use Rattle.serde_json.specs.Data.{boolean, put as with_member, string};
+//! Objects and their members, by tables of names and plain values. The members of an object come in the order of their keys.
+ghost use Rattle.std.specs.Prelude.{◌≡◌, ◌∷◌, [], IfOk, OnOk};
+ghost use Rattle.serde_json.specs.Data.{no_members, object, put as with_member};
 ghost use Rattle.serde_json.specs.View.{members_view, view};
-ghost use Rattle.wk_answer_rules.specs.Values.{whole};
+ghost use Rattle.wk_answer_rules.specs.Values.{object_of, reply_beside};
+ghost use Rattle.wk_replies.specs.Members.{plain_data, with_rows};
 
-use serde_json::{Map, ToValue, Value};
+use serde_json::{Map, Value};
 use std::alloc::Global;
 use wk_memory::Memory;
 
-/// Puts the value under the key.
+/// A value that has no further ones within it.
+#[derive(Clone, Copy)]
+pub enum Plain<'a> {
+    /// That something is so.
+    Flag(bool),
+    /// A whole number.
+    Number(u64),
+    /// The number of a namespace.
+    Namespace(i8),
+    /// A text.
+    Text(&'a str),
+}
+
+/// The value of a reply.
+fn value_of(alloc: Global, plain: Plain<'_>) -> Result<Value, Memory>
+    ensures { IfOk result (λ v. view v ≡ plain_data plain.entry) }
+{
+    match plain {
+        Plain::Flag(flag) => Ok(Value::Bool(flag)),
+        Plain::Number(number) => Ok(Value::from(number)),
+        Plain::Namespace(number) => Ok(Value::from(number)),
+        Plain::Text(text) => Ok(Value::try_from_str(alloc, text)?),
+    }
+}
+
+/// Puts the value under the name.
 pub fn put(
     alloc: Global,
     members: &mut Map<String, Value>,
-    key: &str,
+    name: &str,
     value: Value,
 ) -> Result<(), Memory>
-    ensures { OnOk result (members_view members.new.entries ≡ with_member key.now (view value) (members_view members.old.entries)) }
+    ensures { OnOk result (members_view members.new.entries ≡ with_member name.now (view value) (members_view members.old.entries)) }
 {
-    serde_json::put(members, alloc, key, value)?;
+    serde_json::put(members, alloc, name, value)?;
     Ok(())
 }
 
-/// Puts the number under the key.
-pub fn put_number(
+/// Puts the values of a table under their names.
+pub fn put_rows(
     alloc: Global,
     members: &mut Map<String, Value>,
-    key: &str,
-    number: u64,
+    table: &[(&str, Plain<'_>)],
 ) -> Result<(), Memory>
-    ensures { OnOk result (members_view members.new.entries ≡ with_member key.now (whole number) (members_view members.old.entries)) }
+    ensures { OnOk result (members_view members.new.entries ≡ with_rows (members_view members.old.entries) table.now) }
 {
-    put(alloc, members, key, number.to_value(alloc)?)
+    for row in table {
+        put(alloc, members, row.0, value_of(alloc, row.1)?)?;
+    }
+    Ok(())
 }
 
-/// Puts the text under the key.
-pub fn put_text(
+/// The object of a table.
+pub fn object(alloc: Global, table: &[(&str, Plain<'_>)]) -> Result<Value, Memory>
+    ensures { IfOk result (λ v. view v ≡ object (with_rows no_members table.now)) }
+{
+    let mut members = Map::new(alloc);
+    put_rows(alloc, &mut members, table)?;
+    Ok(Value::Object(members))
+}
+
+/// The object of one member.
+pub fn object_with(alloc: Global, name: &str, value: Value) -> Result<Value, Memory>
+    ensures { IfOk result (λ v. view v ≡ object_of ((name.now, view value) ∷ [])) }
+{
+    let mut members = Map::new(alloc);
+    put(alloc, &mut members, name, value)?;
+    Ok(Value::Object(members))
+}
+
+/// A reply: a value under its name, beside the point.
+pub fn reply(alloc: Global, name: &str, value: Value, point: u64) -> Result<Value, Memory>
+    ensures { IfOk result (λ v. view v ≡ (reply_beside ((name.now, view value) ∷ []) point).value) }
+{
+    let mut members = Map::new(alloc);
+    put(alloc, &mut members, "point", Value::from(point))?;
+    put(alloc, &mut members, name, value)?;
+    Ok(Value::Object(members))
+}
+
+/// A reply: the object of a table under its name, beside the point.
+pub fn reply_of(
     alloc: Global,
-    members: &mut Map<String, Value>,
-    key: &str,
-    text: &str,
-) -> Result<(), Memory>
-    ensures { OnOk result (members_view members.new.entries ≡ with_member key.now (string text.now) (members_view members.old.entries)) }
+    name: &str,
+    table: &[(&str, Plain<'_>)],
+    point: u64,
+) -> Result<Value, Memory>
+    ensures { IfOk result (λ v. view v ≡ (reply_beside ((name.now, object (with_rows no_members table.now)) ∷ []) point).value) }
 {
-    put(alloc, members, key, text.to_value(alloc)?)
-}
-
-/// Puts `true` under the key.
-pub fn put_flag(alloc: Global, members: &mut Map<String, Value>, key: &str) -> Result<(), Memory>
-    ensures { OnOk result (members_view members.new.entries ≡ with_member key.now (boolean true) (members_view members.old.entries)) }
-{
-    put(alloc, members, key, Value::Bool(true))
+    let value = object(alloc, table)?;
+    reply(alloc, name, value, point)
 }

@@ -1,16 +1,17 @@
 //! What is told of a page and of a text that are expanded (MediaWiki's API:Parsing wikitext and API:Expandtemplates; that
 //! links, categories and templates come in title order is own).
-ghost use Rattle.std.specs.Prelude.{◌≡◌, IfOk, OnOk, map};
+ghost use Rattle.std.specs.Prelude.{◌≡◌, ◌∷◌, [], IfOk, OnOk, codes, map};
+ghost use Rattle.serde_json.specs.Data.{string};
 ghost use Rattle.serde_json.specs.View.{members_view, view};
 ghost use Rattle.wk_table_rows.specs.Members.{member_of};
 ghost use Rattle.wk_answer_rules.specs.Pages.{category_value, expand_entries, parse_entries, redirect_entries};
-ghost use Rattle.wk_answer_rules.specs.Values.{array_of, reply_beside};
+ghost use Rattle.wk_answer_rules.specs.Values.{array_of, object_of, reply_beside};
 ghost use Rattle.wk_replies.specs.Members.{with_entries};
 ghost use Rattle.wk_replies.specs.Shown.{first_entries, later_entries, page_data, page_of};
 
-use crate::members::{put, put_number, put_text};
+use crate::members::{Plain, object, put, put_rows, reply, reply_of};
 use crate::values::{array_value, shown_text, title_value, titles_value};
-use serde_json::{Map, Value, json};
+use serde_json::{Map, Value};
 use std::alloc::Global;
 use wk_bytes::Text;
 use wk_memory::Memory;
@@ -31,13 +32,25 @@ pub struct PageShown<'a> {
     pub rows: &'a PageRows,
 }
 
+/// A category, and what a page in it asks to be sorted by.
+fn category_entry(alloc: Global, category: &str, sort_key: &str) -> Result<Value, Memory>
+    ensures { IfOk result (λ v. view v
+        ≡ object_of ((codes "category", string category.now) ∷ (codes "sortkey", string sort_key.now) ∷ [])) }
+{
+    let table = &[
+        ("category", Plain::Text(category)),
+        ("sortkey", Plain::Text(sort_key)),
+    ];
+    object(alloc, table)
+}
+
 /// A category that a page is in: its key with spaces, and what the page asks to be sorted by.
 fn category_value(alloc: Global, member: &(Title, Text, Text)) -> Result<Value, Memory>
     ensures { IfOk result (λ v. view v ≡ category_value (member_of member.now)) }
 {
     let (category, _, prefix) = member;
     let key = spaced(alloc, category.key())?;
-    Ok(json!(in alloc; {"category": &key, "sortkey": prefix.as_str()})?)
+    category_entry(alloc, key.as_str(), prefix.as_str())
 }
 
 /// Categories that a page is in.
@@ -82,7 +95,7 @@ fn put_first(
         "categories",
         categories_value(alloc, &rows.members)?,
     )?;
-    put_text(alloc, members, "expanded", page.text)?;
+    put_rows(alloc, members, &[("expanded", Plain::Text(page.text))])?;
     put(alloc, members, "links", titles_value(alloc, &rows.links)?)
 }
 
@@ -96,8 +109,11 @@ fn put_later(
         ≡ with_entries (members_view members.old.entries) (later_entries (page_of page.now))) }
 {
     let rows = page.rows;
-    put_number(alloc, members, "pageid", u64::from(page.number))?;
-    put_number(alloc, members, "revid", page.revision)?;
+    let numbers = &[
+        ("pageid", Plain::Number(u64::from(page.number))),
+        ("revid", Plain::Number(page.revision)),
+    ];
+    put_rows(alloc, members, numbers)?;
     put(
         alloc,
         members,
@@ -105,7 +121,7 @@ fn put_later(
         titles_value(alloc, &rows.templates)?,
     )?;
     let title = shown_text(alloc, page.title)?;
-    put_text(alloc, members, "title", &title)
+    put_rows(alloc, members, &[("title", Plain::Text(title.as_str()))])
 }
 
 /// What stands in the reply for a page.
@@ -124,12 +140,13 @@ pub fn parsed(alloc: Global, page: &PageShown<'_>, point: u64) -> Result<Value, 
     ensures { IfOk result (λ v. view v ≡ (reply_beside (parse_entries (page_of page.now)) point).value) }
 {
     let value = page_value(alloc, page)?;
-    Ok(json!(in alloc; {"parse": value, "point": point})?)
+    reply(alloc, "parse", value, point)
 }
 
 /// What is told of a text that was expanded.
 pub fn expanded(alloc: Global, text: &str, point: u64) -> Result<Value, Memory>
     ensures { IfOk result (λ v. view v ≡ (reply_beside (expand_entries text.now) point).value) }
 {
-    Ok(json!(in alloc; {"expandtemplates": {"wikitext": text}, "point": point})?)
+    let table = &[("wikitext", Plain::Text(text))];
+    reply_of(alloc, "expandtemplates", table, point)
 }

@@ -6,8 +6,9 @@ ghost use Rattle.wk_answer_rules.specs.Saves.{delete_entries, edit_entries};
 ghost use Rattle.wk_answer_rules.specs.Values.{reply_beside};
 ghost use Rattle.wk_replies.specs.Shown.{numbers_of};
 
+use crate::members::{Plain, reply_of};
 use crate::values::shown_text;
-use serde_json::{Value, json};
+use serde_json::Value;
 use std::alloc::Global;
 use wk_memory::Memory;
 use wk_title::Title;
@@ -33,11 +34,15 @@ pub fn created(
     ensures { IfOk result (λ v. view v ≡ (reply_beside (edit_entries (created title.now (numbers_of numbers))) point).value) }
 {
     let title = shown_text(alloc, title)?;
-    let SavedNumbers { page, old, new } = numbers;
-    let page = u64::from(page);
-    Ok(
-        json!(in alloc; {"edit": {"new": true, "newrevid": new, "oldrevid": old, "pageid": page, "result": "Success", "title": &title}, "point": point})?,
-    )
+    let table = &[
+        ("new", Plain::Flag(true)),
+        ("newrevid", Plain::Number(numbers.new)),
+        ("oldrevid", Plain::Number(numbers.old)),
+        ("pageid", Plain::Number(u64::from(numbers.page))),
+        ("result", Plain::Text("Success")),
+        ("title", Plain::Text(title.as_str())),
+    ];
+    reply_of(alloc, "edit", table, point)
 }
 
 /// An edit of a page that existed.
@@ -50,11 +55,14 @@ pub fn changed(
     ensures { IfOk result (λ v. view v ≡ (reply_beside (edit_entries (changed title.now (numbers_of numbers))) point).value) }
 {
     let title = shown_text(alloc, title)?;
-    let SavedNumbers { page, old, new } = numbers;
-    let page = u64::from(page);
-    Ok(
-        json!(in alloc; {"edit": {"newrevid": new, "oldrevid": old, "pageid": page, "result": "Success", "title": &title}, "point": point})?,
-    )
+    let table = &[
+        ("newrevid", Plain::Number(numbers.new)),
+        ("oldrevid", Plain::Number(numbers.old)),
+        ("pageid", Plain::Number(u64::from(numbers.page))),
+        ("result", Plain::Text("Success")),
+        ("title", Plain::Text(title.as_str())),
+    ];
+    reply_of(alloc, "edit", table, point)
 }
 
 /// An edit by a text that the page has already.
@@ -62,10 +70,13 @@ pub fn unchanged(alloc: Global, title: &Title, page: u32, point: u64) -> Result<
     ensures { IfOk result (λ v. view v ≡ (reply_beside (edit_entries (unchanged title.now page)) point).value) }
 {
     let title = shown_text(alloc, title)?;
-    let page = u64::from(page);
-    Ok(
-        json!(in alloc; {"edit": {"nochange": true, "pageid": page, "result": "Success", "title": &title}, "point": point})?,
-    )
+    let table = &[
+        ("nochange", Plain::Flag(true)),
+        ("pageid", Plain::Number(u64::from(page))),
+        ("result", Plain::Text("Success")),
+        ("title", Plain::Text(title.as_str())),
+    ];
+    reply_of(alloc, "edit", table, point)
 }
 
 /// A deletion of a page, which existed.
@@ -78,8 +89,10 @@ pub fn deleted(
     ensures { IfOk result (λ v. view v ≡ (reply_beside (delete_entries (changed title.now (numbers_of numbers))) point).value) }
 {
     let title = shown_text(alloc, title)?;
-    let SavedNumbers { page: _, old, new } = numbers;
-    Ok(
-        json!(in alloc; {"delete": {"oldrevid": old, "revid": new, "title": &title}, "point": point})?,
-    )
+    let table = &[
+        ("oldrevid", Plain::Number(numbers.old)),
+        ("revid", Plain::Number(numbers.new)),
+        ("title", Plain::Text(title.as_str())),
+    ];
+    reply_of(alloc, "delete", table, point)
 }

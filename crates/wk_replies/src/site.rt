@@ -9,9 +9,10 @@ ghost use Rattle.wk_answer_rules.specs.Values.{array_of, integer, object_of, rep
 ghost use Rattle.wk_replies.specs.Counted.{query_shown, site_shown, statistics_shown};
 ghost use Rattle.wk_replies.specs.declared.site.Counts.{Counts as Held};
 
+use crate::members::{Plain, object, object_with, put, reply};
 use crate::values::array_value;
-use serde_json::{Value, json};
-use std::alloc::{AllocError, Global};
+use serde_json::{Map, Value};
+use std::alloc::Global;
 use wk_memory::Memory;
 use wk_title::namespace_name;
 
@@ -32,15 +33,19 @@ pub struct Counts {
 pub fn tokens(alloc: Global, point: u64) -> Result<Value, Memory>
     ensures { IfOk result (λ v. view v ≡ (reply_beside tokens_entries point).value) }
 {
-    Ok(json!(in alloc; {"point": point, "query": {"tokens": {"csrftoken": "+\\"}}})?)
+    let token = object(alloc, &[("csrftoken", Plain::Text("+\\"))])?;
+    let query = object_with(alloc, "tokens", token)?;
+    reply(alloc, "query", query, point)
 }
 
 /// A namespace that has this name.
 fn named_value(alloc: Global, ns: i8, name: &str) -> Result<Value, Memory>
     ensures { IfOk result (λ v. view v ≡ object_of ((codes "id", integer ns) ∷ (codes "name", string name.now) ∷ [])) }
 {
-    let id = i64::from(ns);
-    Ok(json!(in alloc; {"id": id, "name": name})?)
+    object(
+        alloc,
+        &[("id", Plain::Namespace(ns)), ("name", Plain::Text(name))],
+    )
 }
 
 /// A namespace: its number and its name.
@@ -62,24 +67,30 @@ fn namespaces_value(alloc: Global) -> Result<Value, Memory>
 }
 
 /// How much the wiki holds.
-fn statistics_value(alloc: Global, counts: Counts) -> Result<Value, AllocError>
+fn statistics_value(alloc: Global, counts: Counts) -> Result<Value, Memory>
     ensures { IfOk result (λ v. view v ≡ statistics_shown counts) }
 {
-    let Counts {
-        revisions,
-        jobs,
-        pages,
-    } = counts;
-    json!(in alloc; {"edits": revisions, "jobs": jobs, "pages": pages})
+    let table = &[
+        ("edits", Plain::Number(counts.revisions)),
+        ("jobs", Plain::Number(counts.jobs)),
+        ("pages", Plain::Number(counts.pages)),
+    ];
+    object(alloc, table)
 }
 
 /// What is told of a wiki's namespaces and counts.
 fn query_value(alloc: Global, counts: Counts) -> Result<Value, Memory>
     ensures { IfOk result (λ v. view v ≡ query_shown counts) }
 {
-    let namespaces = namespaces_value(alloc)?;
-    let statistics = statistics_value(alloc, counts)?;
-    Ok(json!(in alloc; {"namespaces": namespaces, "statistics": statistics})?)
+    let mut members = Map::new(alloc);
+    put(alloc, &mut members, "namespaces", namespaces_value(alloc)?)?;
+    put(
+        alloc,
+        &mut members,
+        "statistics",
+        statistics_value(alloc, counts)?,
+    )?;
+    Ok(Value::Object(members))
 }
 
 /// What is told of a wiki that holds so much.
@@ -87,7 +98,7 @@ pub fn site_info(alloc: Global, counts: Counts, point: u64) -> Result<Value, Mem
     ensures { IfOk result (λ v. view v ≡ (reply_beside (site_shown counts) point).value) }
 {
     let query = query_value(alloc, counts)?;
-    Ok(json!(in alloc; {"point": point, "query": query})?)
+    reply(alloc, "query", query, point)
 }
 
 /// What is told of counts is what is told of a state that has them.

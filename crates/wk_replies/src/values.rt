@@ -4,7 +4,8 @@ ghost use Rattle.serde_json.specs.View.{view};
 ghost use Rattle.wk_text_rules.specs.Titles.{shown};
 ghost use Rattle.wk_answer_rules.specs.Values.{object_of, title_entries, titles_value, array_of};
 
-use serde_json::{Value, json};
+use crate::members::{Plain, object};
+use serde_json::Value;
 use std::alloc::Global;
 use wk_memory::Memory;
 use wk_title::Title;
@@ -22,9 +23,12 @@ pub fn shown_text(alloc: Global, title: &Title) -> Result<String, Memory>
 pub fn title_value(alloc: Global, title: &Title) -> Result<Value, Memory>
     ensures { IfOk result (λ v. view v ≡ object_of (title_entries title.now)) }
 {
-    let ns = i64::from(title.ns());
     let text = shown_text(alloc, title)?;
-    Ok(json!(in alloc; {"ns": ns, "title": &text})?)
+    let table = &[
+        ("ns", Plain::Namespace(title.ns())),
+        ("title", Plain::Text(text.as_str())),
+    ];
+    object(alloc, table)
 }
 
 /// The array of these values.

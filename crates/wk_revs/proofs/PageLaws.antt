@@ -1,5 +1,5 @@
 -- What the entries of a map from titles say of a list of pages.
-use Rattle.std.proofs.Common.{◌≡◌, ℕ, ◌+◌, ◌<◌, ◌≤◌, Bool, true, false, not, cond, List, [], ◌∷◌, ◌++◌, length, map, filter, Option, Some, None, refl, sym, ap, ap₂, ◌∙◌, subst, max, inl, inr, arith, if◌then◌else◌}
+use Rattle.std.proofs.Common.{◌≡◌, ℕ, ◌+◌, ◌<◌, ◌≤◌, Bool, true, false, not, cond, List, [], ◌∷◌, ◌++◌, length, map, filter, get_or, slice_get, Option, Some, None, refl, sym, ap, ap₂, ◌∙◌, subst, max, ◌⊎◌, inl, inr, arith, if◌then◌else◌}
 use Rattle.std.specs.Prelude.{◌==◌, nat_lt, unwrap_or, option_map, find, position}
 use Rattle.std.specs.List.{enumerate_from, position_or_len}
 use Rattle.std.specs.Map.{keys_of, lookup}
@@ -9,6 +9,7 @@ use Rattle.std.proofs.lemmas.Cmp.{int_eq_equiv}
 use Rattle.std.proofs.lemmas.List.{length-map}
 use Rattle.std.proofs.lemmas.List.Sums.{count_by-le-length, length-filter, prefix_len-le-length}
 use Rattle.std.proofs.lemmas.Map.Entries.{length-keys_of}
+use Rattle.std.proofs.lemmas.Option.{slice_get_cases}
 use Rattle.std.proofs.lemmas.Slice.Eq.{bytes_eq-Decides}
 use Rattle.std.specs.Prelude.{bytes_eq}
 use borrow.Author.Tests.{ltb-false, ltb-true}
@@ -25,6 +26,14 @@ bytes_eq_comm xs ys =
 
 pub title_eq_comm : (a b : PageTitle) → title_eq a b ≡ title_eq b a
 title_eq_comm a b = rw (int_eq_equiv.symm a.ns b.ns, bytes_eq_comm a.key b.key) refl
+
+-- a place at which something stands is one of the list's
+pub place_within : {X : Type 0} (xs : List X) (i : ℕ) (x : X) → slice_get xs i ≡ Some x → i < length xs
+place_within {X} xs i x is = by_cases (slice_get_cases xs i).1
+  where
+    by_cases : ((y : X) × (i < length xs) × (slice_get xs i ≡ Some y) × (get_or xs i y ≡ y)) ⊎ ((length xs ≤ i) × (slice_get xs i ≡ None)) → i < length xs
+    by_cases (inl (y, l, some, g)) = l
+    by_cases (inr (g, none)) = let bad : Some x ≡ None = sym is ∙ none in absurd (cc bad)
 
 abbrev is_of : PageTitle → Page → Bool
 is_of title page = title_eq page.title title

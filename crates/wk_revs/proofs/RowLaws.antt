@@ -1,5 +1,5 @@
 -- What the rows of good tables say of pages and revisions.
-use Rattle.std.proofs.Common.{◌≡◌, ℕ, suc, ◌+◌, ◌-◌, ◌<◌, ◌≤◌, Bool, true, false, not, cond, ◌&&◌, ◌||◌, List, [], ◌∷◌, ◌++◌, length, map, filter, take, get_or, slice_get, Option, Some, None, refl, sym, ap, ap₂, ◌∙◌, subst, ◌⊎◌, inl, inr, arith, if◌then◌else◌}
+use Rattle.std.proofs.Common.{◌≡◌, ℕ, suc, ◌+◌, ◌-◌, ◌<◌, ◌≤◌, Bool, true, false, not, cond, ◌&&◌, ◌||◌, List, [], ◌∷◌, ◌++◌, length, map, filter, take, get_or, slice_get, Option, Some, None, refl, sym, ap, ap₂, ◌∙◌, subst, inl, inr, arith, if◌then◌else◌}
 use Rattle.std.specs.Prelude.{◌==◌, bytes_eq, nat_le, option_and_then, pos}
 use Rattle.std.specs.List.{AllByRecursion, count_by, list_any}
 use Rattle.std.specs.Ordering.{int_eq}
@@ -8,7 +8,7 @@ use Rattle.std.proofs.lemmas.Bool.{and_parts, cases_Bool, cases_lt, leb-true}
 use Rattle.std.proofs.lemmas.Bool.Decides.{Decides-int_eq}
 use Rattle.std.proofs.lemmas.List.{length-map}
 use Rattle.std.proofs.lemmas.List.Sums.{length-filter}
-use Rattle.std.proofs.lemmas.Option.{get_or_from_slice_get, slice_get-get_or, slice_get_cases}
+use Rattle.std.proofs.lemmas.Option.{get_or_from_slice_get, slice_get-get_or}
 use Rattle.std.proofs.lemmas.Slice.Eq.{bytes_eq-Decides}
 use borrow.Author.Tests.{eqb-true}
 use Rattle.indexmap.specs.IndexMap.{insert_entry}
@@ -25,7 +25,7 @@ use Rattle.wk_table_laws.proofs.FirstBad.{KeepsRules-from_good}
 use Rattle.wk_table_laws.proofs.GoodChanges.{EachGood-at, page_id-is}
 use Rattle.wk_table_laws.proofs.SavedRows.{ids-above, ids-within}
 use Rattle.wk_revs.specs.Revs.{existing_in, page_of_entry, pages_of}
-use Rattle.wk_revs.proofs.PageLaws.{put-entry}
+use Rattle.wk_revs.proofs.PageLaws.{place_within, put-entry}
 
 -- ---- titles
 
@@ -77,17 +77,10 @@ new_page (first ∷ rows) row h =
     let parts = or_none (has_title row.page_title first) (list_any (has_title row.page_title) rows) h in
     rw parts.0 (ap (λ (later : List Page). page_of_row first ∷ later) (new_page rows row parts.1))
 
-inside : {X : Type 0} (xs : List X) (i : ℕ) (x : X) → slice_get xs i ≡ Some x → i < length xs
-inside {X} xs i x is = by_cases (slice_get_cases xs i).1
-  where
-    by_cases : ((y : X) × (i < length xs) × (slice_get xs i ≡ Some y) × (get_or xs i y ≡ y)) ⊎ ((length xs ≤ i) × (slice_get xs i ≡ None)) → i < length xs
-    by_cases (inl (y, l, some, g)) = l
-    by_cases (inr (g, none)) = let bad : Some x ≡ None = sym is ∙ none in absurd (cc bad)
-
 take-more : {X : Type 0} (xs : List X) (i : ℕ) (x : X) → slice_get xs i ≡ Some x → take (i + 1) xs ≡ take i xs ++ x ∷ []
 take-more xs i x is =
     let next : i + 1 ≡ suc i = omega arith in
-    ap (λ n. take n xs) next ∙ take-suc xs i x (inside xs i x is) ∙ ap (λ y. take i xs ++ y ∷ []) (get_or_from_slice_get xs i x x is)
+    ap (λ n. take n xs) next ∙ take-suc xs i x (place_within xs i x is) ∙ ap (λ y. take i xs ++ y ∷ []) (get_or_from_slice_get xs i x x is)
 
 pub good_title : (rows : List PageColumns) (i : ℕ) (row : PageColumns) → EachGood has_good_title rows → slice_get rows i ≡ Some row → is_page_title row.page_title ≡ true
 good_title rows i row good there =

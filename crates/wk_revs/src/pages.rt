@@ -1,8 +1,7 @@
 //! The pages of a wiki: a map from each title that was ever saved to its page's current revision, 0 where the page is
 //! missing. Its entries stand in the order of the first saves, so that a page's number is one more than its place.
-ghost use Rattle.std.specs.Prelude.{◌≡◌, ◌+◌, ◌-◌, ◌<◌, ◌≤◌, ◌==◌, None, IfSome, length, max, position, if◌then◌else◌, slice_get};
+ghost use Rattle.std.specs.Prelude.{◌≡◌, ◌+◌, ◌-◌, ◌<◌, ◌≤◌, ◌==◌, None, length, max, unwrap_or, if◌then◌else◌, slice_get};
 ghost use Rattle.std.specs.Option.{option_map};
-ghost use Rattle.wk_text_rules.specs.Titles.{title_eq};
 ghost use Rattle.indexmap.specs.IndexMap.{spare};
 ghost use Rattle.wk_page_rules.specs.History.{current_revision, page_number, page_to_save, with_current};
 ghost use Rattle.wk_page_rules.specs.Verdict.{max_pages};
@@ -14,29 +13,17 @@ use wk_title::Title;
 /// The pages by their titles.
 pub type Pages = IndexMap<Title, u64>;
 
-/// The place of the title's page.
-fn place(pages: &Pages, title: &Title) -> Option<usize>
-    ensures place { result ≡ position (λ page. title_eq page.title title.now) (pages_of pages.now.entries) }
-    ensures within { IfSome result (λ place. place < length pages.now.entries) }
-{
-    pages.get_index_of(title)
-}
-
-/// The number of the title's page.
-pub fn page_number(pages: &Pages, title: &Title) -> Option<u32>
+/// The number and the current revision, 0 where it is missing, of the title's page, for which the map is searched once.
+#[tactic(auto, using(crate::proofs::PageLaws::place_within))]
+pub fn found(pages: &Pages, title: &Title) -> Option<(u32, u64)>
     requires { length pages.now.entries ≤ max_pages }
-    ensures { result ≡ page_number (of_pages (pages_of pages.now.entries)) title.now }
+    ensures number { option_map (λ page. page.0) result ≡ page_number (of_pages (pages_of pages.now.entries)) title.now }
+    ensures current { unwrap_or (option_map (λ page. page.1) result) 0
+        ≡ current_revision (of_pages (pages_of pages.now.entries)) title.now }
 {
-    place(pages, title).map(|place| place as u32 + 1)
-}
-
-/// The current revision of the title's page, 0 where the page is missing.
-pub fn current_revision(pages: &Pages, title: &Title) -> u64
-    ensures { result ≡ current_revision (of_pages (pages_of pages.now.entries)) title.now }
-{
-    match pages.get(title) {
-        Some(current) => *current,
-        None => 0,
+    match pages.get_full(title) {
+        Some((place, _, current)) => Some((place as u32 + 1, *current)),
+        None => None,
     }
 }
 
@@ -55,23 +42,24 @@ pub fn page_at(pages: &Pages, number: u32) -> Option<(&Title, u64)>
 }
 
 /// Makes this revision the current one of the title's page, which goes to the end where the title has none yet, and
-/// gives the page's number.
-pub fn put_current(pages: &mut Pages, title: Title, number: u64) -> u32
+/// gives the page's number and the revision that was current before, 0 where the page was missing.
+pub fn put_current(pages: &mut Pages, title: Title, number: u64) -> (u32, u64)
     requires room { 0 < spare pages.old }
     requires within { length pages.old.entries ≤ max_pages }
     requires fits { page_number (of_pages (pages_of pages.old.entries)) title ≡ None → length pages.old.entries < max_pages }
     ensures pages { pages_of pages.new.entries ≡ with_current (pages_of pages.old.entries) title number }
-    ensures page { result ≡ page_to_save (of_pages (pages_of pages.old.entries)) title }
-    ensures some { 0 < result }
-    ensures near { result ≤ length pages.old.entries + 1 }
-    ensures len { length pages.new.entries ≡ max (length pages.old.entries) result }
+    ensures page { result.0 ≡ page_to_save (of_pages (pages_of pages.old.entries)) title }
+    ensures parent { result.1 ≡ current_revision (of_pages (pages_of pages.old.entries)) title }
+    ensures some { 0 < result.0 }
+    ensures near { result.0 ≤ length pages.old.entries + 1 }
+    ensures len { length pages.new.entries ≡ max (length pages.old.entries) result.0 }
     ensures few { length pages.new.entries ≤ max_pages }
     ensures spare { spare pages.old ≤ spare pages.new + 1 }
-    ensures existing { existing_in pages.new.entries + existence (current_revision (of_pages (pages_of pages.old.entries)) title)
-        ≡ existing_in pages.old.entries + existence number }
+    ensures counted { existence result.1 ≤ existing_in pages.old.entries }
+    ensures existing { existing_in pages.new.entries + existence result.1 ≡ existing_in pages.old.entries + existence number }
 {
     match pages.insert_full(title, number) {
-        Ok((place, _)) => place as u32 + 1,
+        Ok((place, old)) => (place as u32 + 1, old.unwrap_or(0)),
         Err(_) => unreachable!(),
     }
 }

@@ -3,13 +3,14 @@ ghost use Rattle.std.specs.Prelude.{◌≡◌, ℕ, ◌+◌, ◌<◌, ◌≤◌,
 ghost use Rattle.std.specs.Option.{option_map};
 ghost use Rattle.std.specs.Option.{option_copied};
 ghost use Rattle.wk_text_rules.specs.Titles.{is_page_title};
-ghost use Rattle.wk_page_rules.specs.History.{can_save, no_history, current_revision, current_text, next_revision, page_number, page_to_save, saved};
+ghost use Rattle.wk_page_rules.specs.History.{can_save, no_history, current_revision, next_revision, page_number, page_to_save, saved};
 ghost use Rattle.wk_page_rules.specs.Verdict.{body_bytes, judged, judged_at, limit_passed, max_pages, max_text};
 ghost use Rattle.wk_wiki_rules.specs.Revisions.{count_existing, newest_below};
 ghost use Rattle.wk_wiki_rules.specs.States.{page_at};
 ghost use Rattle.wk_wiki_rules.specs.Entries.{revision_at};
 ghost use Rattle.wk_revs.specs.Edit.{edit_asked, most_held};
 ghost use Rattle.wk_revs.specs.Revs.{existing_in, of_pages, pages_of};
+ghost use Rattle.wk_revs.specs.Standing.{standing as standing_of};
 ghost use Rattle.wk_revs.specs.Verdict.{CanAdd, IfAccept, verdict_of};
 
 use crate::chains::Chains;
@@ -17,6 +18,7 @@ use crate::edit::{Edit, Limits};
 use crate::kept_text::kept;
 use crate::pages::Pages;
 use crate::revisions::Revision;
+use crate::standing::Standing;
 use crate::verdict::{SaveRefusal, Verdict, body_len, is_conflict, is_same_text, real_title};
 use crate::{pages, revisions};
 use indexmap::IndexMap;
@@ -129,7 +131,7 @@ impl Revs {
 
     /// Saves the text as the title's current revision, or a deletion where there is none, at this many seconds since
     /// 1970, and gives the revision's number. Takes no memory.
-    #[tactic(auto, using(crate::proofs::PageLaws::existing_least, crate::proofs::PageLaws::existing_within))]
+    #[tactic(auto, using(crate::proofs::PageLaws::existing_within))]
     pub fn add(&mut self, title: Title, text: Option<Text>, now: u64) -> u64
         requires room { 0 < self.old.spare }
         requires possible { can_save self.old.history title text ≡ true }
@@ -139,12 +141,11 @@ impl Revs {
         ensures spare { self.new.spare + 1 ≡ self.old.spare }
     {
         let number = self.next_revision();
-        let parent = pages::current_revision(&self.pages, &title);
         // A deletion leaves the page missing.
         let current = if text.is_some() { number } else { 0 };
+        let (page, parent) = pages::put_current(&mut self.pages, title, current);
         self.existing = pages::existing_after(self.existing, parent, current);
         self.texts = revisions::sum_of(self.texts, body_len(&text));
-        let page = pages::put_current(&mut self.pages, title, current);
         self.chains.push(page);
         self.revisions
             .push_reserved(Revision::new(page, parent, now, text));
@@ -152,28 +153,46 @@ impl Revs {
         number
     }
 
+    /// What stands of the title, and what a save of it makes, by one search of the pages. Takes no memory.
+    pub fn standing(&self, title: &Title) -> Standing
+        ensures { result ≡ standing_of self.now.history title.now }
+    {
+        let next = self.next_revision();
+        match pages::found(&self.pages, title) {
+            Some((page, current)) => Standing {
+                page: Some(page),
+                to_save: page,
+                current,
+                next,
+            },
+            None => Standing {
+                page: None,
+                to_save: self.pages.len() as u32 + 1,
+                current: 0,
+                next,
+            },
+        }
+    }
+
     /// The number of the title's page, or `None` exactly where no save of the title was ever made. Takes no memory.
     pub fn page(&self, title: &Title) -> Option<u32>
         ensures { result ≡ page_number self.now.history title.now }
     {
-        pages::page_number(&self.pages, title)
+        self.standing(title).page
     }
 
     /// The page's current revision, 0 where the page is missing. Takes no memory.
     pub fn current(&self, title: &Title) -> u64
         ensures { result ≡ current_revision self.now.history title.now }
     {
-        pages::current_revision(&self.pages, title)
+        self.standing(title).current
     }
 
     /// The number that the title's page has, or would get by a save. Takes no memory.
     pub fn page_to_save(&self, title: &Title) -> u32
         ensures { result ≡ page_to_save self.now.history title.now }
     {
-        match self.page(title) {
-            Some(page) => page,
-            None => self.pages.len() as u32 + 1,
-        }
+        self.standing(title).to_save
     }
 
     /// The number that the next revision gets. Takes no memory.
@@ -226,18 +245,18 @@ impl Revs {
         }
     }
 
-    fn current_text(&self, title: &Title) -> Option<&Text>
-        ensures { option_copied result ≡ current_text self.now.history title.now }
-    {
-        let number = self.current(title);
-        revisions::text_of_revision(&self.revisions, number)
-    }
-
-    /// The first limit that a save of this body under this title would pass.
-    fn limit_passed(&self, limits: &Limits, title: &Title, body: &Option<Text>) -> Option<Limit>
+    /// The first limit that a save of this body under this title, of which this stands, would pass.
+    fn limit_passed(
+        &self,
+        limits: &Limits,
+        standing: Standing,
+        title: &Title,
+        body: &Option<Text>,
+    ) -> Option<Limit>
+        requires { standing ≡ standing_of self.now.history title.now }
         ensures { result ≡ limit_passed self.now.history (most_held limits.now) title.now body.now }
     {
-        if self.page(title).is_none() && limits.pages <= self.pages.len() as u64 {
+        if standing.page.is_none() && limits.pages <= self.pages.len() as u64 {
             return Some(Limit::Pages);
         }
         if limits.revisions <= self.revisions.len() as u64 {
@@ -257,7 +276,8 @@ impl Revs {
             ≡ Some (judged_at self.now.history (most_held limits.now) (edit_asked edit.now) title body) }
         ensures accept { IfAccept result (CanAdd self.now.history (most_held limits.now)) }
     {
-        let current = self.current(&title);
+        let standing = self.standing(&title);
+        let current = standing.current;
         if edit.create_only && current != 0 {
             return Verdict::Refuse(SaveRefusal::ArticleExists);
         }
@@ -267,10 +287,10 @@ impl Revs {
         if is_conflict(edit.base, current) {
             return Verdict::Refuse(SaveRefusal::EditConflict { current });
         }
-        if is_same_text(self.current_text(&title), &body) {
+        if is_same_text(revisions::text_of_revision(&self.revisions, current), &body) {
             return Verdict::NoChange(title);
         }
-        match self.limit_passed(limits, &title, &body) {
+        match self.limit_passed(limits, standing, &title, &body) {
             Some(limit) => Verdict::Refuse(SaveRefusal::WikiFull(limit)),
             None => Verdict::Accept(title, body),
         }

@@ -7,11 +7,12 @@ use Rattle.wk_text_rules.specs.Titles.{PageTitle}
 use Rattle.wk_page_rules.specs.History.{text_of_revision}
 use Rattle.wk_page_rules.specs.Verdict.{EditAsked, MostHeld, body_bytes, max_text, real_title}
 use Rattle.wk_view_rules.specs.Plans.{done}
-use Rattle.wk_view_rules.specs.Worlds.{IsHonest, IsSeen, Seen, of_world}
+use Rattle.wk_view_rules.specs.Worlds.{Agrees, IsHonest, IsSeen, Seen, World, of_seen, of_world}
 use Rattle.wk_wiki_rules.specs.States.{State, world_of}
 use Rattle.wk_wiki_rules.specs.Staleness.{first_stale}
 use Rattle.wk_subst_rules.specs.Substitution.{substituted}
 use Rattle.wk_life_laws.proofs.Marks.{agrees-now}
+use Rattle.wk_expand.proofs.StepLaws.{agrees-seen}
 use Rattle.wk_subst.specs.Substituted.{IsSubstituted}
 use Rattle.wk_core.specs.Seen.{WikiSeen}
 use Rattle.wk_answer_rules.specs.ApiErrors.{ApiError, api_error, contenttoobig, invalidtitle}
@@ -66,3 +67,9 @@ module _ {K : Type 0} (told : K → Option StoreTables) (faults : K → ℕ) (ol
 pub made-now : (state : State) (saved text : List ℕ) (reads : Seen) → IsSubstituted saved text reads → IsSeen reads → IsHonest (text_of_revision state.history) reads
     → first_stale (world_of state) reads ≡ None → substituted (of_world (world_of state)) saved ≡ done text reads
 made-now state saved text reads made seen honest none = made.everywhere (of_world (world_of state)) (agrees-now state reads honest seen.formed none)
+
+-- What a text became by answers of a world is what it becomes in the world.
+pub made-by : (w : World) (seen : Seen) (asked saved text : List ℕ) (reads : Seen) → Agrees (of_world w) seen → Agrees (of_seen seen) reads → saved ≡ asked → IsSubstituted saved text reads
+    → substituted (of_world w) asked ≡ done text reads
+made-by w seen asked saved text reads answers read same made =
+    subst (λ t. substituted (of_world w) t ≡ done text reads) same (made.everywhere (of_world w) (agrees-seen (of_world w) seen reads answers read))

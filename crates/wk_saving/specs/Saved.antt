@@ -1,19 +1,21 @@
 -- What came of a request that may save (own).
-use Rattle.std.specs.Prelude.{◌≡◌, ℕ, Bool, true, false, length, Option, IsSome}
+use Rattle.std.specs.Prelude.{◌≡◌, ℕ, length, Option, IsSome}
 use Rattle.serde_json.specs.Data.{Data}
 use Rattle.wk_base.specs.Faults.{Rose}
 use Rattle.wk_table_rules.specs.Rows.{StoreTables}
-use Rattle.wk_wiki_rules.specs.SaveOutcomes.{SaveOutcome, created, changed, unchanged}
+use Rattle.wk_wiki_rules.specs.SaveOutcomes.{SaveOutcome}
 use Rattle.wk_core.specs.Seen.{WikiSeen}
 use Rattle.wk_core.specs.Steps.{HasMadeAtMost, HasMadeNothing}
 use Rattle.wk_answer_rules.specs.ApiErrors.{api_error, storefault}
-use Rattle.wk_answer_rules.specs.Saves.{Answered}
+use Rattle.wk_answer_rules.specs.Saves.{Answered, delete_entries, edit_entries}
+use Rattle.wk_answer_rules.specs.Values.{Entries}
+use Rattle.wk_saving.specs.declared.saved_replies.SaveKind.{SaveKind}
+use Rattle.wk_saving.specs.declared.saved_replies.SaveKind.TheVariants.{Deletion, Edit}
 
--- nothing was saved, since the page has the text already
-abbrev pub is_unchanged : SaveOutcome → Bool
-is_unchanged (created title numbers) = false
-is_unchanged (changed title numbers) = false
-is_unchanged (unchanged title page) = true
+-- what is told of what came of a save of this kind
+abbrev pub told_by : SaveKind → SaveOutcome → Entries
+told_by Edit = edit_entries
+told_by Deletion = delete_entries
 
 -- A request is answered as the rules have it: the event that it makes has happened, if it makes one, and the count of faults is
 -- as it was. Or the store failed where the request makes an event: the count of faults rose, and nothing happened.

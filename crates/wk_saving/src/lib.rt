@@ -5,8 +5,9 @@
 mod errors;
 mod saved_replies;
 mod saving;
+mod substituting;
 mod transforming;
 
-pub use errors::{content_too_big, error_reply};
+pub use errors::content_too_big;
 pub use saving::save_asked;
 pub use transforming::{edit_with, save_substituted};

@@ -20,6 +20,7 @@ ghost use Rattle.wk_saving.specs.Transforming.{error_before};
 
 use crate::errors::content_too_big;
 use crate::saving::{delete_page, edit_page};
+use crate::substituting::substituted_now;
 use serde_json::Value;
 use std::alloc::Global;
 use wk_bytes::Text;
@@ -28,7 +29,6 @@ use wk_good_rows::MAX_TEXT;
 use wk_listings::invalid_title;
 use wk_live::{Live, stale_reads_are_those_of_the_rules};
 use wk_memory::Memory;
-use wk_present::substituted_now;
 use wk_request::SaveAsked;
 use wk_revs::real_title;
 use wk_subst::Substituted;

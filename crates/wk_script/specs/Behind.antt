@@ -1,11 +1,12 @@
 -- What stands behind lines of a script, and behind all of them (own).
-use Rattle.std.specs.Prelude.{◌≡◌, ℕ, List, length, Option, Some, None, Result, Ok, Err}
+use Rattle.std.specs.Prelude.{◌≡◌, ℕ, List, [], ◌∷◌, length, Option, Some, None, Result, Ok, Err}
 use Rattle.std.specs.Io.KnownBytes.{Appends}
 use Rattle.wk_base.specs.Writing.{AppendsPrefix}
 use Rattle.wk_table_rules.specs.Rows.{StoreTables}
 use Rattle.wk_answer_rules.specs.Values.{reply_beside}
 use Rattle.wk_script_rules.specs.Replies.{restart_entries}
 use Rattle.wk_script_rules.specs.Runs.{reply_text}
+use Rattle.wk_script_rules.specs.ScriptLines.{restart_line, script_line}
 use Rattle.wk_lines.specs.Stop.{IsWriting}
 use Rattle.wk_lines.specs.declared.stop.Stop.{Stop}
 use Rattle.wk_core.specs.Seen.{IsTold, WikiSeen}
@@ -20,12 +21,29 @@ use Rattle.wk_script_runs.specs.Through.{IsThrough, LosesStore, StopsWithin}
 use Rattle.wk_script.specs.declared.run.Next.{Next}
 use Rattle.wk_script.specs.declared.run.Next.TheVariants.{Goes, Stops, Lost}
 use Rattle.wk_script.specs.declared.run.Run.{Run}
+use Rattle.wk_script.specs.declared.run.Told.{Told}
+use Rattle.wk_script.specs.declared.run.Told.TheVariants as line
 
 -- the run stopped for this
 abbrev pub stop_of : {K : Type 0} → Next K → Option Stop
 stop_of (Goes run) = None
 stop_of (Stops run stop) = Some stop
 stop_of (Lost keeper points why) = None
+
+-- the same, at a line that the run was lent to
+abbrev pub stop_at : Told → Option Stop
+stop_at line.Goes = None
+stop_at (line.Stops stop) = Some stop
+stop_at line.Restarts = None
+
+-- The lines were answered, or the first of them; or they are a restart, and nothing happened.
+abbrev pub IsServed : {K : Type 0} → (K → Option StoreTables) → (K → ℕ) → Run K → Run K → List (Option (List ℕ)) → Option (List ℕ) → Option (List ℕ) → Option (List ℕ) → Option (List ℕ) → Told → Type 0
+IsServed told faults old new lines left later taken more line.Goes =
+    Writes told faults old.wiki new.wiki old.tickets.items new.tickets.items lines left later taken more old.points.items new.points.items
+IsServed told faults old new lines left later taken more (line.Stops stop) =
+    WritesFirst told faults old.wiki new.wiki old.tickets.items new.tickets.items lines left later taken more old.points.items new.points.items × IsWriting stop
+IsServed told faults old new lines left later taken more line.Restarts =
+    (new ≡ old) × (left ≡ later) × (taken ≡ more) × ((raw : Option (List ℕ)) × (lines ≡ raw ∷ []) × (script_line raw ≡ restart_line))
 
 -- The lines were answered, or the first of them; or the store wasn't opened anew, and nothing else happened.
 abbrev pub IsBehind : {K : Type 0} → (K → Option StoreTables) → (K → ℕ) → Run K → List (Option (List ℕ)) → Option (List ℕ) → Option (List ℕ) → Option (List ℕ) → Option (List ℕ) → Next K → Type 0

@@ -1,10 +1,10 @@
-//! A script's run, and what comes of one line.
+//! A script's run, and what comes of one line. The run is lent to a line; a restart alone takes it, and gives another.
 ghost use Rattle.std.specs.Prelude.{◌≡◌, ◌≤◌, ◌∷◌, ℕ, List, [], Option, None, Some};
 ghost use Rattle.wk_base.specs.Faults.{Rose};
 ghost use Rattle.wk_bytes.specs.Line.{line_in};
 ghost use Rattle.wk_core.specs.Limits.{AreWithinFull};
 ghost use Rattle.wk_script_rules.specs.ScriptLines.{restart_line, script_line};
-ghost use Rattle.wk_script.specs.Behind.{IsBehind, IsRestartTold, stop_of};
+ghost use Rattle.wk_script.specs.Behind.{IsBehind, IsRestartTold, IsServed, stop_at, stop_of};
 ghost use Rattle.wk_script_steps.specs.Seen.{Holds};
 
 use crate::serving::{serve, write_reply};
@@ -28,7 +28,18 @@ pub struct Run<K: Keeper> {
     pub points: Vec<u64>,
 }
 
-/// What stands behind a line.
+/// What comes of a line that the run was lent to.
+#[derive(Clone, Copy)]
+pub enum Told {
+    /// The run goes on.
+    Goes,
+    /// It stops here.
+    Stops(Stop),
+    /// The line asks for a restart, and the run is as it was.
+    Restarts,
+}
+
+/// What stands behind lines.
 pub enum Next<K: Keeper> {
     /// The run goes on.
     Goes(Run<K>),
@@ -54,8 +65,11 @@ fn tell_restart<K: Keeper, O: Sink>(run: Run<K>, output: &mut O) -> Next<K>
     }
 }
 
-/// Opens the wiki anew, and tells of it. The parsed texts stay.
-fn restart<K: Keeper, O: Sink>(alloc: Global, run: Run<K>, output: &mut O) -> Next<K>
+/// Opens the wiki anew, and tells of it. The parsed texts stay. It stands apart from the loop over lines, so that no other
+/// line costs anything of what is moved here.
+#[cold]
+#[inline(never)]
+pub fn restart<K: Keeper, O: Sink>(alloc: Global, run: Run<K>, output: &mut O) -> Next<K>
     requires holds { Holds run.wiki.state run.tickets.items }
     requires within { AreWithinFull run.wiki.start.limits }
     ensures next { (raw : Option (List ℕ)) (left : Option (List ℕ)) → script_line raw ≡ restart_line
@@ -95,8 +109,33 @@ fn restart<K: Keeper, O: Sink>(alloc: Global, run: Run<K>, output: &mut O) -> Ne
     }
 }
 
-/// Answers a line, if it has a reply, and writes the answer.
+/// Answers a line, if it has a reply, and writes the answer. A restart is left to the caller.
 pub fn serve_line<K: Keeper, O: Sink, C: Clock>(
+    run: &mut Run<K>,
+    line: &Line,
+    output: &mut O,
+    clock: &mut C,
+) -> Told
+    requires holds { Holds run.old.wiki.state run.old.tickets.items }
+    requires unsealed { run.old.wiki.start.sealed ≡ None }
+    ensures served { IsServed K.told K.faults run.old run.new (line_in line.now) (C.left clock.old) (C.left clock.new) (O.taken output.old) (O.taken output.new) result }
+    ensures never_falls { O.faults output.old ≤ O.faults output.new }
+    ensures no_fault { stop_at result ≡ None → O.faults output.new ≡ O.faults output.old }
+    ensures cause { stop_at result ≡ Some Stop.WriteFault → Rose (O.faults output.old) (O.faults output.new) }
+{
+    match script_line(line) {
+        None => Told::Goes,
+        Some(ScriptLine::Empty) => Told::Goes,
+        Some(ScriptLine::Restart) => Told::Restarts,
+        Some(line) => match serve(run, line, output, clock) {
+            Ok(()) => Told::Goes,
+            Err(stop) => Told::Stops(stop),
+        },
+    }
+}
+
+/// Answers the last line, if it has a reply, and writes the answer.
+pub fn serve_last<K: Keeper, O: Sink, C: Clock>(
     alloc: Global,
     run: Run<K>,
     line: &Line,
@@ -111,16 +150,10 @@ pub fn serve_line<K: Keeper, O: Sink, C: Clock>(
     ensures no_fault { stop_of result ≡ None → O.faults output.new ≡ O.faults output.old }
     ensures cause { stop_of result ≡ Some Stop.WriteFault → Rose (O.faults output.old) (O.faults output.new) }
 {
-    match script_line(line) {
-        None => Next::Goes(run),
-        Some(ScriptLine::Empty) => Next::Goes(run),
-        Some(ScriptLine::Restart) => restart(alloc, run, output),
-        Some(line) => {
-            let mut run = run;
-            match serve(&mut run, line, output, clock) {
-                Ok(()) => Next::Goes(run),
-                Err(stop) => Next::Stops(run, stop),
-            }
-        }
+    let mut run = run;
+    match serve_line(&mut run, line, output, clock) {
+        Told::Goes => Next::Goes(run),
+        Told::Stops(stop) => Next::Stops(run, stop),
+        Told::Restarts => restart(alloc, run, output),
     }
 }

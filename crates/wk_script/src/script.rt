@@ -7,7 +7,7 @@ ghost use Rattle.wk_script_steps.specs.Seen.{Holds};
 ghost use Rattle.wk_script.specs.Behind.{HasComeIn, IsBehindAll, stop_of};
 ghost use Rattle.wk_script.specs.Report.{IsHandedAt, IsRunTo, bad_of, end_of_cause, end_of_stop};
 
-use crate::run::{Next, Run, serve_line};
+use crate::run::{Next, Run, Told, restart, serve_last, serve_line};
 use std::alloc::Global;
 use wk_base::{Clock, Sink, Source};
 use wk_core::{BadStore, LoadCause, Wiki};
@@ -52,7 +52,7 @@ const MOST_LINE: usize = 8_388_608;
 /// How many parsed texts are kept.
 const MOST_TREES: usize = 16;
 
-/// Answers the lines of the input to its end, and writes the answers.
+/// Answers the lines of the input to its end, and writes the answers. Each line is lent the run.
 fn serve_all<K: Keeper, I: Source, O: Sink, C: Clock>(
     alloc: Global,
     run: Run<K>,
@@ -82,14 +82,18 @@ fn serve_all<K: Keeper, I: Source, O: Sink, C: Clock>(
             Err(stop) => return Next::Stops(run, stop),
         };
         match next {
-            NextLine::Inner(line) => match serve_line(alloc, run, &line, output, clock) {
-                Next::Goes(next) => {
-                    run = next;
-                }
-                Next::Stops(next, stop) => return Next::Stops(next, stop),
-                Next::Lost(keeper, points, cause) => return Next::Lost(keeper, points, cause),
+            NextLine::Inner(line) => match serve_line(&mut run, &line, output, clock) {
+                Told::Goes => {}
+                Told::Stops(stop) => return Next::Stops(run, stop),
+                Told::Restarts => match restart(alloc, run, output) {
+                    Next::Goes(opened) => {
+                        run = opened;
+                    }
+                    Next::Stops(opened, stop) => return Next::Stops(opened, stop),
+                    Next::Lost(keeper, points, cause) => return Next::Lost(keeper, points, cause),
+                },
             },
-            NextLine::Last(line) => return serve_line(alloc, run, &line, output, clock),
+            NextLine::Last(line) => return serve_last(alloc, run, &line, output, clock),
         }
     }
 }

@@ -1,8 +1,7 @@
 -- Answers that are right at the present point.
-use Rattle.std.proofs.Common.{◌≡◌, ℕ, ◌≤◌, true, List, length, Option, Some, None, refl, sym, ap, ◌∙◌, subst, arith}
+use Rattle.std.proofs.Common.{◌≡◌, ℕ, List, length, Option, Some, None, refl, sym, ap, ◌∙◌, subst, arith}
 use Rattle.std.specs.Prelude.{IfSome}
 use Rattle.wk_text_rules.specs.Titles.{PageTitle}
-use Rattle.wk_view_rules.specs.Plans.{done}
 use Rattle.wk_view_rules.specs.Worlds.{World, of_world}
 use Rattle.wk_wiki_rules.specs.States.{State, world_of}
 use Rattle.wk_wiki_rules.specs.Events.{Event}
@@ -12,13 +11,13 @@ use Rattle.wk_wiki_rules.specs.Staleness.{first_stale}
 use Rattle.wk_wiki_rules.specs.Starts.{Start}
 use Rattle.wk_life_laws.proofs.RunFacts.{run_present}
 use Rattle.wk_expand.specs.Drafts.{DraftShown, IsDraft, drafted}
-use Rattle.wk_present.specs.Drafted.{IsPresent}
+use Rattle.wk_live.specs.Drafted.{IsPresent}
 use Rattle.wk_core.specs.declared.outcomes.PageRead.{PageRead}
-use Rattle.wk_turn.specs.Told.{Begun, IsOf, Story}
+use Rattle.wk_turn.specs.Told.{Begun, Story}
 use Rattle.wk_read_laws.specs.Points.{AreReadSince}
 use Rattle.wk_read_laws.proofs.PageLaws.{read-now}
 use Rattle.wk_read_laws.proofs.PointLaws.{reads-formed, reads-honest, reads-later}
-use Rattle.wk_shared.specs.Looks.{HasLooked, HasRead, IsPresentRead, reading_of}
+use Rattle.wk_shared.specs.Looks.{HasLooked, IsPresentRead, reading_of}
 
 abbrev Pass : Type 0
 Pass = Story Start Event

@@ -1,14 +1,13 @@
 -- What a wiki keeps of drafts that are current.
-use Rattle.std.proofs.Common.{◌≡◌, ℕ, ◌≤◌, true, List, [], length, Option, Some, None, refl, sym, ap, ◌∙◌, subst, arith}
-use Rattle.std.specs.Prelude.{All, IfSome}
+use Rattle.std.proofs.Common.{◌≡◌, ℕ, List, [], length, Option, Some, None, refl, sym, ap, ◌∙◌, subst, arith}
+use Rattle.std.specs.Prelude.{IfSome}
 use Rattle.wk_text_rules.specs.Titles.{PageTitle}
-use Rattle.wk_page_rules.specs.History.{text_of_revision}
 use Rattle.wk_view_rules.specs.Plans.{done}
-use Rattle.wk_view_rules.specs.Worlds.{IsSeen, Read, of_world}
+use Rattle.wk_view_rules.specs.Worlds.{IsSeen, of_world}
 use Rattle.wk_wiki_rules.specs.States.{State, world_of}
 use Rattle.wk_wiki_rules.specs.Events.{Event}
 use Rattle.wk_wiki_rules.specs.Lives.{state_at}
-use Rattle.wk_wiki_rules.specs.Passes.{CacheEntry, IsReadAt, drafted_in, max_uses, shown_number}
+use Rattle.wk_wiki_rules.specs.Passes.{IsReadAt, drafted_in, shown_number}
 use Rattle.wk_wiki_rules.specs.Staleness.{first_stale}
 use Rattle.wk_wiki_rules.specs.Starts.{Start}
 use Rattle.wk_life_laws.specs.Caches.{IsLastingEntry}
@@ -19,14 +18,14 @@ use Rattle.wk_life_laws.proofs.RunFacts.{run_kept, run_present}
 use Rattle.wk_cache.specs.Entries.{entry_kept, marked_with, reading_kept}
 use Rattle.wk_cache.specs.declared.kept.Kept.{Kept}
 use Rattle.wk_expand.specs.Drafts.{DraftShown, IsDraft}
-use Rattle.wk_present.specs.Drafted.{IsPresent}
+use Rattle.wk_live.specs.Drafted.{IsPresent}
 use Rattle.wk_core.specs.Seen.{WikiSeen}
-use Rattle.wk_turn.specs.Told.{Begun, IsOf, Story}
+use Rattle.wk_turn.specs.Told.{Begun, Story}
 use Rattle.wk_turn.proofs.Lists.{prefix_self}
 use Rattle.wk_read_laws.specs.Points.{AreReadSince}
 use Rattle.wk_read_laws.proofs.PageLaws.{kept-lasting, pass_of, read-now, right-longer}
 use Rattle.wk_read_laws.proofs.PointLaws.{reads-formed, reads-honest, reads-later}
-use Rattle.wk_shared.specs.Looks.{HasLooked, IsPresentRead, IsTakenToLook}
+use Rattle.wk_shared.specs.Looks.{IsPresentRead, IsTakenToLook}
 use Rattle.wk_shared.specs.Sought.{IsCurrentKept, IsLookedFor, IsSought, kept_of, kept_read}
 use Rattle.wk_shared.specs.declared.keeping.Sought.{Sought}
 use Rattle.wk_shared.specs.declared.keeping.Sought.TheVariants as sought

@@ -6,4 +6,3 @@ pub mod AnswerLaws
 pub mod ApartLaws
 pub mod KeepLaws
 pub mod LookLaws
-pub mod SubstLaws

@@ -1,7 +1,6 @@
 -- A pass that has looked at the wiki.
 use Rattle.std.proofs.Common.{◌≡◌, Bool, true, false, not, List, Some, None, refl, sym, ap, ◌∙◌, subst}
 use mathlib.Core.List.{IsPrefix}
-use Rattle.wk_wiki_rules.specs.States.{State}
 use Rattle.wk_wiki_rules.specs.Events.{Event}
 use Rattle.wk_wiki_rules.specs.Starts.{Start}
 use Rattle.wk_life_laws.specs.Runs.{IsRun}

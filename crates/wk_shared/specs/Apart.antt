@@ -1,29 +1,22 @@
--- Drafts and substitutions that are made without the turn (own).
+-- What is asked of a shared wiki without the turn, and drafts of what it answers (own).
 use Rattle.std.specs.Prelude.{◌≡◌, ℕ, List, length, Option}
 use Rattle.wk_text_rules.specs.Titles.{PageTitle}
-use Rattle.wk_view_rules.specs.Worlds.{Agrees, Seen, of_seen}
+use Rattle.wk_view_rules.specs.Worlds.{Read}
 use Rattle.wk_wiki_rules.specs.Events.{Event}
 use Rattle.wk_wiki_rules.specs.Starts.{Start}
 use Rattle.wk_expand.specs.Drafts.{DraftShown}
-use Rattle.wk_expand.specs.Machines.{MachineShown}
-use Rattle.wk_subst.specs.MachineShown.{MachineShown as SubstMachineShown}
-use Rattle.wk_turn.specs.Told.{Story}
+use Rattle.wk_turn.specs.Told.{Begun, Story}
 use Rattle.wk_read_laws.specs.Points.{AreReadSince}
-use Rattle.wk_shared.specs.declared.apart.Round.{Round}
-use Rattle.wk_shared.specs.declared.apart.Round.TheVariants.{Ends, Goes}
-use Rattle.wk_shared.specs.declared.substituting.SubstRound.{SubstRound}
-use Rattle.wk_shared.specs.declared.substituting.SubstRound.TheVariants as round
+use Rattle.wk_shared.specs.Looks.{HasRead, KeepsTickets}
 
--- what a run of the machine leaves to be done: all that the draft read was answered, or all that the machine has read so far
-abbrev pub IsRound : MachineShown → Seen → Round → Type 0
-IsRound m seen (Ends d) = (d.page ≡ m.page) × (d.given ≡ m.given) × Agrees (of_seen seen) d.reads
-IsRound m seen (Goes next) = (next.page ≡ m.page) × (next.given ≡ m.given) × Agrees (of_seen seen) next.reads
+-- what asking leaves of a pass: it only looked, and each ticket that it held it holds still
+pub record HasAsked (shared : Begun Start) (old new : Story Start Event) : Type 0 where
+  pub read : HasRead shared old new
+  pub tickets : KeepsTickets shared.start old new
 
--- what a run of a substitution's machine leaves to be done: all that was read for the text was answered, or all that the machine
--- has read so far
-abbrev pub IsSubstRound : SubstMachineShown → Seen → SubstRound → Type 0
-IsSubstRound m seen (round.Ends made) = (made.saved ≡ m.saved) × Agrees (of_seen seen) made.reads
-IsSubstRound m seen (round.Goes next) = (next.saved ≡ m.saved) × Agrees (of_seen seen) next.reads
+-- each of the answers is that of the world at a point from the one on that the pass had seen
+abbrev pub AreAnsweredSince : Begun Start → Story Start Event → Story Start Event → List Read → Type 0
+AreAnsweredSince shared old new answers = AreReadSince shared.start new.seen (length old.seen) answers
 
 -- The draft is of this page, or of this text, and each of its reads was answered at a point from the one on that the pass had
 -- seen.

@@ -23,6 +23,10 @@ seen_by start pass = record { start = start; journal = pass.seen; own = pass.own
 abbrev pub state_by : Start → Story Start Event → ℕ → Option State
 state_by start pass point = state_seen (seen_by start pass) point
 
+-- the pass is of this shared wiki, and hasn't taken it
+abbrev pub IsFree : Begun Start → Story Start Event → Type 0
+IsFree shared pass = IsOf shared pass × (pass.held ≡ None)
+
 -- ---- tickets and drafts
 
 -- The pass holds the ticket: it made the claim, no event closes that, and so the ticket is out in the state that the pass

@@ -1,11 +1,13 @@
 -- What a pass has looked at (own). A point is the length of a journal.
-use Rattle.std.specs.Prelude.{◌≡◌, ℕ, List, length, Option, Some, None}
+use Rattle.std.specs.Prelude.{◌≡◌, ℕ, Bool, false, IsTrue, List, length, Option, Some, None, IsSome}
 use mathlib.Core.List.{IsPrefix}
 use Rattle.wk_text_rules.specs.Titles.{PageTitle}
+use Rattle.wk_view_rules.specs.Worlds.{Read, World}
 use Rattle.wk_wiki_rules.specs.States.{State}
 use Rattle.wk_wiki_rules.specs.Events.{Event}
 use Rattle.wk_wiki_rules.specs.Claims.{ClaimOutcome}
 use Rattle.wk_wiki_rules.specs.Passes.{IsReadAt, PageReading}
+use Rattle.wk_wiki_rules.specs.Staleness.{first_stale}
 use Rattle.wk_wiki_rules.specs.Starts.{Start}
 use Rattle.wk_life_laws.specs.Runs.{IsRun}
 use Rattle.wk_core.specs.Seen.{WikiSeen}
@@ -35,6 +37,11 @@ KeepsTickets start old new = (ticket : ClaimOutcome) → HoldsTicket start old t
 pub record HasLooked (shared : Begun Start) (old new : Story Start Event) (state : State) : Type 0 where
   pub read : HasRead shared old new
   pub run : IsRun shared.start new.seen state
+
+-- whether each of the reads is current: it is told so exactly where none of them is stale
+pub record TellsCurrent (pages : World) (reads : List Read) (told : Bool) : Type 0 where
+  pub none_stale : IsTrue told → first_stale pages reads ≡ None
+  pub some_stale : told ≡ false → IsSome (first_stale pages reads)
 
 -- what is answered to a read, as the rules have it
 abbrev pub reading_of : PageRead → PageReading

@@ -1,12 +1,11 @@
 //! Answers that are drafted anew.
-ghost use Rattle.std.specs.Prelude.{◌≡◌, ℕ, IfOk, IfSome, IsTrue, length, None};
+ghost use Rattle.std.specs.Prelude.{◌≡◌, ℕ, IfOk, IfSome, length, None};
 ghost use Rattle.wk_wiki_rules.specs.States.{State, world_of};
 ghost use Rattle.wk_wiki_rules.specs.Passes.{shown_number};
-ghost use Rattle.wk_wiki_rules.specs.Staleness.{first_stale};
 ghost use Rattle.wk_expand.specs.Steps.{given_text};
 ghost use Rattle.wk_turn.specs.Told.{IsOf};
 ghost use Rattle.wk_read_laws.specs.Points.{AreReadSince};
-ghost use Rattle.wk_shared.specs.Looks.{HasLooked, HasRead, IsPresentRead};
+ghost use Rattle.wk_shared.specs.Looks.{HasLooked, HasRead, IsPresentRead, TellsCurrent};
 
 use crate::apart::draft_apart;
 use crate::looks::{Found, draft_held, look_and_keep, look_at, shared_draft};
@@ -37,7 +36,7 @@ fn look_behind<K: Keeper, R: Wait>(
     ensures point { result.point ≡ length pass.new.seen }
     ensures looked { (state : State) × HasLooked shared.now pass.old pass.new state
         × (result.id ≡ shown_number state.history draft.now.page)
-        × (IsTrue result.current → first_stale (world_of state) draft.now.reads ≡ None) }
+        × TellsCurrent (world_of state) draft.now.reads result.current }
 {
     match root {
         Root::Page => look_and_keep(shared, rt, pass, draft),

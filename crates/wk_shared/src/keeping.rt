@@ -5,7 +5,7 @@ ghost use Rattle.wk_life_laws.specs.Caches.{IsLastingEntry};
 ghost use Rattle.wk_wiki_rules.specs.Passes.{shown_number};
 ghost use Rattle.wk_cache.specs.Entries.{entry_kept};
 ghost use Rattle.wk_expand.specs.Steps.{given_text};
-ghost use Rattle.wk_present.specs.Drafted.{IsPresent};
+ghost use Rattle.wk_live.specs.Drafted.{IsPresent};
 ghost use Rattle.wk_shared.specs.Sought.{IsCurrentKept, IsSought, kept_of};
 
 use crate::looks::{Found, is_current};

@@ -3,6 +3,7 @@
 //! answer is right at such a point too; so is a text transformed, before it is saved.
 #![tactic(auto)]
 
+mod answering;
 mod apart;
 mod desk;
 mod drafting;
@@ -20,7 +21,7 @@ pub use apart::draft_apart;
 pub use drafting::drafted;
 pub use keeping::Sought;
 pub use laws::{held_drafts_stay_fit, reads_stay_honest};
-pub use looks::{Found, draft_held, look, look_at, look_for, look_new};
+pub use looks::{Found, draft_held, found_in, look, look_at, look_for, look_new};
 pub use shared::Shared;
 pub use substituting::substituted_apart;
 pub use wk_base::{Gate, NoGate};

@@ -1,15 +1,13 @@
 //! What is looked at under the turn.
-ghost use Rattle.std.specs.Prelude.{◌≡◌, ℕ, IfOk, IfSome, IsTrue, length, None};
-ghost use Rattle.wk_view_rules.specs.Worlds.{IsHonest};
-ghost use Rattle.wk_page_rules.specs.History.{text_of_revision};
+ghost use Rattle.std.specs.Prelude.{◌≡◌, ℕ, false, IfOk, IfSome, IsSome, IsTrue, length, None};
 ghost use Rattle.wk_wiki_rules.specs.States.{State, world_of};
 ghost use Rattle.wk_wiki_rules.specs.Passes.{shown_number};
 ghost use Rattle.wk_wiki_rules.specs.Staleness.{first_stale};
 ghost use Rattle.wk_turn.specs.Told.{IsOf};
 ghost use Rattle.wk_expand.specs.Steps.{given_text};
-ghost use Rattle.wk_present.specs.Drafted.{IsPresent};
+ghost use Rattle.wk_live.specs.Drafted.{IsPresent};
 ghost use Rattle.wk_read_laws.specs.Points.{AreReadSince};
-ghost use Rattle.wk_shared.specs.Looks.{HasLooked, HasRead, IsPresentRead};
+ghost use Rattle.wk_shared.specs.Looks.{HasLooked, HasRead, IsPresentRead, TellsCurrent};
 ghost use Rattle.wk_shared.specs.Sought.{IsLookedFor, kept_read};
 
 use crate::keeping::{Sought, find_kept, keep_drafted, keep_found, seek};
@@ -19,14 +17,14 @@ use std::alloc::Global;
 use std::sync::Wait;
 use wk_core::{Draft, Keeper, Kept, SharedDraft, Wiki};
 use wk_expand::{Root, Trees};
-use wk_live::stale_reads_are_those_of_the_rules;
+use wk_live::{draft_now, stale_reads_are_those_of_the_rules};
 use wk_memory::Memory;
-use wk_present::draft_now;
 use wk_title::Title;
 
 /// Whether each read of the draft is current. Takes no memory.
 pub fn is_current<K: Keeper>(wiki: &Wiki<K>, draft: &Draft) -> bool
-    ensures { IsTrue result → first_stale (world_of wiki.now.state) draft.now.reads ≡ None }
+    ensures current { IsTrue result → first_stale (world_of wiki.now.state) draft.now.reads ≡ None }
+    ensures stale { result ≡ false → IsSome (first_stale (world_of wiki.now.state) draft.now.reads) }
 {
     stale_reads_are_those_of_the_rules();
     wiki.live().first_stale(draft.reads()).is_none()
@@ -57,7 +55,7 @@ pub struct Found {
 pub fn found_in<K: Keeper>(wiki: &Wiki<K>, draft: &Draft) -> Found
     ensures point { result.point ≡ length wiki.now.journal }
     ensures id { result.id ≡ shown_number wiki.now.state.history draft.now.page }
-    ensures current { IsTrue result.current → first_stale (world_of wiki.now.state) draft.now.reads ≡ None }
+    ensures current { TellsCurrent (world_of wiki.now.state) draft.now.reads result.current }
 {
     Found {
         point: wiki.point(),
@@ -78,7 +76,7 @@ pub fn look_at<K: Keeper, R: Wait>(
     ensures point { result.point ≡ length pass.new.seen }
     ensures looked { (state : State) × HasLooked shared.now pass.old pass.new state
         × (result.id ≡ shown_number state.history draft.now.page)
-        × (IsTrue result.current → first_stale (world_of state) draft.now.reads ≡ None) }
+        × TellsCurrent (world_of state) draft.now.reads result.current }
 {
     let held = take(shared, rt, pass);
     let found = found_in(&held.value, draft);
@@ -164,7 +162,7 @@ pub fn look_and_keep<K: Keeper, R: Wait>(
     ensures point { result.point ≡ length pass.new.seen }
     ensures looked { (state : State) × HasLooked shared.now pass.old pass.new state
         × (result.id ≡ shown_number state.history draft.now.page)
-        × (IsTrue result.current → first_stale (world_of state) draft.now.reads ≡ None) }
+        × TellsCurrent (world_of state) draft.now.reads result.current }
 {
     let made = draft.draft();
     let _page = made.page();

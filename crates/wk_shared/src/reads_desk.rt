@@ -1,7 +1,6 @@
 //! Taking the wiki to look at it, and giving it back.
 ghost use Rattle.std.specs.Prelude.{◌≡◌, None, Some};
 ghost use Rattle.wk_turn.specs.Told.{IsOf};
-ghost use Rattle.wk_life_laws.specs.Runs.{IsRun};
 ghost use Rattle.wk_shared.specs.Looks.{IsTakenToLook};
 
 use crate::{Held, Pass, Shared};

@@ -1,6 +1,7 @@
 pub mod BindingLaws
 pub mod ItemLaws
 pub mod MachineLaws
+pub mod MadeLaws
 pub mod NameLaws
 pub mod NodeLaws
 pub mod PlanLaws

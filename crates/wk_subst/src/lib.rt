@@ -4,6 +4,7 @@
 
 mod bindings;
 mod call;
+mod drafting;
 mod items;
 mod machine;
 mod names;

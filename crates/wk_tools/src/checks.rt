@@ -12,8 +12,8 @@ use wk_core::{Keeper, Live, Wiki};
 use wk_expand::{Root, Trees};
 use wk_index::is_same;
 use wk_life_laws::runs::a_run_keeps_its_form;
+use wk_live::draft_now;
 use wk_memory::Memory;
-use wk_present::draft_now;
 use wk_rows::{PageRows, rows};
 use wk_title::Title;
 

@@ -14,7 +14,7 @@ use thiserror::Error;
 use wk_core::{ClaimRefusal, Finished, Keeper, Ticket, Wiki, a_draft_stays_fit};
 use wk_expand::{Root, Trees};
 use wk_life_laws::refreshes::present_answers_have_present_marks;
-use wk_present::draft_now;
+use wk_live::draft_now;
 
 /// Why no page was refreshed.
 #[derive(Clone, Copy, Debug, PartialEq, Eq, Error)]

@@ -1,6 +1,4 @@
-use Rattle.std.proofs.Common.{◌≡◌, List, length, Some, refl, sym, ap, ◌∙◌, subst}
-use Rattle.wk_table_rules.specs.Changes.{TableEdit}
-use Rattle.wk_wiki_rules.specs.Jobs.{first_fan}
+use Rattle.std.proofs.Common.{◌≡◌, length, Some, refl, ap, subst}
 use Rattle.wk_wiki_rules.specs.Steps.{after_fan, after_serving, fan_pages}
 use Rattle.wk_wiki_rules.specs.Events.{Fan, with_jobs}
 use Rattle.wk_wiki_rules.specs.Tables.{tables_of}

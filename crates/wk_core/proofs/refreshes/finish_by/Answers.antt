@@ -1,11 +1,8 @@
-use Rattle.std.proofs.Common.{◌≡◌, ℕ, List, map, Option, Some, None, refl, sym, ap, ◌∙◌, subst}
+use Rattle.std.proofs.Common.{◌≡◌, List, map, refl, sym, ap, ◌∙◌}
 use Rattle.wk_view_rules.specs.Worlds as rule
-use Rattle.wk_wiki_rules.specs.Jobs.{page_held_by}
 use Rattle.wk_wiki_rules.specs.States.{State, world_of}
-use Rattle.wk_wiki_rules.specs.Events.{Back}
-use Rattle.wk_wiki_rules.specs.Staleness.{StaleRead, first_stale}
+use Rattle.wk_wiki_rules.specs.Staleness.{first_stale}
 use Rattle.wk_life_laws.proofs.Marks.{agrees-now}
-use Rattle.wk_life_laws.specs.Next.{IsNext}
 use Rattle.wk_expand.specs.Drafts.{with_mark}
 use Rattle.wk_expand.specs.declared.answer.Read.{Read}
 use Rattle.wk_live.specs.HeldState.{HeldState}

@@ -1,5 +1,4 @@
-use Rattle.std.proofs.Common.{◌≡◌, Err, Some, refl, sym, ap, ◌∙◌, subst}
-use Rattle.wk_wiki_rules.specs.Jobs.{page_held_by}
+use Rattle.std.proofs.Common.{◌≡◌, Err, ap, ◌∙◌, subst}
 use Rattle.wk_wiki_rules.specs.Events.{Back}
 use Rattle.wk_life_laws.specs.Lives.{Life}
 use Rattle.wk_life_laws.specs.Next.{IsNext}

@@ -1,9 +1,8 @@
-use Rattle.std.proofs.Common.{◌≡◌, ℕ, true, List, Some, refl, sym, ap, ◌∙◌, subst}
-use Rattle.wk_page_rules.specs.PageRows.{PageRows}
+use Rattle.std.proofs.Common.{◌≡◌, ℕ, true, List, Some, sym, ap, ◌∙◌, subst}
 use Rattle.wk_view_rules.specs.Rows.{rows}
 use Rattle.wk_table_rules.specs.Changes.{TableEdit}
 use Rattle.wk_wiki_rules.specs.Jobs.{IsOneAPage, JobLists, RefreshEntry, has_refresh, page_held_by}
-use Rattle.wk_wiki_rules.specs.States.{State, stored_at, title_at, world_of}
+use Rattle.wk_wiki_rules.specs.States.{stored_at, title_at, world_of}
 use Rattle.wk_wiki_rules.specs.Events.{Done, with_refreshed}
 use Rattle.wk_wiki_rules.specs.Tables.{tables_of}
 use Rattle.wk_wiki_rules.specs.TableChanges.{job_held_by, refresh_change_without_rows}
@@ -15,7 +14,7 @@ use Rattle.wk_life_laws.proofs.Lives.{done_life}
 use Rattle.wk_jobs.specs.HeldJobs.{HeldJobs}
 use Rattle.wk_live.specs.HeldState.{HeldState}
 use Rattle.wk_live.proofs.TicketLaws.{held-is-claimed}
-use Rattle.wk_core.proofs.RefreshFacts.{claimed-there, done-changes-job, one-a-page}
+use Rattle.wk_core.proofs.RefreshFacts.{claimed-there, done-changes-job, one-a-page, stored-there}
 use Rattle.wk_core.proofs.WikiSteps.{told-fits, told-made}
 use Rattle.wk_core.proofs.refreshes.store_rows.Goals as goal
 
@@ -45,7 +44,7 @@ apply-requires g c =
     let same = ap (λ (j : HeldJobs). j.lists) c.jobs.ensures ∙ ap (λ (s : HeldState). s.state.jobs) c.live-then-is_stored.ensures in
     let current : stored_at life.state c.args.page ≡ rows (world_of life.state) (title_at life.state.history c.args.page) =
     ap (λ (s : HeldState). stored_at s.state c.args.page) (sym c.live.ensures)
-    ∙ (c.is_stored.ensures c.if-is_stored.true ∙ (c.rows-2.ensures ∙ (c.in_ok-new.ensures ∙ (c.in_ok-rows.ensures.worlds (world_of life.state) c.requires.current ∙ ap (rows (world_of life.state)) c.requires.page)))) in
+    ∙ (stored-there c.live.result.now.state c.args.page c.rows-2.result.now (c.is_stored.ensures.0 c.if-is_stored.true) ∙ (c.rows-2.ensures ∙ (c.in_ok-new.ensures ∙ (c.in_ok-rows.ensures.worlds (world_of life.state) c.requires.current ∙ ap (rows (world_of life.state)) c.requires.page)))) in
     let next = done_life life c.args.ticket c.args.page c.facts.ensures c.requires.held in
     let makes = changes life c.args.ticket c.args.page c.in_ok-change.change c.jobs.result.now.lists c.facts.ensures c.requires.held same c.in_ok-change.ensures current
     (with_entry life (entry.Done c.args.ticket) (with_refreshed life.state c.args.page)) next in
@@ -57,6 +56,6 @@ returns-then-is_stored-clause-told g c =
     let same = ap (λ (j : HeldJobs). j.lists) c.jobs.ensures ∙ ap (λ (s : HeldState). s.state.jobs) c.live-then-is_stored.ensures in
     let current : stored_at life.state c.args.page ≡ rows (world_of life.state) (title_at life.state.history c.args.page) =
     ap (λ (s : HeldState). stored_at s.state c.args.page) (sym c.live.ensures)
-    ∙ (c.is_stored.ensures c.if-is_stored.true ∙ (c.rows-2.ensures ∙ (c.in_ok-new.ensures ∙ (c.in_ok-rows.ensures.worlds (world_of life.state) c.requires.current ∙ ap (rows (world_of life.state)) c.requires.page)))) in
+    ∙ (stored-there c.live.result.now.state c.args.page c.rows-2.result.now (c.is_stored.ensures.0 c.if-is_stored.true) ∙ (c.rows-2.ensures ∙ (c.in_ok-new.ensures ∙ (c.in_ok-rows.ensures.worlds (world_of life.state) c.requires.current ∙ ap (rows (world_of life.state)) c.requires.page)))) in
     let makes = changes life c.args.ticket c.args.page c.in_ok-change.change c.jobs.result.now.lists c.facts.ensures c.requires.held same c.in_ok-change.ensures current c.drop_job.new.self.life c.drop_job.ensures in
     told-made life.state (g.K.Keeper.told c.args.keeper.now) (g.K.Keeper.told c.apply.new.self) c.in_ok-change.change c.drop_job.new.self.life.state c.requires.told makes c.in_ok-apply.ensures.tells c.in_ok-apply.ensures.made

@@ -1,5 +1,4 @@
-use Rattle.std.proofs.Common.{◌≡◌, sym, ap, ◌∙◌}
-use Rattle.wk_page_rules.specs.PageRows.{PageRows}
+use Rattle.std.proofs.Common.{ap}
 use Rattle.wk_wiki_rules.specs.Names.{admitted}
 use Rattle.wk_index.specs.Held.{rows_of}
 use Rattle.wk_wiki_rules.specs.States.{State}

@@ -1,23 +1,23 @@
-use Rattle.std.proofs.Common.{subst}
+use Rattle.std.proofs.Common.{ap}
+use Rattle.wk_expand.specs.Machines.{MachineShown}
 use Rattle.wk_expand.specs.Steps.{given_text}
-use Rattle.wk_shared.specs.Apart.{IsRound}
-use Rattle.wk_shared.proofs.ApartLaws.{ends-way, next-way}
+use Rattle.wk_shared.proofs.ApartLaws.{agrees-none, answered-none, asked-none, drafted-since}
 use Rattle.wk_shared.proofs.apart.draft_apart.Goals as goal
 
-pub returns-in_err-draft-clause-tickets : goal.returns-in_err-draft-clause-tickets
-returns-in_err-draft-clause-tickets g c = λ ticket holds. c.in_err-draft.ensures.tickets ticket (c.runs.invariant.tickets ticket holds)
+pub drafted_by-requires-clause-leaves : goal.drafted_by-requires-clause-leaves
+drafted_by-requires-clause-leaves g c = asked-none c.args.shared.now c.args.pass.now c.requires.turn c.requires.free
 
-pub returns-in-Ends-clause-tickets : goal.returns-in-Ends-clause-tickets
-returns-in-Ends-clause-tickets g c = λ ticket holds. c.in_ok-draft.ensures.tickets ticket (c.runs.invariant.tickets ticket holds)
+pub drafted_by-requires-clause-answers : goal.drafted_by-requires-clause-answers
+drafted_by-requires-clause-answers g c = answered-none c.args.shared.now c.args.pass.now c.new-seen.result c.new-seen.ensures
 
-pub returns-in-Ends-clause-draft : goal.returns-in-Ends-clause-draft
-returns-in-Ends-clause-draft g c =
-    let ran = c.in_ok-draft.ensures in
-    ends-way c.args.shared.now c.args.pass.now c.args.title.now (given_text c.args.root.now) c.runs.pass c.run_once.new.pass c.runs.machine c.runs.seen c.runs.invariant c.run_once.new.seen ran.pass ran.tickets ran.answers
-    c.in-Ends.draft (subst (IsRound c.runs.machine c.run_once.new.seen) c.in-Ends.is ran.round)
+pub drafted_by-requires-clause-read : goal.drafted_by-requires-clause-read
+drafted_by-requires-clause-read g c = agrees-none c.new-seen.result c.in_ok-machine.machine.reads (ap (λ (m : MachineShown). m.reads) c.in_ok-machine.ensures)
 
-pub runs-preserved : goal.runs-preserved
-runs-preserved g c =
-    let ran = c.in_ok-draft.ensures in
-    next-way c.args.shared.now c.args.pass.now c.args.title.now (given_text c.args.root.now) c.runs.pass c.run_once.new.pass c.runs.machine c.runs.seen c.runs.invariant c.run_once.new.seen ran.pass ran.tickets ran.answers
-    c.in-Goes.next (subst (IsRound c.runs.machine c.run_once.new.seen) c.in-Goes.is ran.round)
+pub unreachable-requires : goal.unreachable-requires
+unreachable-requires g c = rw c.in-Ok-Unknown.field-0-is at c.in-Ok-Unknown.ensures.made
+
+pub returns-in-Ok-Made-clause-draft : goal.returns-in-Ok-Made-clause-draft
+returns-in-Ok-Made-clause-draft g c =
+    let made = rw c.in-Ok-Made.field-0-is at c.in-Ok-Made.ensures.made in
+    drafted-since c.args.shared.now c.args.pass.now c.drafted_by.new.pass c.args.title.now (given_text c.args.root.now) c.in_ok-machine.machine c.drafted_by.new.seen c.in-Ok-Made.draft
+    c.in_ok-machine.ensures made.0.0 made.0.1 made.1 made.2

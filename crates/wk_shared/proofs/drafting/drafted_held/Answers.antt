@@ -2,7 +2,7 @@ use Rattle.std.proofs.Common.{subst}
 use Rattle.std.specs.Prelude.{IfOk}
 use Rattle.wk_wiki_rules.specs.States.{world_of}
 use Rattle.wk_expand.specs.Steps.{given_text}
-use Rattle.wk_present.specs.Drafted.{IsPresent}
+use Rattle.wk_live.specs.Drafted.{IsPresent}
 use Rattle.wk_shared.proofs.AnswerLaws.{drafted-present}
 use Rattle.wk_shared.proofs.drafting.drafted_held.Goals as goal
 

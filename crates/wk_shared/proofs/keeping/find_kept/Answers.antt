@@ -7,7 +7,6 @@ use Rattle.wk_life_laws.specs.Caches.{IsLastingEntry}
 use Rattle.wk_cache.specs.Entries.{entry_kept, marked_with}
 use Rattle.wk_cache.specs.declared.kept.Kept.{Kept}
 use Rattle.wk_expand.specs.Drafts.{DraftShown, IsDraft}
-use Rattle.wk_core.specs.Seen.{WikiSeen}
 use Rattle.wk_shared.proofs.KeepLaws.{current-kept, marked-lasting}
 use Rattle.wk_shared.proofs.keeping.find_kept.Goals as goal
 
@@ -25,7 +24,7 @@ returns-clause-kept g c =
     let is = subst (λ f. IfSome f (λ (k : Kept). (k.draft.page ≡ c.args.title.now) × IsLastingEntry wiki.state (entry_kept k))) c.in-Some.is c.in-Ok.ensures.kept in
     let draft = subst (λ (d : DraftShown). IsDraft d.page d.given d.expanded d.reads) c.draft-made.ensures c.page-page.ensures.everywhere in
     let seen = subst (λ (d : DraftShown). IsSeen d.reads) c.draft-made.ensures c.reads-reads.ensures.seen in
-    let made = subst (λ w. first_stale (world_of w.state) c.draft-made.result.now.reads ≡ None) c.in-Ok.ensures.same (c.is_current.ensures c.if-not-is_current.false) in
+    let made = subst (λ w. first_stale (world_of w.state) c.draft-made.result.now.reads ≡ None) c.in-Ok.ensures.same (c.is_current.ensures.current c.if-not-is_current.false) in
     let none = subst (λ (d : DraftShown). first_stale (world_of wiki.state) d.reads ≡ None) c.draft-made.ensures made in
     let at = subst (λ w. c.point-point.result ≡ length w.journal) c.in-Ok.ensures.same c.point-point.ensures in
     current-kept wiki.start wiki.journal wiki.state c.args.title.now kept c.point-point.result c.facts.ensures.run is.1 is.0 draft seen none at

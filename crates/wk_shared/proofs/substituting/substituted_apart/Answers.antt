@@ -1,26 +1,27 @@
-use Rattle.std.proofs.Common.{subst}
-use Rattle.wk_shared.specs.Apart.{IsSubstRound}
-use Rattle.wk_shared.proofs.SubstLaws.{made-of, made-since, next-transforming}
+use Rattle.std.proofs.Common.{length, ap, ◌∙◌}
+use Rattle.wk_subst.specs.MachineShown.{MachineShown}
+use Rattle.wk_read_laws.proofs.PointLaws.{reads-among}
+use Rattle.wk_shared.proofs.ApartLaws.{agrees-none, answered-none, asked-none}
 use Rattle.wk_shared.proofs.substituting.substituted_apart.Goals as goal
 
-pub returns-in_err-made-clause-tickets : goal.returns-in_err-made-clause-tickets
-returns-in_err-made-clause-tickets g c = λ ticket holds. c.in_err-made.ensures.tickets ticket (c.runs.invariant.tickets ticket holds)
+pub drafted_by-requires-clause-leaves : goal.drafted_by-requires-clause-leaves
+drafted_by-requires-clause-leaves g c = asked-none c.args.shared.now c.args.pass.now c.requires.turn c.requires.free
 
-pub returns-in-Ends-clause-tickets : goal.returns-in-Ends-clause-tickets
-returns-in-Ends-clause-tickets g c = λ ticket holds. c.in_ok-made.ensures.tickets ticket (c.runs.invariant.tickets ticket holds)
+pub drafted_by-requires-clause-answers : goal.drafted_by-requires-clause-answers
+drafted_by-requires-clause-answers g c = answered-none c.args.shared.now c.args.pass.now c.new-seen.result c.new-seen.ensures
 
-pub returns-in-Ends-clause-saved : goal.returns-in-Ends-clause-saved
-returns-in-Ends-clause-saved g c =
-    made-of c.args.shared.now c.args.pass.now c.args.text.now c.runs.pass c.run_once.new.pass c.runs.machine c.runs.seen c.runs.invariant c.run_once.new.seen
-    c.in-Ends.made (subst (IsSubstRound c.runs.machine c.run_once.new.seen) c.in-Ends.is c.in_ok-made.ensures.round)
+pub drafted_by-requires-clause-read : goal.drafted_by-requires-clause-read
+drafted_by-requires-clause-read g c = agrees-none c.new-seen.result c.in_ok-machine.machine.reads (ap (λ (m : MachineShown). m.reads) c.in_ok-machine.ensures)
 
-pub returns-in-Ends-clause-since : goal.returns-in-Ends-clause-since
-returns-in-Ends-clause-since g c =
-    made-since c.args.shared.now c.args.pass.now c.args.text.now c.runs.pass c.run_once.new.pass c.runs.machine c.runs.seen c.runs.invariant c.run_once.new.seen c.in_ok-made.ensures.answers
-    c.in-Ends.made (subst (IsSubstRound c.runs.machine c.run_once.new.seen) c.in-Ends.is c.in_ok-made.ensures.round)
+pub unreachable-requires : goal.unreachable-requires
+unreachable-requires g c = rw c.in-Ok-Unknown.field-0-is at c.in-Ok-Unknown.ensures.made
 
-pub runs-preserved : goal.runs-preserved
-runs-preserved g c =
-    let ran = c.in_ok-made.ensures in
-    next-transforming c.args.shared.now c.args.pass.now c.args.text.now c.runs.pass c.run_once.new.pass c.runs.machine c.runs.seen c.runs.invariant c.run_once.new.seen ran.answers ran.pass ran.tickets
-    c.in-Goes.next (subst (IsSubstRound c.runs.machine c.run_once.new.seen) c.in-Goes.is ran.round)
+pub returns-in-Ok-Made-clause-saved : goal.returns-in-Ok-Made-clause-saved
+returns-in-Ok-Made-clause-saved g c =
+    let made = rw c.in-Ok-Made.field-0-is at c.in-Ok-Made.ensures.made in
+    made.0 ∙ ap (λ (m : MachineShown). m.saved) c.in_ok-machine.ensures
+
+pub returns-in-Ok-Made-clause-since : goal.returns-in-Ok-Made-clause-since
+returns-in-Ok-Made-clause-since g c =
+    let made = rw c.in-Ok-Made.field-0-is at c.in-Ok-Made.ensures.made in
+    reads-among c.args.shared.now.start c.drafted_by.new.pass.seen (length c.args.pass.now.seen) c.drafted_by.new.seen c.in-Ok-Made.made.reads made.1 made.2

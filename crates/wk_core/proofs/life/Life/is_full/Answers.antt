@@ -1,4 +1,4 @@
-use Rattle.std.proofs.Common.{◌≡◌, ℕ, ◌+◌, ◌≤◌, ◌<◌, Bool, true, false, ◌||◌, leb, ltb, le-leb, length, refl, sym, ap, ◌∙◌, arith}
+use Rattle.std.proofs.Common.{◌≡◌, ℕ, ◌+◌, Bool, true, false, ◌||◌, leb, ltb, le-leb, length, refl, sym, ap, ◌∙◌, arith}
 use Rattle.wk_page_rules.specs.Verdict.{is_journal_full, max_job}
 use Rattle.wk_wiki_rules.specs.Verdicts.{journal_use}
 use Rattle.wk_wiki_rules.specs.Room.{tickets_out}

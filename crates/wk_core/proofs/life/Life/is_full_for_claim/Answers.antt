@@ -1,5 +1,5 @@
-use Rattle.std.proofs.Common.{◌≡◌, ℕ, ◌+◌, ltb, length, sym, ap, ◌∙◌}
-use Rattle.wk_wiki_rules.specs.Room.{is_claim_refused, tickets_out}
+use Rattle.std.proofs.Common.{◌+◌, ltb, length, sym, ap, ◌∙◌}
+use Rattle.wk_wiki_rules.specs.Room.{tickets_out}
 use Rattle.wk_life_laws.specs.Lives.{journal_of}
 use Rattle.wk_life_laws.proofs.Lives.{counted_life}
 use Rattle.wk_core.specs.LifeHeld.{LifeHeld}

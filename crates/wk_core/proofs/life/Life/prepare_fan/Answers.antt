@@ -1,8 +1,6 @@
-use Rattle.std.proofs.Common.{◌≡◌, ℕ, ◌≤◌, ◌<◌, length, sym, subst, ap, ◌∙◌, arith}
+use Rattle.std.proofs.Common.{length, sym, subst, ap, arith}
 use Rattle.std.specs.Prelude.{IsSome}
 use Rattle.wk_wiki_rules.specs.Jobs.{first_fan}
-use Rattle.wk_live.specs.Fanned.{IsNextServed}
-use Rattle.wk_wiki_rules.specs.Steps.{fan_pages}
 use Rattle.wk_core.specs.LifeHeld.{LifeHeld}
 use Rattle.wk_core.proofs.FanFacts.{served-few}
 use Rattle.wk_core.proofs.life.Life.prepare_fan.Goals as goal

@@ -1,4 +1,4 @@
-use Rattle.std.proofs.Common.{◌≡◌, ℕ, false, List, [], None, refl, sym, ap, ◌∙◌, subst}
+use Rattle.std.proofs.Common.{◌≡◌, false, List, [], None, sym, ap, ◌∙◌, subst}
 use Rattle.std.specs.Prelude.{vec_capacity}
 use Rattle.wk_page_rules.specs.Verdict.{MostHeld}
 use Rattle.wk_wiki_rules.specs.States.{State}
@@ -9,7 +9,6 @@ use Rattle.wk_wiki_rules.specs.Starts.{StartKept, kept_of}
 use Rattle.wk_wiki_rules.specs.declared.Entry.{Entry}
 use Rattle.wk_life_laws.specs.Lives.{Life}
 use Rattle.wk_life_laws.specs.Next.{Begins, begun, new_start}
-use Rattle.wk_live.specs.HeldState.{Rooms}
 use Rattle.wk_core.specs.LifeHeld.{LifeHeld, KeepsLife}
 use Rattle.wk_core.specs.LifeInside.{held, kept_with}
 use Rattle.wk_core.proofs.LoadFacts.{renewed-begins, renewed-held}

@@ -1,10 +1,10 @@
-use Rattle.std.proofs.Common.{◌≡◌, ℕ, ◌+◌, ◌≤◌, ◌<◌, true, List, [], ◌∷◌, ◌++◌, length, Some, refl, sym, ap, ◌∙◌, subst, arith}
-use Rattle.std.specs.Prelude.{IsSome, vec_capacity}
+use Rattle.std.proofs.Common.{◌≡◌, ℕ, ◌+◌, true, List, [], ◌∷◌, ◌++◌, Some, refl, sym, ap, ◌∙◌, subst, arith}
+use Rattle.std.specs.Prelude.{vec_capacity}
 use Rattle.wk_page_rules.specs.PageRows.{PageRows}
 use Rattle.wk_view_rules.specs.Rows.{rows}
 use Rattle.wk_table_rules.specs.Changes.{TableEdit}
 use Rattle.wk_wiki_rules.specs.Jobs.{JobLists, IsOneAPage, RefreshEntry, has_claimed, has_refresh, page_held_by, refresh_dropped}
-use Rattle.wk_wiki_rules.specs.States.{State, stored_at, title_at, world_of}
+use Rattle.wk_wiki_rules.specs.States.{State, title_at, world_of}
 use Rattle.wk_wiki_rules.specs.Events.{Done, with_refreshed}
 use Rattle.wk_wiki_rules.specs.Tables.{tables_of}
 use Rattle.wk_wiki_rules.specs.TableChanges.{job_held_by, refresh_change}

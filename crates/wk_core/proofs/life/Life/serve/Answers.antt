@@ -1,4 +1,4 @@
-use Rattle.std.proofs.Common.{◌≡◌, ℕ, ◌+◌, ◌-◌, ◌≤◌, false, List, [], ◌∷◌, ◌++◌, length, sym, ap, ◌∙◌, subst, arith}
+use Rattle.std.proofs.Common.{◌≡◌, ◌+◌, ◌-◌, ◌≤◌, false, [], ◌∷◌, ◌++◌, length, sym, ap, ◌∙◌, subst, arith}
 use Rattle.std.specs.Prelude.{vec_capacity}
 use Rattle.wk_wiki_rules.specs.Steps.{fan_pages}
 use Rattle.wk_wiki_rules.specs.Events.{Fan, with_jobs}
@@ -7,7 +7,7 @@ use Rattle.wk_wiki_rules.specs.Room.{is_fan_refused}
 use Rattle.wk_wiki_rules.specs.declared.Entry.TheVariants as entry
 use Rattle.wk_life_laws.specs.Lives.{journal_of}
 use Rattle.wk_life_laws.specs.Next.{IsNext, with_entry}
-use Rattle.wk_live.specs.Fanned.{IsNextServed, jobs_served}
+use Rattle.wk_live.specs.Fanned.{IsNextServed}
 use Rattle.wk_core.specs.LifeHeld.{LifeHeld, KeepsLife}
 use Rattle.wk_core.specs.LifeInside.{held}
 use Rattle.wk_core.proofs.HeldLives.{behind, held-as, held-fanned, next-as}

@@ -4,7 +4,6 @@ use Rattle.wk_page_rules.specs.Verdict.{max_pages}
 use Rattle.wk_table_rules.specs.Rows.{StoreTables}
 use Rattle.wk_wiki_rules.specs.Jobs.{IsNumbered}
 use Rattle.wk_wiki_rules.specs.Tables.{tables_of}
-use Rattle.wk_wiki_laws.specs.Kept.{IsKept}
 use Rattle.wk_life_laws.specs.Lives.{journal_of, start_of}
 use Rattle.wk_life_laws.proofs.RunFacts.{run_kept, run_pages}
 use Rattle.wk_revs.specs.Revs.{Stored}

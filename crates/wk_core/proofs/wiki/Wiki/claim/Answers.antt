@@ -1,4 +1,4 @@
-use Rattle.std.proofs.Common.{◌≡◌, refl, subst, sym, ap, ◌∙◌}
+use Rattle.std.proofs.Common.{refl, subst, sym, ap, ◌∙◌}
 use Rattle.wk_wiki_rules.specs.Jobs.{first_queued}
 use Rattle.wk_wiki_rules.specs.States.{title_at}
 use Rattle.wk_wiki_rules.specs.Events.{Claim}

@@ -1,9 +1,8 @@
-use Rattle.std.proofs.Common.{◌≡◌, Some, refl, subst, sym, ap, ◌∙◌}
+use Rattle.std.proofs.Common.{◌≡◌, Some, refl, subst, ap, ◌∙◌}
 use Rattle.wk_wiki_rules.specs.Jobs.{page_held_by}
 use Rattle.wk_wiki_rules.specs.Events.{Back}
 use Rattle.wk_life_laws.specs.Next.{IsNext}
 use Rattle.wk_core.specs.Seen.{WikiSeen}
-use Rattle.wk_core.specs.Tickets.{IsOut}
 use Rattle.wk_core.proofs.CacheFacts.{lasting-next}
 use Rattle.wk_core.proofs.WikiSteps.{told-same}
 use Rattle.wk_core.proofs.RefreshFacts.{back-tables}

@@ -1,9 +1,8 @@
-use Rattle.std.proofs.Common.{◌≡◌, None, ap, inr, refl, subst, sym}
+use Rattle.std.proofs.Common.{◌≡◌, None, refl, subst}
 use Rattle.wk_view_rules.specs.Worlds.{IsSeen}
 use Rattle.wk_wiki_rules.specs.States.{world_of}
 use Rattle.wk_wiki_rules.specs.Staleness.{first_stale}
 use Rattle.wk_expand.specs.Drafts.{DraftShown}
-use Rattle.wk_shared.specs.Looks.{IsPresentRead}
 use Rattle.wk_shared.specs.Sought.{IsLookedFor, kept_read}
 use Rattle.wk_readers.proofs.ReaderLaws.{current-told, right-behind, right-marked, right-present, taken-told}
 use Rattle.wk_readers.proofs.reader.Reader.check.Goals as goal

@@ -1,2 +1,0 @@
-mod DraftLaws
-mod MadeLaws

@@ -1,0 +1,3 @@
+pub mod FedFacts
+pub mod RowFacts
+pub mod ToldFacts

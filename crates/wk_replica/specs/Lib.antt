@@ -1,0 +1,10 @@
+pub mod Answers
+pub mod Followed
+pub mod Inside
+pub mod Loaded
+pub mod Places
+pub mod Points
+pub mod Replicas
+pub mod Saves
+pub mod Taken
+pub use Rattle.wk_feed_rules.specs.Taking
