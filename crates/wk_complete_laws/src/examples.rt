@@ -16,8 +16,7 @@ ghost use Rattle.wk_life_laws.specs.Runs.{IsRun};
 ghost use Rattle.wk_core.specs.Seen.{verdict_now};
 ghost use Rattle.wk_core.specs.Steps.{HasMade};
 ghost use Rattle.wk_core.specs.Tickets.{IsDraftFor, IsOut};
-ghost use Rattle.wk_turn.specs.Told.{IsOf};
-ghost use Rattle.wk_shared.specs.Calls.{HoldsDraft, HoldsTicket, MayFail};
+ghost use Rattle.wk_shared.specs.Calls.{HoldsDraft, HoldsTicket, IsFree, MayFail};
 ghost use Rattle.wk_session_rules.specs.Replies.{IsAnswered};
 ghost use Rattle.wk_complete_laws.specs.Complete.{AreCurrent, BeganOverAWholeStore, IsOverAWholeStore};
 ghost use Rattle.wk_complete_laws.specs.Example.{claimed_a, claimed_life, delete_a, deleted_life, draft_a, edit_asked_of_a, edit_of_a, empty_life, never_failed, parse_of_a, pass_before, pass_claimed, pass_refreshed, refreshed_a, refreshed_life, reply_to_edit, reply_to_parse, save_a, saved_life, seen_before, seen_behind, shared_by, ticket_a, title_a, whole_start, wiki_of};
@@ -77,8 +76,7 @@ pub fn a_request_that_reads()
 /// The edit under the turn: what `granted_edits_are_saved_in_turn` asks.
 pub fn an_edit_that_is_granted_in_turn()
     ensures run { IsRun whole_start [] (wiki_of empty_life).state }
-    ensures turn { (turn : TableId) → IsOf (shared_by turn) (pass_before turn) }
-    ensures free { (turn : TableId) → (pass_before turn).held ≡ None }
+    ensures free { (turn : TableId) → IsFree (shared_by turn) (pass_before turn) }
     ensures unsealed { whole_start.sealed ≡ None }
     ensures whole { BeganOverAWholeStore whole_start }
 {}
@@ -86,8 +84,7 @@ pub fn an_edit_that_is_granted_in_turn()
 /// The refresh under the turn: what `current_reads_are_finished_in_turn` asks.
 pub fn a_refresh_that_is_current_in_turn()
     ensures run { IsRun whole_start (save_a ∷ Claim ∷ []) claimed_a }
-    ensures turn { (turn : TableId) → IsOf (shared_by turn) (pass_claimed turn) }
-    ensures free { (turn : TableId) → (pass_claimed turn).held ≡ None }
+    ensures free { (turn : TableId) → IsFree (shared_by turn) (pass_claimed turn) }
     ensures ticket { (turn : TableId) → HoldsTicket whole_start (pass_claimed turn) ticket_a }
     ensures draft { (turn : TableId) → HoldsDraft whole_start (pass_claimed turn) ticket_a draft_a }
     ensures whole { BeganOverAWholeStore whole_start }
@@ -96,8 +93,7 @@ pub fn a_refresh_that_is_current_in_turn()
 /// The deletion under the turn: what `granted_deletions_are_made_in_turn` asks.
 pub fn a_deletion_that_is_granted_in_turn()
     ensures run { IsRun whole_start (save_a ∷ Claim ∷ Done 2 ∷ []) refreshed_a }
-    ensures turn { (turn : TableId) → IsOf (shared_by turn) (pass_refreshed turn) }
-    ensures free { (turn : TableId) → (pass_refreshed turn).held ≡ None }
+    ensures free { (turn : TableId) → IsFree (shared_by turn) (pass_refreshed turn) }
     ensures unsealed { whole_start.sealed ≡ None }
     ensures whole { BeganOverAWholeStore whole_start }
 {}

@@ -2,8 +2,7 @@
 ghost use Rattle.std.specs.Prelude.{◌≡◌, None};
 ghost use Rattle.wk_wiki_rules.specs.SaveOutcomes.{deletion};
 ghost use Rattle.wk_revs.specs.Edit.{edit_asked};
-ghost use Rattle.wk_turn.specs.Told.{IsOf};
-ghost use Rattle.wk_shared.specs.Calls.{HasSeen, HoldsDraft, HoldsTicket, IsMadeAt};
+ghost use Rattle.wk_shared.specs.Calls.{HasSeen, HoldsDraft, HoldsTicket, IsFree, IsMadeAt};
 ghost use Rattle.wk_complete_laws.specs.Complete.{BeganOverAWholeStore, IsFinishInTurn, IsSaveInTurn};
 
 use std::sync::Wait;
@@ -18,8 +17,7 @@ pub fn granted_edits_are_saved_in_turn<K: Keeper, R: Wait>(
     edit: &Edit,
     now: u64,
 ) -> (Result<Saved, SaveRefusal>, u64)
-    requires turn { IsOf shared.now pass.old }
-    requires free { pass.old.held ≡ None }
+    requires free { IsFree shared.now pass.old }
     requires unsealed { shared.now.start.sealed ≡ None }
     requires whole { BeganOverAWholeStore shared.now.start }
     ensures pass { HasSeen shared.now pass.old pass.new result.1 }
@@ -37,8 +35,7 @@ pub fn granted_deletions_are_made_in_turn<K: Keeper, R: Wait>(
     base: Option<u64>,
     now: u64,
 ) -> (Result<Saved, SaveRefusal>, u64)
-    requires turn { IsOf shared.now pass.old }
-    requires free { pass.old.held ≡ None }
+    requires free { IsFree shared.now pass.old }
     requires unsealed { shared.now.start.sealed ≡ None }
     requires whole { BeganOverAWholeStore shared.now.start }
     ensures pass { HasSeen shared.now pass.old pass.new result.1 }
@@ -56,8 +53,7 @@ pub fn current_reads_are_finished_in_turn<K: Keeper, R: Wait>(
     ticket: Ticket,
     draft: Draft,
 ) -> (Finished, u64)
-    requires turn { IsOf shared.now pass.old }
-    requires free { pass.old.held ≡ None }
+    requires free { IsFree shared.now pass.old }
     requires ticket { HoldsTicket shared.now.start pass.old ticket }
     requires draft { HoldsDraft shared.now.start pass.old ticket draft }
     requires whole { BeganOverAWholeStore shared.now.start }

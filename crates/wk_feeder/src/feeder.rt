@@ -4,6 +4,7 @@ ghost use Rattle.std.specs.Io.KnownBytes.{Appends};
 ghost use mathlib.Core.List.{IsPrefix};
 ghost use Rattle.wk_base.specs.Faults.{Rose};
 ghost use Rattle.wk_turn.specs.Told.{IsOf};
+ghost use Rattle.wk_shared.specs.Calls.{IsFree};
 ghost use Rattle.wk_feeder.specs.Bytes.{event_bytes};
 ghost use Rattle.wk_feeder.specs.Events.{event_of};
 
@@ -63,8 +64,7 @@ impl<K: Keeper> Feeder<K> {
         rt: &R,
         shared: &Shared<K>,
     ) -> (Result<Vec<FeedEvent>, Memory>, u64)
-        requires turn { IsOf shared.now self.old.pass }
-        requires free { self.old.pass.held ≡ None }
+        requires { IsFree shared.now self.old.pass }
         ensures turn { IsOf shared.now self.new.pass }
         ensures free { self.new.pass.held ≡ None }
         ensures own { self.new.pass.own ≡ self.old.pass.own }
@@ -89,8 +89,7 @@ impl<K: Keeper> Feeder<K> {
         shared: &Shared<K>,
         sink: &mut O,
     ) -> Result<u64, FeedRefusal>
-        requires turn { IsOf shared.now self.old.pass }
-        requires free { self.old.pass.held ≡ None }
+        requires { IsFree shared.now self.old.pass }
         ensures turn { IsOf shared.now self.new.pass }
         ensures free { self.new.pass.held ≡ None }
         ensures own { self.new.pass.own ≡ self.old.pass.own }
@@ -116,8 +115,7 @@ impl<K: Keeper> Feeder<K> {
         shared: Shared<K>,
         sink: &mut O,
     ) -> (Wiki<K>, Result<u64, FeedRefusal>)
-        requires turn { IsOf shared self.pass }
-        requires free { self.pass.held ≡ None }
+        requires { IsFree shared self.pass }
         ensures start { result.0.start ≡ shared.start }
         ensures seen { IsPrefix self.pass.seen result.0.journal }
         ensures within { self.sent ≤ length self.pass.seen }
@@ -139,8 +137,7 @@ impl<K: Keeper> Feeder<K> {
 
     /// Takes the wiki and sends nothing more. It waits.
     pub fn give_up<R: Wait>(self, rt: &R, shared: Shared<K>) -> Wiki<K>
-        requires turn { IsOf shared self.pass }
-        requires free { self.pass.held ≡ None }
+        requires { IsFree shared self.pass }
         ensures start { result.start ≡ shared.start }
         ensures seen { IsPrefix self.pass.seen result.journal }
     {

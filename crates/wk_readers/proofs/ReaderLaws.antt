@@ -15,7 +15,7 @@ use Rattle.wk_core.specs.declared.outcomes.ReadRefusal.{ReadRefusal}
 use Rattle.wk_expand.specs.Drafts.{DraftShown}
 use Rattle.wk_turn.specs.Told.{Begun, IsOf, Story}
 use Rattle.wk_turn.proofs.Lists.{prefix_length}
-use Rattle.wk_shared.specs.Calls.{seen_by}
+use Rattle.wk_shared.specs.Calls.{IsFree, seen_by}
 use Rattle.wk_cache.specs.Entries.{CacheShown, entry_kept, entry_of, is_of, kept_with, marked, marked_with, to_front, without}
 use Rattle.wk_cache.specs.declared.kept.Kept.{Kept}
 use Rattle.wk_cache.proofs.Lists.{found-among, found-passes, front-among, front-found, marked-among, put-among}
@@ -153,10 +153,10 @@ module _ (shared : Begun Start) (page : PageTitle) (least : ℕ) where
       let told = sym served.answered in
       subst (λ (z : Pass × PageRead). IsAnswered shared old.pass z.0 page None least z.1) (λ i. (back i, told i)) answer
 
-  pub served-read : (old new : ReaderSeen) (read : PageRead) → IsOf shared old.pass → old.pass.held ≡ None → AreRight old.pass old.entries → IsServed page least old new read → IsPageRead shared page least old new (Ok read)
-  served-read old new read of free right served = record {
-    pass = subst (λ (p : Pass). HasRead shared old.pass p) (sym (ap (λ (r : ReaderSeen). r.pass) served.left)) (read-none shared old.pass of free);
-    read = served-answer old new read of right served;
+  pub served-read : (old new : ReaderSeen) (read : PageRead) → IsFree shared old.pass → AreRight old.pass old.entries → IsServed page least old new read → IsPageRead shared page least old new (Ok read)
+  served-read old new read is right served = record {
+    pass = subst (λ (p : Pass). HasRead shared old.pass p) (sym (ap (λ (r : ReaderSeen). r.pass) served.left)) (read-none shared old.pass is);
+    read = served-answer old new read is.turn right served;
     late = tt;
     uses = inl served;
   }

@@ -1,7 +1,7 @@
 //! How a step begins: under one turn, so that what it is told to be idle at is one point.
 ghost use Rattle.std.specs.Prelude.{◌≡◌, None};
 ghost use Rattle.wk_wiki_rules.specs.Jobs.{first_fan};
-ghost use Rattle.wk_turn.specs.Told.{IsOf};
+ghost use Rattle.wk_shared.specs.Calls.{IsFree};
 ghost use Rattle.wk_readers.specs.Beginnings.{HasBegun, IsBegunOn};
 
 use crate::desk::{give, take};
@@ -54,8 +54,7 @@ fn begin_on<K: Keeper>(wiki: &mut Wiki<K>) -> Beginning
 /// Begins a step: serves the first fan job, or claims the first refresh job that is queued where no fan job stands. It
 /// waits.
 pub fn begin<K: Keeper, R: Wait>(shared: &Shared<K>, rt: &R, pass: &mut Pass<Wiki<K>>) -> Beginning
-    requires turn { IsOf shared.now pass.old }
-    requires free { pass.old.held ≡ None }
+    requires { IsFree shared.now pass.old }
     ensures { HasBegun shared.now pass.old pass.new result }
 {
     let mut held = take(shared, rt, pass);

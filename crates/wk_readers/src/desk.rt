@@ -1,6 +1,7 @@
 //! Taking the wiki for a step, and giving it back.
-ghost use Rattle.std.specs.Prelude.{◌≡◌, None, Some};
+ghost use Rattle.std.specs.Prelude.{◌≡◌, Some};
 ghost use Rattle.wk_turn.specs.Told.{IsOf};
+ghost use Rattle.wk_shared.specs.Calls.{IsFree};
 ghost use Rattle.wk_shared.specs.Desk.{IsGiven, IsTaken, MakesAtMostOne, TellsOf};
 
 use std::sync::Wait;
@@ -13,8 +14,7 @@ pub fn take<K: Keeper, R: Wait>(
     rt: &R,
     pass: &mut Pass<Wiki<K>>,
 ) -> Held<Wiki<K>>
-    requires turn { IsOf shared.now pass.old }
-    requires free { pass.old.held ≡ None }
+    requires { IsFree shared.now pass.old }
     ensures taken { IsTaken shared.now pass.old pass.new result.value }
     ensures before { result.before.value ≡ result.value }
     ensures keeper { TellsOf K.is_whole K.faults result.value.start result.value.keeper }

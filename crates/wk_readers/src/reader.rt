@@ -8,7 +8,7 @@ ghost use Rattle.wk_expand.specs.Steps.{given_text};
 ghost use Rattle.wk_turn.specs.Journal.{AreOwn, ClosesOwn, IsOpen, added};
 ghost use Rattle.wk_turn.specs.Told.{IsOf};
 ghost use Rattle.wk_read_laws.specs.Points.{AreReadSince};
-ghost use Rattle.wk_shared.specs.Calls.{seen_by};
+ghost use Rattle.wk_shared.specs.Calls.{IsFree, seen_by};
 ghost use Rattle.wk_cache.specs.Entries.{entry_of, marked};
 ghost use Rattle.wk_shared.specs.Looks.{HasRead, IsPresentRead, KeepsTickets, reading_of};
 ghost use Rattle.wk_shared.specs.Sought.{kept_read};
@@ -113,8 +113,7 @@ impl<K: Keeper> Reader<K> {
 
     /// Waits for the turn and takes the wiki, as `Shared::enter` does. What is kept stays. No memory.
     pub fn enter<R: Wait>(&mut self, shared: &Shared<K>, rt: &R) -> Held<Wiki<K>>
-        requires turn { IsOf shared.now self.old.pass }
-        requires free { self.old.pass.held ≡ None }
+        requires { IsFree shared.now self.old.pass }
         ensures pass { self.new ≡ record self.old { pass = record self.old.pass { held = Some result.value.journal } } }
         ensures before { result.before.value ≡ result.value }
         ensures start { result.value.start ≡ shared.now.start }
@@ -168,8 +167,7 @@ impl<K: Keeper> Reader<K> {
         rt: &R,
         least: u64,
     ) -> Result<(), ReadRefusal>
-        requires turn { IsOf shared.now self.old.pass }
-        requires free { self.old.pass.held ≡ None }
+        requires { IsFree shared.now self.old.pass }
         ensures pass { HasRead shared.now self.old.pass self.new.pass }
         ensures reached { OnOk result (least ≤ length self.new.pass.seen) }
         ensures late { IfErr result (IsLate least self.new.pass) }
@@ -192,8 +190,7 @@ impl<K: Keeper> Reader<K> {
         least: u64,
         kept: Kept,
     ) -> Checked
-        requires turn { IsOf shared.now self.old.pass }
-        requires free { self.old.pass.held ≡ None }
+        requires free { IsFree shared.now self.old.pass }
         requires entry { entry_of title.now self.old.entries ≡ Some kept }
         ensures pass { HasRead shared.now self.old.pass self.new.pass }
         ensures check { IsCheck shared.now title.now least self.old self.new result }
@@ -226,8 +223,7 @@ impl<K: Keeper> Reader<K> {
         title: &Title,
         least: u64,
     ) -> Checked
-        requires turn { IsOf shared.now self.old.pass }
-        requires free { self.old.pass.held ≡ None }
+        requires { IsFree shared.now self.old.pass }
         ensures pass { HasRead shared.now self.old.pass self.new.pass }
         ensures check { IsCheck shared.now title.now least self.old self.new result }
     {
@@ -286,8 +282,7 @@ impl<K: Keeper> Reader<K> {
         root: &Root,
         gate: &mut G,
     ) -> Result<PageRead, Memory>
-        requires turn { IsOf shared.now self.old.pass }
-        requires free { self.old.pass.held ≡ None }
+        requires { IsFree shared.now self.old.pass }
         ensures pass { HasRead shared.now self.old.pass self.new.pass }
         ensures read { IfOk result (IsPresentRead shared.now self.new.pass title.now (given_text root.now)) }
         ensures kept { self.new.entries ≡ self.old.entries }
@@ -315,8 +310,7 @@ impl<K: Keeper> Reader<K> {
         text: &Text,
         gate: &mut G,
     ) -> Result<Substituted, Memory>
-        requires turn { IsOf shared.now self.old.pass }
-        requires free { self.old.pass.held ≡ None }
+        requires { IsFree shared.now self.old.pass }
         ensures pass { HasRead shared.now self.old.pass self.new.pass }
         ensures tickets { KeepsTickets shared.now.start self.old.pass self.new.pass }
         ensures saved { IfOk result (λ made. made.saved ≡ text.now) }
@@ -335,8 +329,7 @@ impl<K: Keeper> Reader<K> {
         title: &Title,
         gate: &mut G,
     ) -> Result<PageRead, ReadRefusal>
-        requires turn { IsOf shared.now self.old.pass }
-        requires free { self.old.pass.held ≡ None }
+        requires { IsFree shared.now self.old.pass }
         ensures pass { HasRead shared.now self.old.pass self.new.pass }
         ensures read { IsDraftedAnew shared.now title.now self.old self.new result }
     {

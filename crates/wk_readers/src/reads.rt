@@ -1,7 +1,7 @@
 //! Reads of pages and of texts.
 ghost use Rattle.std.specs.Prelude.{◌≡◌, IfErr, IfOk, None, Some};
 ghost use Rattle.wk_cache.specs.Entries.{entry_of};
-ghost use Rattle.wk_turn.specs.Told.{IsOf};
+ghost use Rattle.wk_shared.specs.Calls.{IsFree};
 ghost use Rattle.wk_shared.specs.Looks.{HasRead};
 ghost use Rattle.wk_readers.specs.Reads.{IsAnswered, IsLate, IsPageRead, KeepsCount};
 
@@ -25,8 +25,7 @@ fn read_new<K: Keeper, R: Wait, G: Gate>(
     least: u64,
     gate: &mut G,
 ) -> Result<PageRead, ReadRefusal>
-    requires turn { IsOf shared.now reader.old.pass }
-    requires free { reader.old.pass.held ≡ None }
+    requires { IsFree shared.now reader.old.pass }
     ensures { IsPageRead shared.now title.now least reader.old reader.new result }
 {
     match reader.check_new(shared, rt, title, least) {
@@ -46,8 +45,7 @@ fn read_kept<K: Keeper, R: Wait, G: Gate>(
     gate: &mut G,
     kept: Kept,
 ) -> Result<PageRead, ReadRefusal>
-    requires turn { IsOf shared.now reader.old.pass }
-    requires free { reader.old.pass.held ≡ None }
+    requires free { IsFree shared.now reader.old.pass }
     requires entry { entry_of title.now reader.old.entries ≡ Some kept }
     ensures { IsPageRead shared.now title.now least reader.old reader.new result }
 {
@@ -79,8 +77,7 @@ pub fn read_page<K: Keeper, R: Wait, G: Gate>(
     least: u64,
     gate: &mut G,
 ) -> Result<PageRead, ReadRefusal>
-    requires turn { IsOf shared.now reader.old.pass }
-    requires free { reader.old.pass.held ≡ None }
+    requires { IsFree shared.now reader.old.pass }
     ensures pass { HasRead shared.now reader.old.pass reader.new.pass }
     ensures read { IfOk result (IsAnswered shared.now reader.old.pass reader.new.pass title.now None least) }
     ensures late { IfErr result (IsLate least reader.new.pass) }
@@ -103,8 +100,7 @@ pub fn read_text<K: Keeper, R: Wait, G: Gate>(
     least: u64,
     gate: &mut G,
 ) -> Result<PageRead, ReadRefusal>
-    requires turn { IsOf shared.now reader.old.pass }
-    requires free { reader.old.pass.held ≡ None }
+    requires { IsFree shared.now reader.old.pass }
     ensures pass { HasRead shared.now reader.old.pass reader.new.pass }
     ensures read { IfOk result (IsAnswered shared.now reader.old.pass reader.new.pass title.now (Some text.now) least) }
     ensures late { IfErr result (IsLate least reader.new.pass) }

@@ -1,7 +1,6 @@
 //! One step of a worker.
 ghost use Rattle.std.specs.Prelude.{◌≡◌, IfOk, None};
-ghost use Rattle.wk_turn.specs.Told.{IsOf};
-ghost use Rattle.wk_shared.specs.Calls.{HoldsTicket};
+ghost use Rattle.wk_shared.specs.Calls.{HoldsTicket, IsFree};
 ghost use Rattle.wk_shared.specs.Apart.{IsDraftSince};
 ghost use Rattle.wk_shared.specs.Looks.{HasRead, KeepsTickets};
 ghost use Rattle.wk_readers.specs.Refreshes.{IsBroughtIn, IsRefreshed, refreshed_by};
@@ -27,8 +26,7 @@ fn drafted<K: Keeper, R: Wait, G: Gate>(
     title: &Title,
     gate: &mut G,
 ) -> Result<(Title, Draft), Memory>
-    requires turn { IsOf shared.now pass.old }
-    requires free { pass.old.held ≡ None }
+    requires { IsFree shared.now pass.old }
     ensures pass { HasRead shared.now pass.old pass.new }
     ensures tickets { KeepsTickets shared.now.start pass.old pass.new }
     ensures title { IfOk result (λ drafted. drafted.0 ≡ title.now) }
@@ -72,8 +70,7 @@ fn bring_in<K: Keeper, R: Wait, G: Gate>(
     ticket: Ticket,
     gate: &mut G,
 ) -> Refreshed
-    requires turn { IsOf shared.now pass.old }
-    requires free { pass.old.held ≡ None }
+    requires free { IsFree shared.now pass.old }
     requires ticket { HoldsTicket shared.now.start pass.old ticket }
     ensures { IsBroughtIn shared.now pass.old pass.new ticket result }
 {
@@ -113,8 +110,7 @@ pub fn refresh_with<K: Keeper, R: Wait, G: Gate>(
     trees: &mut Trees,
     gate: &mut G,
 ) -> Refreshed
-    requires turn { IsOf shared.now pass.old }
-    requires free { pass.old.held ≡ None }
+    requires { IsFree shared.now pass.old }
     ensures { IsRefreshed shared.now pass.old pass.new result }
 {
     match begin(shared, rt, pass) {

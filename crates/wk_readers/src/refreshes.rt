@@ -1,6 +1,6 @@
 //! Steps of a worker.
-ghost use Rattle.std.specs.Prelude.{◌≡◌, None};
-ghost use Rattle.wk_turn.specs.Told.{IsOf};
+ghost use Rattle.std.specs.Prelude.{◌≡◌};
+ghost use Rattle.wk_shared.specs.Calls.{IsFree};
 ghost use Rattle.wk_readers.specs.Refreshes.{IsRefreshed};
 
 use crate::reader::Reader;
@@ -18,8 +18,7 @@ pub fn refresh_one<K: Keeper, R: Wait, G: Gate>(
     reader: &mut Reader<K>,
     gate: &mut G,
 ) -> Refreshed
-    requires turn { IsOf shared.now reader.old.pass }
-    requires free { reader.old.pass.held ≡ None }
+    requires { IsFree shared.now reader.old.pass }
     ensures refreshed { IsRefreshed shared.now reader.old.pass reader.new.pass result }
     ensures most { reader.new.most ≡ reader.old.most }
     ensures kept { reader.new.entries ≡ reader.old.entries }

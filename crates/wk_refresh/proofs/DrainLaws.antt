@@ -54,7 +54,7 @@ worked-next shared old now next steps step =
 
 pub steps-next : (shared : Begun Start) (old now next : Pass) → Steps shared old now → HasWorked shared now next → Steps shared old next
 steps-next shared old now next steps step = record {
-  free = (step.turn, step.free);
+  free = record { turn = step.turn; free = step.free };
   later = prefix_trans old.seen now.seen next.seen steps.later step.seen;
   worked = inr (worked-next shared old now next steps step);
 }
@@ -146,7 +146,7 @@ module _ (shared : Begun Start) where
   each-free [] [] all = All-nil (IsFree shared)
   each-free [] (e ∷ ends) all = absurd all
   each-free (o ∷ olds) [] all = absurd all
-  each-free (o ∷ olds) (e ∷ ends) all = All-cons (IsFree shared) e.pass (map (λ w. w.pass) ends) (all.0.pass.turn, all.0.pass.free) (each-free olds ends all.1)
+  each-free (o ∷ olds) (e ∷ ends) all = All-cons (IsFree shared) e.pass (map (λ w. w.pass) ends) (record { turn = all.0.pass.turn; free = all.0.pass.free }) (each-free olds ends all.1)
 
   pub free-drained : (olds news : List Pass) (answer : End) → HasDrained shared olds news answer → All (IsFree shared) news
   free-drained olds news answer is = subst (All (IsFree shared)) is.passes (each-free olds is.ends is.each)

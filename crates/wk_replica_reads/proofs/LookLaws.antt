@@ -47,8 +47,8 @@ module _ (shared : Begun ReplicaBegun) (old mid : Pass) (replica : ReplicaSeen) 
 
 -- ---- looks one behind the other
 
-pub read-none : (shared : Begun ReplicaBegun) (pass : Pass) → IsOf shared pass → pass.held ≡ None → HasRead shared pass pass
-read-none shared pass of free = record { turn = of; free = free; seen = prefix_self pass.seen; own = refl }
+pub read-none : (shared : Begun ReplicaBegun) (pass : Pass) → IsFree shared pass → HasRead shared pass pass
+read-none shared pass is = record { turn = is.turn; free = is.free; seen = prefix_self pass.seen; own = refl }
 
 pub read-both : (shared : Begun ReplicaBegun) (one two three : Pass) → HasRead shared one two → HasRead shared two three → HasRead shared one three
 read-both shared one two three first later = record {
@@ -59,7 +59,7 @@ read-both shared one two three first later = record {
 }
 
 pub read-free : (shared : Begun ReplicaBegun) (old new : Pass) → HasRead shared old new → IsFree shared new
-read-free shared old new read = (read.turn, read.free)
+read-free shared old new read = record { turn = read.turn; free = read.free }
 
 pub read-goes : (shared : Begun ReplicaBegun) (old new : Pass) → HasRead shared old new → GoesOn (seen_by shared old) (seen_by shared new) []
 read-goes shared old new read = record { start = refl; seen = read.seen; own = read.own ∙ sym (append-nil old.own) }

@@ -84,10 +84,10 @@ module _ (shared : Begun ReplicaBegun) (old mid : Pass) (before : ReplicaSeen) (
 
   module _ (after held : ReplicaSeen) (new : Pass) (same : held ≡ before) (back : new ≡ record mid { seen = after.journal; own = mid.own ++ added held.journal after.journal; held = None }) where
     pub done-free : IsOf shared old → IsFree shared new
-    done-free of = (
-      (ap (λ (p : Pass). p.turn) back ∙ (ap (λ (p : Pass). p.turn) took.pass ∙ of.0), ap (λ (p : Pass). p.start) back ∙ (ap (λ (p : Pass). p.start) took.pass ∙ of.1)),
-      ap (λ (p : Pass). p.held) back,
-    )
+    done-free of = record {
+      turn = (ap (λ (p : Pass). p.turn) back ∙ (ap (λ (p : Pass). p.turn) took.pass ∙ of.0), ap (λ (p : Pass). p.start) back ∙ (ap (λ (p : Pass). p.start) took.pass ∙ of.1));
+      free = ap (λ (p : Pass). p.held) back;
+    }
 
     pub done-in : (Done : ReplicaSeen → ReplicaSeen → Type 0) → Done before after → IsDoneIn shared old new Done
     done-in Done did = record {

@@ -15,6 +15,7 @@ use Rattle.wk_request_rules.specs.Requests.{Request}
 use Rattle.wk_expand.specs.Drafts.{DraftShown}
 use Rattle.wk_core.specs.declared.outcomes.PageRead.{PageRead}
 use Rattle.wk_turn.specs.Told.{Begun, IsOf, Story}
+pub use Rattle.wk_shared.specs.Calls.{IsFree}
 use Rattle.wk_read_laws.specs.Points.{AreReadSince}
 use Rattle.wk_replica.specs.Answers.{replica_reply}
 use Rattle.wk_replica.specs.Replicas.{ReplicaBegun, ReplicaSeen}
@@ -24,10 +25,6 @@ use Rattle.wk_replica.specs.Replicas.{ReplicaBegun, ReplicaSeen}
 -- what a pass has seen of a shared replica
 abbrev pub seen_by : Begun ReplicaBegun → Story ReplicaBegun Event → PassSeen
 seen_by shared pass = record { start = shared.start.wiki; journal = pass.seen; own = pass.own }
-
--- the pass is of this shared replica, and hasn't taken it
-abbrev pub IsFree : Begun ReplicaBegun → Story ReplicaBegun Event → Type 0
-IsFree shared pass = IsOf shared pass × (pass.held ≡ None)
 
 -- The replica that a pass has taken: it began as the shared one did, and its journal begins with what the pass had seen.
 pub record IsHeld (shared : Begun ReplicaBegun) (old new : Story ReplicaBegun Event) (replica : ReplicaSeen) : Type 0 where

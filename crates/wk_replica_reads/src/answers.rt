@@ -1,9 +1,8 @@
 //! What is answered under one turn.
-ghost use Rattle.std.specs.Prelude.{◌≡◌, None};
 ghost use Rattle.wk_request.specs.Asked.{request_asked};
 ghost use Rattle.wk_request.specs.Refusals.{Refuses};
 ghost use Rattle.wk_request_rules.specs.Requests.{ParsedRequest, valid};
-ghost use Rattle.wk_turn.specs.Told.{IsOf};
+ghost use Rattle.wk_replica_reads.specs.Looks.{IsFree};
 ghost use Rattle.wk_replica_reads.specs.Telling.{AnswersOn};
 
 use crate::desk::{give, look, take};
@@ -24,8 +23,7 @@ pub fn answer_now<R: Wait>(
     request: &Request,
     trees: &mut Trees,
 ) -> Told
-    requires turn { IsOf shared.now pass.old }
-    requires free { pass.old.held ≡ None }
+    requires { IsFree shared.now pass.old }
     ensures { AnswersOn shared.now pass.old pass.new (valid (request_asked request.now)) result }
 {
     let held = take(rt, shared, pass);
@@ -44,8 +42,7 @@ pub fn answer_now<R: Wait>(
 
 /// Answers that memory is wanting, at the present point. It waits.
 pub fn starve<R: Wait>(rt: &R, shared: &Turn<Replica>, pass: &mut Pass<Replica>) -> Told
-    requires turn { IsOf shared.now pass.old }
-    requires free { pass.old.held ≡ None }
+    requires { IsFree shared.now pass.old }
     ensures { (parsed : ParsedRequest) → AnswersOn shared.now pass.old pass.new parsed result }
 {
     let (alloc, point) = look(rt, shared, pass);
@@ -59,8 +56,7 @@ pub fn decline<R: Wait>(
     pass: &mut Pass<Replica>,
     refusal: &RequestRefusal,
 ) -> Told
-    requires turn { IsOf shared.now pass.old }
-    requires free { pass.old.held ≡ None }
+    requires { IsFree shared.now pass.old }
     ensures { (parsed : ParsedRequest) → Refuses parsed refusal.now → AnswersOn shared.now pass.old pass.new parsed result }
 {
     let (alloc, point) = look(rt, shared, pass);

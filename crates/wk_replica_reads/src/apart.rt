@@ -1,9 +1,8 @@
 //! Drafts that are made without the turn: each answer is fetched under a turn of its own.
-ghost use Rattle.std.specs.Prelude.{◌≡◌, IfOk, None};
+ghost use Rattle.std.specs.Prelude.{IfOk};
 ghost use Rattle.wk_expand.specs.Answers.{answer_of};
 ghost use Rattle.wk_expand.specs.Steps.{given_text};
-ghost use Rattle.wk_turn.specs.Told.{IsOf};
-ghost use Rattle.wk_replica_reads.specs.Looks.{HasRead, IsDraftSince, IsFetched};
+ghost use Rattle.wk_replica_reads.specs.Looks.{HasRead, IsDraftSince, IsFetched, IsFree};
 
 use crate::desk::{give, take};
 use crate::replicas::fetched;
@@ -26,8 +25,7 @@ fn fetch<R: Wait>(
     title: &Title,
     kind: Kind,
 ) -> Result<Answer, Memory>
-    requires turn { IsOf shared.now pass.old }
-    requires free { pass.old.held ≡ None }
+    requires { IsFree shared.now pass.old }
     ensures pass { HasRead shared.now pass.old pass.new }
     ensures answered { IfOk result (λ answer. IsFetched shared.now.start.wiki pass.new.seen title.now kind (answer_of answer)) }
 {
@@ -85,8 +83,7 @@ pub fn draft_apart<R: Wait, G: Gate>(
     root: &Root,
     gate: &mut G,
 ) -> Result<Draft, Memory>
-    requires turn { IsOf shared.now pass.old }
-    requires free { pass.old.held ≡ None }
+    requires { IsFree shared.now pass.old }
     ensures pass { HasRead shared.now pass.old pass.new }
     ensures draft { IfOk result (IsDraftSince shared.now pass.old pass.new title.now (given_text root.now)) }
 {

@@ -1,7 +1,7 @@
 //! Taking a shared replica, and giving it back.
 ghost use Rattle.std.specs.Prelude.{◌≡◌, length, None, Some};
 ghost use Rattle.wk_turn.specs.Told.{IsOf};
-ghost use Rattle.wk_replica_reads.specs.Looks.{HasRead, IsHeld};
+ghost use Rattle.wk_replica_reads.specs.Looks.{HasRead, IsFree, IsHeld};
 
 use std::alloc::Global;
 use std::sync::Wait;
@@ -10,8 +10,7 @@ use wk_turn::{Held, Pass, Turn};
 
 /// Waits for the turn and takes the replica. No memory.
 pub fn take<R: Wait>(rt: &R, shared: &Turn<Replica>, pass: &mut Pass<Replica>) -> Held<Replica>
-    requires turn { IsOf shared.now pass.old }
-    requires free { pass.old.held ≡ None }
+    requires { IsFree shared.now pass.old }
     ensures taken { IsHeld shared.now pass.old pass.new result.value }
     ensures before { result.before.value ≡ result.value }
 {
@@ -31,8 +30,7 @@ pub fn give(shared: &Turn<Replica>, pass: &mut Pass<Replica>, held: Held<Replica
 
 /// Looks how far the journal has come: the allocator of the replica, and the point. It waits. No memory.
 pub fn look<R: Wait>(rt: &R, shared: &Turn<Replica>, pass: &mut Pass<Replica>) -> (Global, u64)
-    requires turn { IsOf shared.now pass.old }
-    requires free { pass.old.held ≡ None }
+    requires { IsFree shared.now pass.old }
     ensures pass { HasRead shared.now pass.old pass.new }
     ensures point { result.1 ≡ length pass.new.seen }
 {

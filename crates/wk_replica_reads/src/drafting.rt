@@ -1,9 +1,8 @@
 //! Reads of pages and of given texts: what is kept and current, or what is drafted anew.
 ghost use Rattle.std.specs.Prelude.{◌≡◌, ℕ, IfOk, IfSome, None};
 ghost use Rattle.wk_expand.specs.Steps.{given_text};
-ghost use Rattle.wk_turn.specs.Told.{IsOf};
 ghost use Rattle.wk_read_laws.specs.Points.{AreReadSince};
-ghost use Rattle.wk_replica_reads.specs.Looks.{HasRead, IsReadNow};
+ghost use Rattle.wk_replica_reads.specs.Looks.{HasRead, IsFree, IsReadNow};
 
 use crate::apart::draft_apart;
 use crate::desk::{give, take};
@@ -28,8 +27,7 @@ pub fn seek<R: Wait>(
     pass: &mut Pass<Replica>,
     title: &Title,
 ) -> Option<PageRead>
-    requires turn { IsOf shared.now pass.old }
-    requires free { pass.old.held ≡ None }
+    requires { IsFree shared.now pass.old }
     ensures pass { HasRead shared.now pass.old pass.new }
     ensures read { IfSome result (IsReadNow shared.now.start.wiki pass.new.seen title.now None) }
 {
@@ -48,8 +46,7 @@ fn accept<R: Wait>(
     draft: SharedDraft,
     root: &Root,
 ) -> Option<PageRead>
-    requires turn { IsOf shared.now pass.old }
-    requires free { pass.old.held ≡ None }
+    requires free { IsFree shared.now pass.old }
     requires given { draft.given ≡ given_text root.now }
     requires since { (from : ℕ) × AreReadSince shared.now.start.wiki pass.old.seen from draft.reads }
     ensures pass { HasRead shared.now pass.old pass.new }
@@ -72,8 +69,7 @@ fn try_draft<R: Wait, G: Gate>(
     root: &Root,
     gate: &mut G,
 ) -> Result<Option<PageRead>, Memory>
-    requires turn { IsOf shared.now pass.old }
-    requires free { pass.old.held ≡ None }
+    requires { IsFree shared.now pass.old }
     ensures pass { HasRead shared.now pass.old pass.new }
     ensures read { IfOk result (λ read. IfSome read (IsReadNow shared.now.start.wiki pass.new.seen title.now (given_text root.now))) }
 {
@@ -92,8 +88,7 @@ fn drafted_held<R: Wait>(
     title: &Title,
     root: &Root,
 ) -> Result<PageRead, Memory>
-    requires turn { IsOf shared.now pass.old }
-    requires free { pass.old.held ≡ None }
+    requires { IsFree shared.now pass.old }
     ensures pass { HasRead shared.now pass.old pass.new }
     ensures read { IfOk result (IsReadNow shared.now.start.wiki pass.new.seen title.now (given_text root.now)) }
 {
@@ -115,8 +110,7 @@ pub fn drafted<R: Wait, G: Gate>(
     root: &Root,
     gate: &mut G,
 ) -> Result<PageRead, Memory>
-    requires turn { IsOf shared.now pass.old }
-    requires free { pass.old.held ≡ None }
+    requires { IsFree shared.now pass.old }
     ensures pass { HasRead shared.now pass.old pass.new }
     ensures read { IfOk result (IsReadNow shared.now.start.wiki pass.new.seen title.now (given_text root.now)) }
 {

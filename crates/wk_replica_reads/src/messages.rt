@@ -1,9 +1,8 @@
 //! What a message asks, which call answers it, and the reply to it.
-ghost use Rattle.std.specs.Prelude.{◌≡◌, None};
 ghost use Rattle.wk_http.specs.Requests.{message_in};
 ghost use Rattle.wk_request.specs.Asked.{request_asked};
 ghost use Rattle.wk_request_rules.specs.Requests.{valid};
-ghost use Rattle.wk_turn.specs.Told.{IsOf};
+ghost use Rattle.wk_replica_reads.specs.Looks.{IsFree};
 ghost use Rattle.wk_session_rules.specs.Replies.{asked};
 ghost use Rattle.wk_replica_reads.specs.Telling.{AnswersMessage, AnswersOn};
 
@@ -30,8 +29,7 @@ fn answer_request<R: Wait, G: Gate>(
     trees: &mut Trees,
     gate: &mut G,
 ) -> Told
-    requires turn { IsOf shared.now pass.old }
-    requires free { pass.old.held ≡ None }
+    requires { IsFree shared.now pass.old }
     ensures { AnswersOn shared.now pass.old pass.new (valid (request_asked request.now)) result }
 {
     match request.ask.asked() {
@@ -50,8 +48,7 @@ fn answer_asked<R: Wait, G: Gate>(
     trees: &mut Trees,
     gate: &mut G,
 ) -> Told
-    requires turn { IsOf shared.now pass.old }
-    requires free { pass.old.held ≡ None }
+    requires { IsFree shared.now pass.old }
     ensures { AnswersOn shared.now pass.old pass.new (asked (message_in message.now)) result }
 {
     match request_in(alloc, message) {
@@ -70,8 +67,7 @@ pub fn answer_message<R: Wait, G: Gate>(
     trees: &mut Trees,
     gate: &mut G,
 ) -> Answer
-    requires turn { IsOf shared.now pass.old }
-    requires free { pass.old.held ≡ None }
+    requires { IsFree shared.now pass.old }
     ensures { AnswersMessage shared.now pass.old pass.new (message_in message.now) result }
 {
     let status = status_of(message);

@@ -2,9 +2,8 @@
 ghost use Rattle.std.specs.Prelude.{◌≡◌, ◌≤◌, IfOk, IfSome, IsTrue, length, None};
 ghost use Rattle.wk_request.specs.Asked.{ask_of, read_of, request_asked};
 ghost use Rattle.wk_request_rules.specs.Requests.{valid};
-ghost use Rattle.wk_turn.specs.Told.{IsOf};
 ghost use Rattle.wk_session.specs.Telling.{IsTitleOf, text_asked};
-ghost use Rattle.wk_replica_reads.specs.Looks.{HasRead, IsReadNow};
+ghost use Rattle.wk_replica_reads.specs.Looks.{HasRead, IsFree, IsReadNow};
 ghost use Rattle.wk_replica_reads.specs.Telling.{AnswersOn};
 
 use crate::answers::{answer_now, starve};
@@ -50,8 +49,7 @@ fn read_page<R: Wait, G: Gate>(
     trees: &mut Trees,
     gate: &mut G,
 ) -> Result<PageRead, Memory>
-    requires turn { IsOf shared.now pass.old }
-    requires free { pass.old.held ≡ None }
+    requires { IsFree shared.now pass.old }
     ensures pass { HasRead shared.now pass.old pass.new }
     ensures read { IfOk result (IsReadNow shared.now.start.wiki pass.new.seen title.now None) }
 {
@@ -72,8 +70,7 @@ fn read_asked<R: Wait, G: Gate>(
     trees: &mut Trees,
     gate: &mut G,
 ) -> Result<PageRead, Memory>
-    requires turn { IsOf shared.now pass.old }
-    requires free { pass.old.held ≡ None }
+    requires free { IsFree shared.now pass.old }
     requires title { IsTitleOf (read_of asked.now) title.now }
     ensures pass { HasRead shared.now pass.old pass.new }
     ensures read { IfOk result (IsReadNow shared.now.start.wiki pass.new.seen title.now (text_asked (read_of asked.now))) }
@@ -102,8 +99,7 @@ fn answer_by_read<R: Wait, G: Gate>(
     trees: &mut Trees,
     gate: &mut G,
 ) -> Told
-    requires turn { IsOf shared.now pass.old }
-    requires free { pass.old.held ≡ None }
+    requires free { IsFree shared.now pass.old }
     requires asks { read_of asked.now ≡ ask_of request.now.ask }
     requires title { IsTitleOf (read_of asked.now) title.now }
     requires reached { request.now.least ≤ length pass.old.seen }
@@ -126,8 +122,7 @@ fn answer_by_read<R: Wait, G: Gate>(
 
 /// Looks once where the pass hasn't seen the least point yet. Whether it has seen it then. It waits. No memory.
 fn reach<R: Wait>(rt: &R, shared: &Turn<Replica>, pass: &mut Pass<Replica>, least: u64) -> bool
-    requires turn { IsOf shared.now pass.old }
-    requires free { pass.old.held ≡ None }
+    requires { IsFree shared.now pass.old }
     ensures pass { HasRead shared.now pass.old pass.new }
     ensures reached { IsTrue result → least ≤ length pass.new.seen }
 {
@@ -149,8 +144,7 @@ pub fn expand_now<R: Wait, G: Gate>(
     trees: &mut Trees,
     gate: &mut G,
 ) -> Told
-    requires turn { IsOf shared.now pass.old }
-    requires free { pass.old.held ≡ None }
+    requires free { IsFree shared.now pass.old }
     requires asks { read_of asked.now ≡ ask_of request.now.ask }
     ensures { AnswersOn shared.now pass.old pass.new (valid (request_asked request.now)) result }
 {

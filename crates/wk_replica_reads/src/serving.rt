@@ -1,9 +1,8 @@
 //! A message of a session, from its bytes to its reply.
-ghost use Rattle.std.specs.Prelude.{◌≡◌, ◌≢◌, ◌≤◌, ◌<◌, ◌++◌, None, Err, vec_capacity, vec_len};
+ghost use Rattle.std.specs.Prelude.{◌≡◌, ◌≢◌, ◌≤◌, ◌<◌, ◌++◌, Err, vec_capacity, vec_len};
 ghost use Rattle.std.specs.Option.{option_to_list};
 ghost use Rattle.wk_base.specs.Faults.{Rose};
 ghost use Rattle.wk_http.specs.Requests.{message_in};
-ghost use Rattle.wk_turn.specs.Told.{IsOf};
 ghost use Rattle.wk_replica_reads.specs.Looks.{IsFree, seen_by};
 ghost use Rattle.wk_replica_reads.specs.Serving.{IsReplied};
 
@@ -40,8 +39,7 @@ pub fn reply_to<R: Wait, L: Link, G: Gate>(
     gate: &mut G,
     points: &mut Vec<u64>,
 ) -> Result<(), SessionEnd>
-    requires turn { IsOf shared.now pass.old }
-    requires free { pass.old.held ≡ None }
+    requires { IsFree shared.now pass.old }
     ensures free { IsFree shared.now pass.new }
     ensures replied { IsReplied (seen_by shared.now pass.old) (seen_by shared.now pass.new) (message_in message.now)
         (record { rest = L.Source.rest link.old; taken = L.Sink.taken link.old })

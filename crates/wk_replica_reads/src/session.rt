@@ -1,7 +1,6 @@
 //! A session over a connection with a replica.
-ghost use Rattle.std.specs.Prelude.{◌≡◌, ◌≢◌, ◌≤◌, [], None};
+ghost use Rattle.std.specs.Prelude.{◌≡◌, ◌≢◌, ◌≤◌, []};
 ghost use Rattle.wk_base.specs.Faults.{Rose};
-ghost use Rattle.wk_turn.specs.Told.{IsOf};
 ghost use Rattle.wk_replica_reads.specs.Looks.{IsFree, seen_by};
 ghost use Rattle.wk_sending.specs.Sending.{IsCounted};
 ghost use Rattle.wk_replica_reads.specs.Sessions.{IsReadSession};
@@ -30,8 +29,7 @@ fn serve_all<R: Wait, L: Link, G: Gate>(
     gate: &mut G,
     points: &mut Vec<u64>,
 ) -> SessionEnd
-    requires turn { IsOf shared.now pass.old }
-    requires free { pass.old.held ≡ None }
+    requires free { IsFree shared.now pass.old }
     requires no_point { points.old.items ≡ [] }
     ensures free { IsFree shared.now pass.new }
     ensures session { IsReadSession (seen_by shared.now pass.old) (seen_by shared.now pass.new)
@@ -84,8 +82,7 @@ pub fn serve_reads<R: Wait, L: Link, G: Gate>(
     link: &mut L,
     gate: &mut G,
 ) -> SessionReport
-    requires turn { IsOf shared.now pass.old }
-    requires free { pass.old.held ≡ None }
+    requires { IsFree shared.now pass.old }
     ensures free { IsFree shared.now pass.new }
     ensures session { IsReadSession (seen_by shared.now pass.old) (seen_by shared.now pass.new)
         (record { rest = L.Source.rest link.old; taken = L.Sink.taken link.old })

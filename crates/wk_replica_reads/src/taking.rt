@@ -57,8 +57,7 @@ fn take_held<R: Wait>(
     pass: &mut Pass<Replica>,
     line: &[u8],
 ) -> Result<(), TakeRefusal>
-    requires turn { IsOf shared.now pass.old }
-    requires free { pass.old.held ≡ None }
+    requires free { IsFree shared.now pass.old }
     requires begun { IsSome shared.now.start.line }
     ensures free { IsFree shared.now pass.new }
     ensures taken { TakesLine shared.now pass.old pass.new line.now result }
@@ -86,8 +85,7 @@ fn take_said<R: Wait>(
     pass: &mut Pass<Replica>,
     said: FeedLine,
 ) -> Result<(), TakeRefusal>
-    requires turn { IsOf shared.now pass.old }
-    requires free { pass.old.held ≡ None }
+    requires free { IsFree shared.now pass.old }
     requires begun { IsSome shared.now.start.line }
     ensures free { IsFree shared.now pass.new }
     ensures taken { TakesSaidLine shared.now pass.old pass.new (line_of said) result }
@@ -151,8 +149,7 @@ fn finish<R: Wait>(
     ticket: u64,
     draft: Draft,
 ) -> Result<(), TakeRefusal>
-    requires turn { IsOf shared.now pass.old }
-    requires free { pass.old.held ≡ None }
+    requires free { IsFree shared.now pass.old }
     requires begun { IsSome shared.now.start.line }
     requires own_text { draft.given ≡ None }
     requires since { (from : ℕ) × AreReadSince shared.now.start.wiki pass.old.seen from draft.reads }
@@ -185,8 +182,7 @@ fn title_of<R: Wait>(
     pass: &mut Pass<Replica>,
     ticket: u64,
 ) -> Result<Option<Title>, Memory>
-    requires turn { IsOf shared.now pass.old }
-    requires free { pass.old.held ≡ None }
+    requires { IsFree shared.now pass.old }
     ensures { HasRead shared.now pass.old pass.new }
 {
     let held = take(rt, shared, pass);
@@ -205,8 +201,7 @@ fn draft_for<R: Wait, G: Gate>(
     ticket: u64,
     gate: &mut G,
 ) -> Result<Option<Draft>, Memory>
-    requires turn { IsOf shared.now pass.old }
-    requires free { pass.old.held ≡ None }
+    requires { IsFree shared.now pass.old }
     ensures pass { HasRead shared.now pass.old pass.new }
     ensures own_text { IfOk result (λ draft. IfSome draft (λ d. d.given ≡ None)) }
     ensures since { IfOk result (λ draft. IfSome draft (λ d. (from : ℕ) × AreReadSince shared.now.start.wiki pass.new.seen from d.reads)) }
@@ -228,8 +223,7 @@ fn take_done<R: Wait, G: Gate>(
     ticket: u64,
     gate: &mut G,
 ) -> Result<(), TakeRefusal>
-    requires turn { IsOf shared.now pass.old }
-    requires free { pass.old.held ≡ None }
+    requires free { IsFree shared.now pass.old }
     requires begun { IsSome shared.now.start.line }
     ensures free { IsFree shared.now pass.new }
     ensures taken { TakesSaidLine shared.now pass.old pass.new (done ticket) result }
@@ -254,8 +248,7 @@ fn take_read<R: Wait, G: Gate>(
     said: FeedLine,
     gate: &mut G,
 ) -> Result<(), TakeRefusal>
-    requires turn { IsOf shared.now pass.old }
-    requires free { pass.old.held ≡ None }
+    requires free { IsFree shared.now pass.old }
     requires begun { IsSome shared.now.start.line }
     ensures free { IsFree shared.now pass.new }
     ensures taken { TakesSaidLine shared.now pass.old pass.new (line_of said) result }
@@ -285,8 +278,7 @@ pub fn take_apart<R: Wait, G: Gate>(
     line: &[u8],
     gate: &mut G,
 ) -> Result<(), TakeRefusal>
-    requires turn { IsOf shared.now pass.old }
-    requires free { pass.old.held ≡ None }
+    requires free { IsFree shared.now pass.old }
     requires begun { IsSome shared.now.start.line }
     ensures free { IsFree shared.now pass.new }
     ensures taken { TakesLine shared.now pass.old pass.new line.now result }

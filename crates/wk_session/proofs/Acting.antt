@@ -34,13 +34,12 @@ use Rattle.wk_answer.specs.Saved.{IsActed, by_fault, by_rule}
 use Rattle.wk_answer_laws.proofs.Floats.{answer-plain, error-plain}
 use Rattle.wk_turn.specs.Told.{Begun}
 use Rattle.wk_turn.proofs.Lists.{prefix_length}
-use Rattle.wk_shared.specs.Calls.{AddsOwn, HasSeen, IsMadeAt, MayFail, seen_by}
+use Rattle.wk_shared.specs.Calls.{AddsOwn, HasSeen, IsFree, IsMadeAt, MayFail, seen_by}
 use Rattle.wk_shared.specs.Desk.{ClosesOpen, IsTaken, MakesAtMostOne, TellsOf}
 use Rattle.wk_shared.proofs.Made.{makes}
 use Rattle.wk_shared.proofs.Outcomes.{Outcome, may-fail}
 use Rattle.wk_session_rules.specs.Points.{GoesOn, IsStateAt}
 use Rattle.wk_session_rules.specs.Replies.{AreMomentsOf, IsAnswered, out_of_memory, read, saved, store_failed, unread}
-use Rattle.wk_session.specs.Passes.{IsFree}
 use Rattle.wk_session.specs.Telling.{AnswersOn}
 use Rattle.wk_session.specs.declared.telling.Told.{Told}
 use Rattle.wk_session.proofs.Passing.{Pass}

@@ -7,13 +7,12 @@ use Rattle.wk_wiki_rules.specs.Passes.{PassSeen}
 use Rattle.wk_wiki_rules.specs.Starts.{Start}
 use Rattle.wk_request_rules.specs.Requests.{ParsedRequest}
 use Rattle.wk_answer_rules.specs.Values.{ApiReply}
-use Rattle.wk_turn.specs.Told.{Begun, IsOf, Story}
+use Rattle.wk_turn.specs.Told.{Begun, Story}
 use Rattle.wk_turn.proofs.Lists.{prefix_length, prefix_self, prefix_trans}
-use Rattle.wk_shared.specs.Calls.{HasSeen, seen_by}
+use Rattle.wk_shared.specs.Calls.{HasSeen, IsFree, seen_by}
 use Rattle.wk_shared.specs.Looks.{HasRead}
 use Rattle.wk_session_rules.specs.Points.{GoesOn, IsStateAt}
 use Rattle.wk_session_rules.specs.Replies.{IsAnswered, out_of_memory, read, saved, store_failed, unread}
-use Rattle.wk_session.specs.Passes.{IsFree}
 use Rattle.wk_session.specs.Telling.{AnswersOn, IsTried}
 use Rattle.wk_session.specs.declared.telling.Told.{Told}
 
@@ -65,8 +64,8 @@ read-free shared old new looked = record { turn = looked.turn; free = looked.fre
 pub seen-read : (shared : Begun Start) (old new : Pass) (point : ℕ) → HasSeen shared old new point → new.own ≡ old.own → HasRead shared old new
 seen-read shared old new point seen own = record { turn = seen.turn; free = seen.free; seen = seen.seen; own = own }
 
-pub reads-none : (shared : Begun Start) (pass : Pass) → IsOf shared pass → pass.held ≡ None → HasRead shared pass pass
-reads-none shared pass of free = record { turn = of; free = free; seen = prefix_self pass.seen; own = refl }
+pub reads-none : (shared : Begun Start) (pass : Pass) → IsFree shared pass → HasRead shared pass pass
+reads-none shared pass is = record { turn = is.turn; free = is.free; seen = prefix_self pass.seen; own = refl }
 
 pub read-both : (shared : Begun Start) (old middle new : Pass) → HasRead shared old middle → HasRead shared middle new → HasRead shared old new
 read-both shared old middle new first later = record {

@@ -19,7 +19,7 @@ use Rattle.wk_core.specs.declared.outcomes.Finished.TheVariants as finished
 use Rattle.wk_turn.specs.Told.{Begun}
 use Rattle.wk_turn.proofs.Lists.{prefix_get, prefix_length, prefix_trans}
 use Rattle.wk_shared.specs.Answers.{BackTold, FanTold, FinishTold}
-use Rattle.wk_shared.specs.Calls.{AddsOwn, IsMadeAt, MayFail, seen_by}
+use Rattle.wk_shared.specs.Calls.{AddsOwn, IsFree, IsMadeAt, MayFail, seen_by}
 use Rattle.wk_read_laws.specs.Points.{IsStaleSince}
 use Rattle.wk_readers.specs.Beginnings.{ClaimedTold, FullTold, IdleTold, NothingTold}
 use Rattle.wk_readers.specs.Refreshes.{ComesIn, EndTold, IsRefreshed, RefreshTold}
@@ -28,7 +28,6 @@ use Rattle.wk_readers.specs.declared.outcome.Refreshed.{Refreshed}
 use Rattle.wk_readers.specs.declared.outcome.Refreshed.TheVariants as refreshed
 use Rattle.wk_session_rules.specs.Points.{GoesOn, IsStateAt}
 use Rattle.wk_session_rules.specs.Steps.{CameIn, HasChanged, IsFull, IsStep, back, done, fan_failed, fanned, full, idle, no_memory, no_memory_behind_claim, refresh_failed}
-use Rattle.wk_session.specs.Passes.{IsFree}
 use Rattle.wk_session.specs.Serving.{IsStepTold}
 use Rattle.wk_session.specs.Steps.{kind_of}
 use Rattle.wk_session.proofs.Passing.{Pass}

@@ -1,4 +1,3 @@
-pub mod Passes
 pub mod Telling
 pub mod Serving
 pub mod Steps

@@ -10,7 +10,7 @@ use Rattle.wk_http.specs.declared.report.Refresh.{Refresh}
 use Rattle.wk_http.specs.declared.report.SessionEnd.{SessionEnd}
 use Rattle.wk_http.specs.declared.report.SessionEnd.TheVariants.{Memory}
 use Rattle.wk_turn.specs.Told.{Begun, Story}
-use Rattle.wk_shared.specs.Calls.{seen_by}
+use Rattle.wk_shared.specs.Calls.{IsFree, seen_by}
 use Rattle.wk_session_rules.specs.Points.{GoesOn}
 use Rattle.wk_session_rules.specs.Replies.{IsReplyTo, Reply, sent}
 use Rattle.wk_session_rules.specs.Steps.{IsStep}
@@ -18,7 +18,6 @@ use Rattle.wk_session_rules.specs.Exchanges.{Exchange, Exchanges, IsExchange, by
 use Rattle.wk_session_rules.specs.Sessions.{BeginsWith, GivesMoments, Outside}
 use Rattle.wk_sending.specs.Sending.{IsSent}
 use Rattle.wk_messages.specs.Reading.{Reading}
-use Rattle.wk_session.specs.Passes.{IsFree}
 
 -- ---- a message
 

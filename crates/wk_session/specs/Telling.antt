@@ -10,14 +10,13 @@ use Rattle.wk_request_rules.specs.Requests.{Ask, ParsedRequest, expand_text}
 use Rattle.wk_answer_rules.specs.Values.{ApiReply}
 use Rattle.wk_answer.specs.Readings.{IsReadOf}
 use Rattle.wk_turn.specs.Told.{Begun, Story}
-use Rattle.wk_shared.specs.Calls.{seen_by}
+use Rattle.wk_shared.specs.Calls.{IsFree, seen_by}
 use Rattle.wk_shared.specs.Looks.{HasRead}
 use Rattle.wk_session_rules.specs.Points.{GoesOn}
 use Rattle.wk_session_rules.specs.Replies.{IsAnswered, IsReplyTo, Reply}
 use Rattle.wk_session_rules.specs.Sessions.{GivesMoments}
 use Rattle.wk_sending.specs.Replied.{Carries}
 use Rattle.wk_sending.specs.declared.replies.Answer.{Answer}
-use Rattle.wk_session.specs.Passes.{IsFree}
 use Rattle.wk_session.specs.declared.telling.Told.{Told}
 
 -- What is asked was answered on these moments: the pass is free again, and the reply is as the rules have it. This is its

@@ -4,9 +4,8 @@ ghost use Rattle.wk_request.specs.Asked.{ask_of, request_asked};
 ghost use Rattle.wk_request.specs.Refusals.{Refuses};
 ghost use Rattle.wk_request_rules.specs.Requests.{ParsedRequest, text_to_transform, valid};
 ghost use Rattle.wk_answer_rules.specs.Answers.{asks_to_save};
-ghost use Rattle.wk_turn.specs.Told.{IsOf};
 ghost use Rattle.wk_read_laws.specs.Points.{AreReadSince};
-ghost use Rattle.wk_shared.specs.Calls.{MayFail};
+ghost use Rattle.wk_shared.specs.Calls.{IsFree, MayFail};
 ghost use Rattle.wk_session_rules.specs.Replies.{AreMomentsOf};
 ghost use Rattle.wk_session.specs.Telling.{AnswersOn, IsTried};
 
@@ -31,8 +30,7 @@ pub fn act_now<K: Keeper, R: Wait>(
     moment: u64,
     trees: &mut Trees,
 ) -> Told
-    requires turn { IsOf shared.now reader.old.pass }
-    requires free { reader.old.pass.held ≡ None }
+    requires free { IsFree shared.now reader.old.pass }
     requires unsealed { shared.now.start.sealed ≡ None }
     requires asks { asks_to_save (ask_of request.now.ask) ≡ true }
     ensures { AnswersOn shared.now (MayFail shared.now.start) reader.old.pass reader.new.pass
@@ -61,8 +59,7 @@ pub fn act_made<K: Keeper, R: Wait>(
     made: &Substituted,
     moment: u64,
 ) -> Option<Told>
-    requires turn { IsOf shared.now reader.old.pass }
-    requires free { reader.old.pass.held ≡ None }
+    requires free { IsFree shared.now reader.old.pass }
     requires unsealed { shared.now.start.sealed ≡ None }
     requires asks { asks_to_save (ask_of request.now.ask) ≡ true }
     requires given { text_to_transform (request_asked request.now) ≡ Some made.now.saved }
@@ -94,8 +91,7 @@ pub fn answer_now<K: Keeper, R: Wait>(
     request: &Request,
     trees: &mut Trees,
 ) -> Told
-    requires turn { IsOf shared.now reader.old.pass }
-    requires free { reader.old.pass.held ≡ None }
+    requires free { IsFree shared.now reader.old.pass }
     requires asks { asks_to_save (ask_of request.now.ask) ≡ false }
     ensures { AnswersOn shared.now (MayFail shared.now.start) reader.old.pass reader.new.pass
         (valid (request_asked request.now)) [] result }
@@ -116,8 +112,7 @@ pub fn answer_now<K: Keeper, R: Wait>(
 /// Answers that memory is wanting, at the present point: also where it was wanting before it was known whether a moment is to be
 /// taken. It waits.
 pub fn starve<K: Keeper, R: Wait>(shared: &Shared<K>, rt: &R, reader: &mut Reader<K>) -> Told
-    requires turn { IsOf shared.now reader.old.pass }
-    requires free { reader.old.pass.held ≡ None }
+    requires { IsFree shared.now reader.old.pass }
     ensures unread { (parsed : ParsedRequest) → AnswersOn shared.now (MayFail shared.now.start)
         reader.old.pass reader.new.pass parsed [] result }
     ensures timed { (parsed : ParsedRequest) (moments : List ℕ) → AreMomentsOf parsed moments
@@ -134,8 +129,7 @@ pub fn decline<K: Keeper, R: Wait>(
     reader: &mut Reader<K>,
     refusal: &RequestRefusal,
 ) -> Told
-    requires turn { IsOf shared.now reader.old.pass }
-    requires free { reader.old.pass.held ≡ None }
+    requires { IsFree shared.now reader.old.pass }
     ensures { (parsed : ParsedRequest) → Refuses parsed refusal.now
         → AnswersOn shared.now (MayFail shared.now.start) reader.old.pass reader.new.pass parsed [] result }
 {

@@ -4,8 +4,7 @@ ghost use Rattle.wk_wiki_laws.specs.Kept.{IsKept};
 ghost use Rattle.wk_http.specs.Requests.{message_in};
 ghost use Rattle.wk_request.specs.Asked.{request_asked};
 ghost use Rattle.wk_request_rules.specs.Requests.{valid};
-ghost use Rattle.wk_turn.specs.Told.{IsOf};
-ghost use Rattle.wk_shared.specs.Calls.{MayFail};
+ghost use Rattle.wk_shared.specs.Calls.{IsFree, MayFail};
 ghost use Rattle.wk_session_rules.specs.Replies.{asked};
 ghost use Rattle.wk_session.specs.Telling.{AnswersAsked};
 
@@ -34,8 +33,7 @@ fn carry_out<K: Keeper, R: Wait, C: Clock, G: Gate>(
     clock: &mut C,
     trees: &mut Trees,
 ) -> Told
-    requires turn { IsOf shared.now worker.old.reader.pass }
-    requires free { worker.old.reader.pass.held ≡ None }
+    requires free { IsFree shared.now worker.old.reader.pass }
     requires unsealed { shared.now.start.sealed ≡ None }
     requires kept { IsKept shared.now.start.state }
     ensures { AnswersAsked shared.now (MayFail shared.now.start) worker.old.reader.pass worker.new.reader.pass
@@ -62,8 +60,7 @@ pub fn answer_asked<K: Keeper, R: Wait, C: Clock, G: Gate>(
     clock: &mut C,
     trees: &mut Trees,
 ) -> Told
-    requires turn { IsOf shared.now worker.old.reader.pass }
-    requires free { worker.old.reader.pass.held ≡ None }
+    requires free { IsFree shared.now worker.old.reader.pass }
     requires unsealed { shared.now.start.sealed ≡ None }
     requires kept { IsKept shared.now.start.state }
     ensures { AnswersAsked shared.now (MayFail shared.now.start) worker.old.reader.pass worker.new.reader.pass

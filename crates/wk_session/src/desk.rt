@@ -1,7 +1,7 @@
 //! Taking the wiki for what is asked, and giving it back.
-ghost use Rattle.std.specs.Prelude.{◌≡◌, None, Some};
+ghost use Rattle.std.specs.Prelude.{◌≡◌, Some};
 ghost use Rattle.wk_turn.specs.Told.{IsOf};
-ghost use Rattle.wk_shared.specs.Calls.{HasSeen};
+ghost use Rattle.wk_shared.specs.Calls.{HasSeen, IsFree};
 ghost use Rattle.wk_shared.specs.Desk.{IsGiven, IsTaken, MakesAtMostOne, TellsOf};
 
 use std::alloc::Global;
@@ -12,8 +12,7 @@ use wk_shared::{Held, Shared};
 
 /// Waits for the turn and takes the wiki. No memory.
 pub fn take<K: Keeper, R: Wait>(shared: &Shared<K>, rt: &R, reader: &mut Reader<K>) -> Held<Wiki<K>>
-    requires turn { IsOf shared.now reader.old.pass }
-    requires free { reader.old.pass.held ≡ None }
+    requires { IsFree shared.now reader.old.pass }
     ensures taken { IsTaken shared.now reader.old.pass reader.new.pass result.value }
     ensures keeper { TellsOf K.is_whole K.faults result.value.start result.value.keeper }
     ensures before { result.before.value ≡ result.value }
@@ -38,8 +37,7 @@ pub fn give<K: Keeper>(shared: &Shared<K>, reader: &mut Reader<K>, held: Held<Wi
 
 /// Looks how far the journal has come: the allocator of the wiki, and the point. It waits. No memory.
 pub fn look<K: Keeper, R: Wait>(shared: &Shared<K>, rt: &R, reader: &mut Reader<K>) -> (Global, u64)
-    requires turn { IsOf shared.now reader.old.pass }
-    requires free { reader.old.pass.held ≡ None }
+    requires { IsFree shared.now reader.old.pass }
     ensures pass { HasSeen shared.now reader.old.pass reader.new.pass result.1 }
     ensures own { reader.new.pass.own ≡ reader.old.pass.own }
 {

@@ -1,10 +1,9 @@
 //! What is answered by a read of its own.
-ghost use Rattle.std.specs.Prelude.{◌≡◌, ◌≤◌, [], None, IfErr, IfOk, IfSome, IsTrue, length};
+ghost use Rattle.std.specs.Prelude.{◌≡◌, ◌≤◌, [], IfErr, IfOk, IfSome, IsTrue, length};
 ghost use Rattle.wk_wiki_laws.specs.Kept.{IsKept};
 ghost use Rattle.wk_request.specs.Asked.{ask_of, read_of, request_asked};
 ghost use Rattle.wk_request_rules.specs.Requests.{valid};
-ghost use Rattle.wk_turn.specs.Told.{IsOf};
-ghost use Rattle.wk_shared.specs.Calls.{MayFail};
+ghost use Rattle.wk_shared.specs.Calls.{IsFree, MayFail};
 ghost use Rattle.wk_readers.specs.Looks.{HasRead};
 ghost use Rattle.wk_readers.specs.Reads.{IsAnswered, IsLate};
 ghost use Rattle.wk_session.specs.Telling.{AnswersOn, IsTitleOf, text_asked};
@@ -51,8 +50,7 @@ fn read_asked<K: Keeper, R: Wait, G: Gate>(
     title: &Title,
     least: u64,
 ) -> Result<PageRead, ReadRefusal>
-    requires turn { IsOf shared.now worker.old.reader.pass }
-    requires free { worker.old.reader.pass.held ≡ None }
+    requires free { IsFree shared.now worker.old.reader.pass }
     requires title { IsTitleOf (read_of asked.now) title.now }
     ensures pass { HasRead shared.now worker.old.reader.pass worker.new.reader.pass }
     ensures read { IfOk result (IsAnswered shared.now worker.old.reader.pass worker.new.reader.pass title.now (text_asked (read_of asked.now)) least) }
@@ -94,8 +92,7 @@ fn answer_by_read<K: Keeper, R: Wait, G: Gate>(
     asked: &ReadAsked<'_>,
     title: &Title,
 ) -> Told
-    requires turn { IsOf shared.now worker.old.reader.pass }
-    requires free { worker.old.reader.pass.held ≡ None }
+    requires free { IsFree shared.now worker.old.reader.pass }
     requires kept { IsKept shared.now.start.state }
     requires asks { read_of asked.now ≡ ask_of request.now.ask }
     requires title { IsTitleOf (read_of asked.now) title.now }
@@ -126,8 +123,7 @@ fn reach<K: Keeper, R: Wait, G: Gate>(
     worker: &mut Worker<K, G>,
     least: u64,
 ) -> bool
-    requires turn { IsOf shared.now worker.old.reader.pass }
-    requires free { worker.old.reader.pass.held ≡ None }
+    requires { IsFree shared.now worker.old.reader.pass }
     ensures pass { HasRead shared.now worker.old.reader.pass worker.new.reader.pass }
     ensures reached { IsTrue result → least ≤ length worker.new.reader.pass.seen }
 {
@@ -148,8 +144,7 @@ pub fn expand_now<K: Keeper, R: Wait, G: Gate>(
     asked: &ReadAsked<'_>,
     trees: &mut Trees,
 ) -> Told
-    requires turn { IsOf shared.now worker.old.reader.pass }
-    requires free { worker.old.reader.pass.held ≡ None }
+    requires free { IsFree shared.now worker.old.reader.pass }
     requires kept { IsKept shared.now.start.state }
     requires asks { read_of asked.now ≡ ask_of request.now.ask }
     ensures { AnswersOn shared.now (MayFail shared.now.start) worker.old.reader.pass worker.new.reader.pass

@@ -2,8 +2,7 @@
 ghost use Rattle.std.specs.Prelude.{◌≡◌, None};
 ghost use Rattle.wk_http.specs.Requests.{message_in};
 ghost use Rattle.wk_wiki_laws.specs.Kept.{IsKept};
-ghost use Rattle.wk_turn.specs.Told.{IsOf};
-ghost use Rattle.wk_shared.specs.Calls.{MayFail};
+ghost use Rattle.wk_shared.specs.Calls.{IsFree, MayFail};
 ghost use Rattle.wk_session.specs.Telling.{AnswersMessage};
 
 use crate::asks::answer_asked;
@@ -28,8 +27,7 @@ pub fn answer_message<K: Keeper, R: Wait, C: Clock, G: Gate>(
     clock: &mut C,
     trees: &mut Trees,
 ) -> Answer
-    requires turn { IsOf shared.now worker.old.reader.pass }
-    requires free { worker.old.reader.pass.held ≡ None }
+    requires free { IsFree shared.now worker.old.reader.pass }
     requires unsealed { shared.now.start.sealed ≡ None }
     requires kept { IsKept shared.now.start.state }
     ensures { AnswersMessage shared.now (MayFail shared.now.start) worker.old.reader.pass worker.new.reader.pass

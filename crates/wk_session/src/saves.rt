@@ -3,8 +3,7 @@ ghost use Rattle.std.specs.Prelude.{◌≡◌, ◌∷◌, [], IfOk, IfSome, None
 ghost use Rattle.wk_request.specs.Asked.{ask_of, request_asked};
 ghost use Rattle.wk_request_rules.specs.Requests.{text_to_transform, valid};
 ghost use Rattle.wk_answer_rules.specs.Answers.{asks_to_save};
-ghost use Rattle.wk_turn.specs.Told.{IsOf};
-ghost use Rattle.wk_shared.specs.Calls.{MayFail};
+ghost use Rattle.wk_shared.specs.Calls.{IsFree, MayFail};
 ghost use Rattle.wk_session.specs.Telling.{AnswersOn, IsTried};
 
 use crate::acts::{act_made, act_now, starve};
@@ -65,8 +64,7 @@ fn try_save<K: Keeper, R: Wait, G: Gate>(
     text: &Text,
     moment: u64,
 ) -> Option<Told>
-    requires turn { IsOf shared.now worker.old.reader.pass }
-    requires free { worker.old.reader.pass.held ≡ None }
+    requires free { IsFree shared.now worker.old.reader.pass }
     requires unsealed { shared.now.start.sealed ≡ None }
     requires asks { asks_to_save (ask_of request.now.ask) ≡ true }
     requires given { text_to_transform (request_asked request.now) ≡ Some text.now }
@@ -90,8 +88,7 @@ fn subst_now<K: Keeper, R: Wait, G: Gate>(
     moment: u64,
     trees: &mut Trees,
 ) -> Told
-    requires turn { IsOf shared.now worker.old.reader.pass }
-    requires free { worker.old.reader.pass.held ≡ None }
+    requires free { IsFree shared.now worker.old.reader.pass }
     requires unsealed { shared.now.start.sealed ≡ None }
     requires asks { asks_to_save (ask_of request.now.ask) ≡ true }
     requires given { text_to_transform (request_asked request.now) ≡ Some text.now }
@@ -117,8 +114,7 @@ pub fn save_now<K: Keeper, R: Wait, G: Gate>(
     moment: u64,
     trees: &mut Trees,
 ) -> Told
-    requires turn { IsOf shared.now worker.old.reader.pass }
-    requires free { worker.old.reader.pass.held ≡ None }
+    requires free { IsFree shared.now worker.old.reader.pass }
     requires unsealed { shared.now.start.sealed ≡ None }
     requires asks { asks_to_save (ask_of request.now.ask) ≡ true }
     ensures { AnswersOn shared.now (MayFail shared.now.start) worker.old.reader.pass worker.new.reader.pass

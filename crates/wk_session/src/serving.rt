@@ -4,9 +4,7 @@ ghost use Rattle.std.specs.Option.{option_to_list};
 ghost use Rattle.wk_base.specs.Faults.{Rose};
 ghost use Rattle.wk_http.specs.Requests.{message_in};
 ghost use Rattle.wk_wiki_laws.specs.Kept.{IsKept};
-ghost use Rattle.wk_turn.specs.Told.{IsOf};
-ghost use Rattle.wk_shared.specs.Calls.{MayFail, seen_by};
-ghost use Rattle.wk_session.specs.Passes.{IsFree};
+ghost use Rattle.wk_shared.specs.Calls.{IsFree, MayFail, seen_by};
 ghost use Rattle.wk_session.specs.Serving.{IsReplied, IsServed};
 
 use crate::replies::answer_message;
@@ -44,8 +42,7 @@ fn reply_to<K: Keeper, R: Wait, L: Link, C: Clock, G: Gate>(
     trees: &mut Trees,
     points: &mut Vec<u64>,
 ) -> Result<(), SessionEnd>
-    requires turn { IsOf shared.now worker.old.reader.pass }
-    requires free { worker.old.reader.pass.held ≡ None }
+    requires free { IsFree shared.now worker.old.reader.pass }
     requires unsealed { shared.now.start.sealed ≡ None }
     requires kept { IsKept shared.now.start.state }
     ensures free { IsFree shared.now worker.new.reader.pass }
@@ -80,8 +77,7 @@ pub fn serve_one<K: Keeper, R: Wait, L: Link, C: Clock, G: Gate>(
     points: &mut Vec<u64>,
     refreshes: &mut Vec<(u64, Refresh)>,
 ) -> Result<(), SessionEnd>
-    requires turn { IsOf shared.now worker.old.reader.pass }
-    requires free { worker.old.reader.pass.held ≡ None }
+    requires free { IsFree shared.now worker.old.reader.pass }
     requires unsealed { shared.now.start.sealed ≡ None }
     requires kept { IsKept shared.now.start.state }
     ensures free { IsFree shared.now worker.new.reader.pass }

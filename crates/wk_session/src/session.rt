@@ -2,11 +2,9 @@
 ghost use Rattle.std.specs.Prelude.{◌≡◌, ◌≢◌, ◌≤◌, [], None};
 ghost use Rattle.wk_base.specs.Faults.{Rose};
 ghost use Rattle.wk_wiki_laws.specs.Kept.{IsKept};
-ghost use Rattle.wk_turn.specs.Told.{IsOf};
-ghost use Rattle.wk_shared.specs.Calls.{MayFail, seen_by};
+ghost use Rattle.wk_shared.specs.Calls.{IsFree, MayFail, seen_by};
 ghost use Rattle.wk_session_rules.specs.Exchanges.{is_done, jobs_done};
 ghost use Rattle.wk_session_rules.specs.Sessions.{IsSession};
-ghost use Rattle.wk_session.specs.Passes.{IsFree};
 ghost use Rattle.wk_sending.specs.Sending.{IsCounted};
 
 use crate::desk::look;
@@ -54,8 +52,7 @@ fn serve_all<K: Keeper, R: Wait, L: Link, C: Clock, G: Gate>(
     points: &mut Vec<u64>,
     refreshes: &mut Vec<(u64, Refresh)>,
 ) -> SessionEnd
-    requires turn { IsOf shared.now worker.old.reader.pass }
-    requires free { worker.old.reader.pass.held ≡ None }
+    requires free { IsFree shared.now worker.old.reader.pass }
     requires unsealed { shared.now.start.sealed ≡ None }
     requires kept { IsKept shared.now.start.state }
     requires no_point { points.old.items ≡ [] }
@@ -116,8 +113,7 @@ pub fn serve_session<K: Keeper, R: Wait, L: Link, C: Clock, G: Gate>(
     link: &mut L,
     clock: &mut C,
 ) -> SessionReport
-    requires turn { IsOf shared.now worker.old.reader.pass }
-    requires free { worker.old.reader.pass.held ≡ None }
+    requires free { IsFree shared.now worker.old.reader.pass }
     requires unsealed { shared.now.start.sealed ≡ None }
     ensures free { IsFree shared.now worker.new.reader.pass }
     ensures session { IsSession (MayFail shared.now.start)

@@ -1,7 +1,6 @@
 //! The step behind a reply.
-ghost use Rattle.std.specs.Prelude.{◌≡◌, None};
-ghost use Rattle.wk_turn.specs.Told.{IsOf};
-ghost use Rattle.wk_shared.specs.Calls.{MayFail};
+ghost use Rattle.std.specs.Prelude.{◌≡◌};
+ghost use Rattle.wk_shared.specs.Calls.{IsFree, MayFail};
 ghost use Rattle.wk_session.specs.Serving.{IsStepTold};
 ghost use Rattle.wk_session.specs.Steps.{kind_of};
 
@@ -33,8 +32,7 @@ pub fn step<K: Keeper, R: Wait, G: Gate>(
     rt: &R,
     worker: &mut Worker<K, G>,
 ) -> Refresh
-    requires turn { IsOf shared.now worker.old.reader.pass }
-    requires free { worker.old.reader.pass.held ≡ None }
+    requires { IsFree shared.now worker.old.reader.pass }
     ensures { IsStepTold shared.now (MayFail shared.now.start) worker.old.reader.pass worker.new.reader.pass result }
 {
     let refreshed = refresh_one(shared, rt, &mut worker.reader, &mut worker.gate);

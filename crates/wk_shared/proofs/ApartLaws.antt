@@ -13,10 +13,10 @@ use Rattle.wk_expand.specs.Answers.{answer_of, read_with}
 use Rattle.wk_expand.specs.Drafts.{DraftShown}
 use Rattle.wk_expand.specs.Machines.{MachineShown}
 use Rattle.wk_expand.specs.declared.answer.Answer as code
-use Rattle.wk_turn.specs.Told.{Begun, IsOf, Story}
+use Rattle.wk_turn.specs.Told.{Begun, Story}
 use Rattle.wk_turn.proofs.Lists.{prefix_length}
 use Rattle.wk_shared.specs.Answers.{FetchTold}
-use Rattle.wk_shared.specs.Calls.{AddsOwn, HasSeen, IsMadeAt, LeavesOut}
+use Rattle.wk_shared.specs.Calls.{AddsOwn, HasSeen, IsFree, IsMadeAt, LeavesOut}
 use Rattle.wk_read_laws.specs.Points.{AreReadSince, IsReadSince}
 use Rattle.wk_read_laws.proofs.PointLaws.{reads-among, reads-later, reads-more, reads-none}
 use Rattle.wk_shared.specs.Apart.{AreAnsweredSince, HasAsked, IsDraftSince}
@@ -95,8 +95,8 @@ module _ {E : Type 0} (shared : Begun Start) (old new : Pass) (title : PageTitle
 -- ---- what is made of answers
 
 -- nothing was asked yet
-pub asked-none : (shared : Begun Start) (pass : Pass) → IsOf shared pass → pass.held ≡ None → HasAsked shared pass pass
-asked-none shared pass of free = record { read = read-none shared pass of free; tickets = λ ticket holds. holds }
+pub asked-none : (shared : Begun Start) (pass : Pass) → IsFree shared pass → HasAsked shared pass pass
+asked-none shared pass is = record { read = read-none shared pass is; tickets = λ ticket holds. holds }
 
 pub answered-none : (shared : Begun Start) (pass : Pass) (answers : List Read) → answers ≡ [] → AreAnsweredSince shared pass pass answers
 answered-none shared pass answers none = subst (AreReadSince shared.start pass.seen (length pass.seen)) (sym none) (reads-none shared.start pass.seen (length pass.seen))

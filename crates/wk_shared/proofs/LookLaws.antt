@@ -7,6 +7,7 @@ use Rattle.wk_life_laws.specs.Runs.{IsRun}
 use Rattle.wk_core.specs.Seen.{WikiSeen}
 use Rattle.wk_turn.specs.Told.{Begun, IsOf, Story}
 use Rattle.wk_turn.proofs.Lists.{prefix_self, prefix_trans}
+use Rattle.wk_shared.specs.Calls.{IsFree}
 use Rattle.wk_shared.specs.Looks.{HasLooked, HasRead, IsTakenToLook}
 
 abbrev pub Pass : Type 0
@@ -48,8 +49,8 @@ module _ {K : Type 0} (shared : Begun Start) (old mid : Pass) (wiki : WikiSeen K
     pub looked-as : HasLooked shared old new wiki.state
     looked-as = looked new back-as
 
-pub read-none : (shared : Begun Start) (pass : Pass) → IsOf shared pass → pass.held ≡ None → HasRead shared pass pass
-read-none shared pass of free = record { turn = of; free = free; seen = prefix_self pass.seen; own = λ i. pass.own }
+pub read-none : (shared : Begun Start) (pass : Pass) → IsFree shared pass → HasRead shared pass pass
+read-none shared pass is = record { turn = is.turn; free = is.free; seen = prefix_self pass.seen; own = λ i. pass.own }
 
 pub read-both : (shared : Begun Start) (one two three : Pass) → HasRead shared one two → HasRead shared two three → HasRead shared one three
 read-both shared one two three first later = record {

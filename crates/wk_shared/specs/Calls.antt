@@ -23,9 +23,10 @@ seen_by start pass = record { start = start; journal = pass.seen; own = pass.own
 abbrev pub state_by : Start → Story Start Event → ℕ → Option State
 state_by start pass point = state_seen (seen_by start pass) point
 
--- the pass is of this shared wiki, and hasn't taken it
-abbrev pub IsFree : Begun Start → Story Start Event → Type 0
-IsFree shared pass = IsOf shared pass × (pass.held ≡ None)
+-- The pass is of what is shared here, and hasn't taken it. A wiki and a replica are shared so.
+pub record IsFree {S E : Type 0} (shared : Begun S) (pass : Story S E) : Type 0 where
+  pub turn : IsOf shared pass
+  pub free : pass.held ≡ None
 
 -- ---- tickets and drafts
 

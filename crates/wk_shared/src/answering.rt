@@ -34,7 +34,7 @@ impl<K: Keeper, R: Wait> Answering<R> for Shared<K> {
     /// What the caller knows of the wiki.
     type Pass = Pass<Wiki<K>>;
 
-    ghost ready = { IsFree };
+    ghost ready = { λ shared pass. IsFree shared pass };
 
     ghost leaves = { HasAsked };
 

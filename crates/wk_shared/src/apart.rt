@@ -1,7 +1,7 @@
 //! Drafts that are made without the turn: each answer is fetched under a turn of its own.
-ghost use Rattle.std.specs.Prelude.{◌≡◌, IfOk, None};
+ghost use Rattle.std.specs.Prelude.{IfOk};
 ghost use Rattle.wk_expand.specs.Steps.{given_text};
-ghost use Rattle.wk_turn.specs.Told.{IsOf};
+ghost use Rattle.wk_shared.specs.Calls.{IsFree};
 ghost use Rattle.wk_shared.specs.Apart.{IsDraftSince};
 ghost use Rattle.wk_shared.specs.Looks.{HasRead, KeepsTickets};
 
@@ -28,8 +28,7 @@ pub fn draft_apart<K: Keeper, R: Wait, G: Gate>(
     root: &Root,
     gate: &mut G,
 ) -> Result<Draft, Memory>
-    requires turn { IsOf shared.now pass.old }
-    requires free { pass.old.held ≡ None }
+    requires { IsFree shared.now pass.old }
     ensures pass { HasRead shared.now pass.old pass.new }
     ensures tickets { KeepsTickets shared.now.start pass.old pass.new }
     ensures draft { IfOk result (IsDraftSince shared.now.start pass.old pass.new title.now (given_text root.now)) }

@@ -1,6 +1,7 @@
 //! Taking the wiki for a call, and giving it back.
-ghost use Rattle.std.specs.Prelude.{◌≡◌, None, Some};
+ghost use Rattle.std.specs.Prelude.{◌≡◌, Some};
 ghost use Rattle.wk_turn.specs.Told.{IsOf};
+ghost use Rattle.wk_shared.specs.Calls.{IsFree};
 ghost use Rattle.wk_shared.specs.Desk.{IsGiven, IsTaken, MakesAtMostOne, TellsOf};
 
 use crate::shared::Shared;
@@ -11,8 +12,7 @@ use wk_turn::{Held, Pass};
 impl<K: Keeper> Shared<K> {
     /// Waits for the turn and takes the wiki. No memory.
     pub(crate) fn take_wiki<R: Wait>(&self, rt: &R, pass: &mut Pass<Wiki<K>>) -> Held<Wiki<K>>
-        requires turn { IsOf self.now pass.old }
-        requires free { pass.old.held ≡ None }
+        requires { IsFree self.now pass.old }
         ensures taken { IsTaken self.now pass.old pass.new result.value }
         ensures before { result.before.value ≡ result.value }
         ensures keeper { TellsOf K.is_whole K.faults result.value.start result.value.keeper }

@@ -1,9 +1,9 @@
 //! Answers that are drafted anew.
-ghost use Rattle.std.specs.Prelude.{◌≡◌, ℕ, IfOk, IfSome, length, None};
+ghost use Rattle.std.specs.Prelude.{◌≡◌, ℕ, IfOk, IfSome, length};
 ghost use Rattle.wk_wiki_rules.specs.States.{State, world_of};
 ghost use Rattle.wk_wiki_rules.specs.Passes.{shown_number};
 ghost use Rattle.wk_expand.specs.Steps.{given_text};
-ghost use Rattle.wk_turn.specs.Told.{IsOf};
+ghost use Rattle.wk_shared.specs.Calls.{IsFree};
 ghost use Rattle.wk_read_laws.specs.Points.{AreReadSince};
 ghost use Rattle.wk_shared.specs.Looks.{HasLooked, HasRead, IsPresentRead, TellsCurrent};
 
@@ -29,8 +29,7 @@ fn look_behind<K: Keeper, R: Wait>(
     draft: &SharedDraft,
     root: &Root,
 ) -> Found
-    requires turn { IsOf shared.now pass.old }
-    requires free { pass.old.held ≡ None }
+    requires free { IsFree shared.now pass.old }
     requires given { draft.now.given ≡ given_text root.now }
     requires since { (from : ℕ) × AreReadSince shared.now.start pass.old.seen from draft.now.reads }
     ensures point { result.point ≡ length pass.new.seen }
@@ -52,8 +51,7 @@ fn accept<K: Keeper, R: Wait>(
     draft: SharedDraft,
     root: &Root,
 ) -> Option<PageRead>
-    requires turn { IsOf shared.now pass.old }
-    requires free { pass.old.held ≡ None }
+    requires free { IsFree shared.now pass.old }
     requires given { draft.given ≡ given_text root.now }
     requires since { (from : ℕ) × AreReadSince shared.now.start pass.old.seen from draft.reads }
     ensures pass { HasRead shared.now pass.old pass.new }
@@ -83,8 +81,7 @@ fn try_draft<K: Keeper, R: Wait, G: Gate>(
     root: &Root,
     gate: &mut G,
 ) -> Result<Option<PageRead>, Memory>
-    requires turn { IsOf shared.now pass.old }
-    requires free { pass.old.held ≡ None }
+    requires { IsFree shared.now pass.old }
     ensures pass { HasRead shared.now pass.old pass.new }
     ensures read { IfOk result (λ read. IfSome read (IsPresentRead shared.now pass.new title.now (given_text root.now))) }
 {
@@ -103,8 +100,7 @@ fn drafted_held<K: Keeper, R: Wait>(
     title: &Title,
     root: &Root,
 ) -> Result<PageRead, Memory>
-    requires turn { IsOf shared.now pass.old }
-    requires free { pass.old.held ≡ None }
+    requires { IsFree shared.now pass.old }
     ensures pass { HasRead shared.now pass.old pass.new }
     ensures read { IfOk result (IsPresentRead shared.now pass.new title.now (given_text root.now)) }
 {
@@ -128,8 +124,7 @@ pub fn drafted<K: Keeper, R: Wait, G: Gate>(
     root: &Root,
     gate: &mut G,
 ) -> Result<PageRead, Memory>
-    requires turn { IsOf shared.now pass.old }
-    requires free { pass.old.held ≡ None }
+    requires { IsFree shared.now pass.old }
     ensures pass { HasRead shared.now pass.old pass.new }
     ensures read { IfOk result (IsPresentRead shared.now pass.new title.now (given_text root.now)) }
 {

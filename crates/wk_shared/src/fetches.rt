@@ -1,8 +1,6 @@
 //! What is asked of the present.
-ghost use Rattle.std.specs.Prelude.{◌≡◌, None};
-ghost use Rattle.wk_turn.specs.Told.{IsOf};
 ghost use Rattle.wk_shared.specs.Answers.{FetchTold};
-ghost use Rattle.wk_shared.specs.Calls.{HasSeen, IsMadeAt};
+ghost use Rattle.wk_shared.specs.Calls.{HasSeen, IsFree, IsMadeAt};
 
 use crate::shared::Shared;
 use std::sync::Wait;
@@ -21,8 +19,7 @@ impl<K: Keeper> Shared<K> {
         title: &Title,
         kind: Kind,
     ) -> (Result<Answer, Memory>, u64)
-        requires turn { IsOf self.now pass.old }
-        requires free { pass.old.held ≡ None }
+        requires { IsFree self.now pass.old }
         ensures pass { HasSeen self.now pass.old pass.new result.1 }
         ensures call { IsMadeAt self.now.start pass.old pass.new (FetchTold title.now kind result.0) }
     {

@@ -1,8 +1,7 @@
 //! Refresh jobs and fan jobs.
-ghost use Rattle.std.specs.Prelude.{◌≡◌, None, IfOk, IfSome};
-ghost use Rattle.wk_turn.specs.Told.{IsOf};
+ghost use Rattle.std.specs.Prelude.{◌≡◌, IfOk, IfSome};
 ghost use Rattle.wk_shared.specs.Answers.{BackTold, ClaimTold, FanTold, FinishTold};
-ghost use Rattle.wk_shared.specs.Calls.{HasSeen, HoldsDraft, HoldsTicket, IsMadeAt, MayFail};
+ghost use Rattle.wk_shared.specs.Calls.{HasSeen, HoldsDraft, HoldsTicket, IsFree, IsMadeAt, MayFail};
 
 use crate::shared::Shared;
 use std::sync::Wait;
@@ -17,8 +16,7 @@ impl<K: Keeper> Shared<K> {
         rt: &R,
         pass: &mut Pass<Wiki<K>>,
     ) -> (Result<Option<Ticket>, ClaimRefusal>, u64)
-        requires turn { IsOf self.now pass.old }
-        requires free { pass.old.held ≡ None }
+        requires { IsFree self.now pass.old }
         ensures pass { HasSeen self.now pass.old pass.new result.1 }
         ensures call { IsMadeAt self.now.start pass.old pass.new (ClaimTold result.0) }
         ensures ticket { IfOk result.0 (λ ticket. IfSome ticket (HoldsTicket self.now.start pass.new)) }
@@ -38,8 +36,7 @@ impl<K: Keeper> Shared<K> {
         ticket: Ticket,
         draft: Draft,
     ) -> (Finished, u64)
-        requires turn { IsOf self.now pass.old }
-        requires free { pass.old.held ≡ None }
+        requires free { IsFree self.now pass.old }
         requires ticket { HoldsTicket self.now.start pass.old ticket }
         requires draft { HoldsDraft self.now.start pass.old ticket draft }
         ensures pass { HasSeen self.now pass.old pass.new result.1 }
@@ -55,8 +52,7 @@ impl<K: Keeper> Shared<K> {
     /// Gives back a ticket that the pass holds, and tells the point: its job is queued again, behind all others. It takes
     /// no memory. It waits.
     pub fn give_back<R: Wait>(&self, rt: &R, pass: &mut Pass<Wiki<K>>, ticket: Ticket) -> u64
-        requires turn { IsOf self.now pass.old }
-        requires free { pass.old.held ≡ None }
+        requires free { IsFree self.now pass.old }
         requires ticket { HoldsTicket self.now.start pass.old ticket }
         ensures pass { HasSeen self.now pass.old pass.new result }
         ensures call { IsMadeAt self.now.start pass.old pass.new (BackTold ticket.ticket) }
@@ -72,8 +68,7 @@ impl<K: Keeper> Shared<K> {
         rt: &R,
         pass: &mut Pass<Wiki<K>>,
     ) -> (Result<Option<Fanned>, FanRefusal>, u64)
-        requires turn { IsOf self.now pass.old }
-        requires free { pass.old.held ≡ None }
+        requires { IsFree self.now pass.old }
         ensures pass { HasSeen self.now pass.old pass.new result.1 }
         ensures call { IsMadeAt self.now.start pass.old pass.new (FanTold result.0) }
         ensures fault { result.0 ≡ Err FanRefusal.StoreFault → MayFail self.now.start }

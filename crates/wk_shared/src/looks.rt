@@ -3,7 +3,7 @@ ghost use Rattle.std.specs.Prelude.{◌≡◌, ℕ, false, IfOk, IfSome, IsSome,
 ghost use Rattle.wk_wiki_rules.specs.States.{State, world_of};
 ghost use Rattle.wk_wiki_rules.specs.Passes.{shown_number};
 ghost use Rattle.wk_wiki_rules.specs.Staleness.{first_stale};
-ghost use Rattle.wk_turn.specs.Told.{IsOf};
+ghost use Rattle.wk_shared.specs.Calls.{IsFree};
 ghost use Rattle.wk_expand.specs.Steps.{given_text};
 ghost use Rattle.wk_live.specs.Drafted.{IsPresent};
 ghost use Rattle.wk_read_laws.specs.Points.{AreReadSince};
@@ -71,8 +71,7 @@ pub fn look_at<K: Keeper, R: Wait>(
     pass: &mut Pass<Wiki<K>>,
     draft: &Draft,
 ) -> Found
-    requires turn { IsOf shared.now pass.old }
-    requires free { pass.old.held ≡ None }
+    requires { IsFree shared.now pass.old }
     ensures point { result.point ≡ length pass.new.seen }
     ensures looked { (state : State) × HasLooked shared.now pass.old pass.new state
         × (result.id ≡ shown_number state.history draft.now.page)
@@ -86,8 +85,7 @@ pub fn look_at<K: Keeper, R: Wait>(
 
 /// Looks how far the journal has come. It waits. No memory.
 pub fn look<K: Keeper, R: Wait>(shared: &Shared<K>, rt: &R, pass: &mut Pass<Wiki<K>>) -> u64
-    requires turn { IsOf shared.now pass.old }
-    requires free { pass.old.held ≡ None }
+    requires { IsFree shared.now pass.old }
     ensures point { result ≡ length pass.new.seen }
     ensures looked { (state : State) × HasLooked shared.now pass.old pass.new state }
 {
@@ -134,8 +132,7 @@ pub fn draft_held<K: Keeper, R: Wait>(
     title: &Title,
     root: &Root,
 ) -> (Result<SharedDraft, Memory>, u32)
-    requires turn { IsOf shared.now pass.old }
-    requires free { pass.old.held ≡ None }
+    requires { IsFree shared.now pass.old }
     ensures { (state : State) × HasLooked shared.now pass.old pass.new state
         × (result.1 ≡ shown_number state.history title.now)
         × IfOk result.0 (IsPresent (world_of state) title.now (given_text root.now)) }
@@ -155,8 +152,7 @@ pub fn look_and_keep<K: Keeper, R: Wait>(
     pass: &mut Pass<Wiki<K>>,
     draft: &SharedDraft,
 ) -> Found
-    requires turn { IsOf shared.now pass.old }
-    requires free { pass.old.held ≡ None }
+    requires free { IsFree shared.now pass.old }
     requires own_text { draft.now.given ≡ None }
     requires since { (from : ℕ) × AreReadSince shared.now.start pass.old.seen from draft.now.reads }
     ensures point { result.point ≡ length pass.new.seen }
@@ -181,8 +177,7 @@ pub fn look_for<K: Keeper, R: Wait>(
     title: &Title,
     own: &Draft,
 ) -> (Sought, u64)
-    requires turn { IsOf shared.now pass.old }
-    requires free { pass.old.held ≡ None }
+    requires { IsFree shared.now pass.old }
     ensures point { result.1 ≡ length pass.new.seen }
     ensures looked { (state : State) × HasLooked shared.now pass.old pass.new state
         × IsLookedFor shared.now pass.new state title.now own.now result.0 }
@@ -201,8 +196,7 @@ pub fn look_new<K: Keeper, R: Wait>(
     pass: &mut Pass<Wiki<K>>,
     title: &Title,
 ) -> (Option<Kept>, u64)
-    requires turn { IsOf shared.now pass.old }
-    requires free { pass.old.held ≡ None }
+    requires { IsFree shared.now pass.old }
     ensures point { result.1 ≡ length pass.new.seen }
     ensures read { HasRead shared.now pass.old pass.new }
     ensures kept { IfSome result.0 (λ kept. IsPresentRead shared.now pass.new title.now None (kept_read kept) × (kept.uses ≡ 0)) }

@@ -1,6 +1,7 @@
 //! Taking the wiki to look at it, and giving it back.
 ghost use Rattle.std.specs.Prelude.{◌≡◌, None, Some};
 ghost use Rattle.wk_turn.specs.Told.{IsOf};
+ghost use Rattle.wk_shared.specs.Calls.{IsFree};
 ghost use Rattle.wk_shared.specs.Looks.{IsTakenToLook};
 
 use crate::{Held, Pass, Shared};
@@ -13,8 +14,7 @@ pub fn take<K: Keeper, R: Wait>(
     rt: &R,
     pass: &mut Pass<Wiki<K>>,
 ) -> Held<Wiki<K>>
-    requires turn { IsOf shared.now pass.old }
-    requires free { pass.old.held ≡ None }
+    requires { IsFree shared.now pass.old }
     ensures taken { IsTakenToLook shared.now pass.old pass.new result.value }
     ensures before { result.before.value ≡ result.value }
 {

@@ -2,9 +2,8 @@
 ghost use Rattle.std.specs.Prelude.{◌≡◌, None};
 ghost use Rattle.wk_revs.specs.Edit.{edit_asked};
 ghost use Rattle.wk_wiki_rules.specs.SaveOutcomes.{deletion};
-ghost use Rattle.wk_turn.specs.Told.{IsOf};
 ghost use Rattle.wk_shared.specs.Answers.{SaveTold};
-ghost use Rattle.wk_shared.specs.Calls.{HasSeen, IsMadeAt, MayFail};
+ghost use Rattle.wk_shared.specs.Calls.{HasSeen, IsFree, IsMadeAt, MayFail};
 
 use crate::shared::Shared;
 use std::sync::Wait;
@@ -22,8 +21,7 @@ impl<K: Keeper> Shared<K> {
         edit: &Edit,
         now: u64,
     ) -> (Result<Saved, SaveRefusal>, u64)
-        requires turn { IsOf self.now pass.old }
-        requires free { pass.old.held ≡ None }
+        requires free { IsFree self.now pass.old }
         requires unsealed { self.now.start.sealed ≡ None }
         ensures pass { HasSeen self.now pass.old pass.new result.1 }
         ensures call { IsMadeAt self.now.start pass.old pass.new (SaveTold (edit_asked edit.now) now result.0) }
@@ -45,8 +43,7 @@ impl<K: Keeper> Shared<K> {
         base: Option<u64>,
         now: u64,
     ) -> (Result<Saved, SaveRefusal>, u64)
-        requires turn { IsOf self.now pass.old }
-        requires free { pass.old.held ≡ None }
+        requires free { IsFree self.now pass.old }
         requires unsealed { self.now.start.sealed ≡ None }
         ensures pass { HasSeen self.now pass.old pass.new result.1 }
         ensures call { IsMadeAt self.now.start pass.old pass.new (SaveTold (deletion title.now base) now result.0) }

@@ -4,6 +4,7 @@ ghost use mathlib.Core.List.{IsPrefix};
 ghost use Rattle.wk_wiki_rules.specs.Entries.{closes};
 ghost use Rattle.wk_turn.specs.Journal.{AreOwn, ClosesOwn, IsOpen, added, longer};
 ghost use Rattle.wk_turn.specs.Told.{IsOf};
+ghost use Rattle.wk_shared.specs.Calls.{IsFree};
 
 use std::marker::Model;
 use std::sync::Wait;
@@ -58,8 +59,7 @@ impl<K: Keeper> Shared<K> {
     /// Takes in another pass: what it has seen, where that is more, and its entries, which are others than
     /// those of `pass`. What either left open is still open. It waits for nobody. No memory.
     pub fn join(&self, pass: &mut Pass<Wiki<K>>, other: Pass<Wiki<K>>)
-        requires turn { IsOf self.now pass.old × IsOf self.now other }
-        requires free { (pass.old.held ≡ None) × (other.held ≡ None) }
+        requires { IsFree self.now pass.old × IsFree self.now other }
         ensures pass { pass.new ≡ record pass.old
             { seen = longer pass.old.seen other.seen; own = pass.old.own ++ other.own } }
         ensures seen { IsPrefix pass.old.seen pass.new.seen × IsPrefix other.seen pass.new.seen }
@@ -76,8 +76,7 @@ impl<K: Keeper> Shared<K> {
     /// Waits for the turn and takes the wiki. Its journal begins with all that the pass has seen, and what
     /// the pass left open is still open. No memory.
     pub fn enter<R: Wait>(&self, rt: &R, pass: &mut Pass<Wiki<K>>) -> Held<Wiki<K>>
-        requires turn { IsOf self.now pass.old }
-        requires free { pass.old.held ≡ None }
+        requires { IsFree self.now pass.old }
         ensures pass { pass.new ≡ record pass.old { held = Some result.value.journal } }
         ensures before { result.before.value ≡ result.value }
         ensures start { result.value.start ≡ self.now.start }
@@ -112,8 +111,7 @@ impl<K: Keeper> Shared<K> {
     /// Waits for the turn, and keeps the wiki. Its journal begins with all that the pass has seen, and what the pass left
     /// open is still open. No memory.
     pub fn finish<R: Wait>(self, rt: &R, pass: Pass<Wiki<K>>) -> Wiki<K>
-        requires turn { IsOf self pass }
-        requires free { pass.held ≡ None }
+        requires { IsFree self pass }
         ensures start { result.start ≡ self.start }
         ensures seen { IsPrefix pass.seen result.journal }
         ensures own { AreOwn closes result.journal pass.own }

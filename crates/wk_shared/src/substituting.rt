@@ -1,6 +1,6 @@
 //! Texts that are transformed before a save without the turn: each answer is fetched under a turn of its own.
-ghost use Rattle.std.specs.Prelude.{◌≡◌, IfOk, length, None};
-ghost use Rattle.wk_turn.specs.Told.{IsOf};
+ghost use Rattle.std.specs.Prelude.{◌≡◌, IfOk, length};
+ghost use Rattle.wk_shared.specs.Calls.{IsFree};
 ghost use Rattle.wk_read_laws.specs.Points.{AreReadSince};
 ghost use Rattle.wk_shared.specs.Looks.{HasRead, KeepsTickets};
 
@@ -27,8 +27,7 @@ pub fn substituted_apart<K: Keeper, R: Wait, G: Gate>(
     text: &Text,
     gate: &mut G,
 ) -> Result<Substituted, Memory>
-    requires turn { IsOf shared.now pass.old }
-    requires free { pass.old.held ≡ None }
+    requires { IsFree shared.now pass.old }
     ensures pass { HasRead shared.now pass.old pass.new }
     ensures tickets { KeepsTickets shared.now.start pass.old pass.new }
     ensures saved { IfOk result (λ made. made.saved ≡ text.now) }

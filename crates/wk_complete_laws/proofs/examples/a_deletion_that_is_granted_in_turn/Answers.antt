@@ -5,11 +5,8 @@ use Rattle.wk_complete_laws.proofs.examples.a_deletion_that_is_granted_in_turn.G
 pub returns-clause-run : goal.returns-clause-run
 returns-clause-run c = refreshed-run
 
-pub returns-clause-turn : goal.returns-clause-turn
-returns-clause-turn c = λ turn. (refl, refl)
-
 pub returns-clause-free : goal.returns-clause-free
-returns-clause-free c = λ turn. refl
+returns-clause-free c = λ turn. record { turn = (refl, refl); free = refl }
 
 pub returns-clause-unsealed : goal.returns-clause-unsealed
 returns-clause-unsealed c = refl

@@ -5,11 +5,8 @@ use Rattle.wk_complete_laws.proofs.examples.a_refresh_that_is_current_in_turn.Go
 pub returns-clause-run : goal.returns-clause-run
 returns-clause-run c = claimed-run
 
-pub returns-clause-turn : goal.returns-clause-turn
-returns-clause-turn c = λ turn. (refl, refl)
-
 pub returns-clause-free : goal.returns-clause-free
-returns-clause-free c = λ turn. refl
+returns-clause-free c = λ turn. record { turn = (refl, refl); free = refl }
 
 pub returns-clause-ticket : goal.returns-clause-ticket
 returns-clause-ticket c = ticket-held

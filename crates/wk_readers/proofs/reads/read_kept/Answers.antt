@@ -6,7 +6,7 @@ pub returns-then-is_fresh : goal.returns-then-is_fresh
 returns-then-is_fresh g c =
     let fresh = c.is_fresh.ensures.fresh c.if-is_fresh.true in
     let point = c.point.ensures in
-    served-read c.args.shared.now c.args.title.now c.args.least c.args.reader.now c.serve.new.self c.serve.result c.requires.turn c.requires.free c.facts.ensures (record {
+    served-read c.args.shared.now c.args.title.now c.args.least c.args.reader.now c.serve.new.self c.serve.result c.requires.free c.facts.ensures (record {
       entry = c.args.kept;
       found = c.requires.entry;
       few = c.is_fresh.ensures.few c.if-is_fresh.true;

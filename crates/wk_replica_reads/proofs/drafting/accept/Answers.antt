@@ -15,7 +15,7 @@ accepted-read-requires-clause-since g c =
 
 pub returns-clause-pass : goal.returns-clause-pass
 returns-clause-pass g c =
-    looked-as c.args.shared.now c.args.pass.now c.take-held.new.pass c.take-held.result.value c.take-held.ensures.taken c.give.new.pass c.accepted-read.new.replica c.accepted-read.ensures.same c.give.ensures c.requires.turn
+    looked-as c.args.shared.now c.args.pass.now c.take-held.new.pass c.take-held.result.value c.take-held.ensures.taken c.give.new.pass c.accepted-read.new.replica c.accepted-read.ensures.same c.give.ensures c.requires.free.turn
 
 pub returns-clause-read : goal.returns-clause-read
 returns-clause-read g c =

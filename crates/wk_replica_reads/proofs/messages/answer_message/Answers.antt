@@ -8,7 +8,7 @@ use Rattle.wk_replica_reads.proofs.messages.answer_message.Goals as goal
 
 pub returns-then-status-ne200 : goal.returns-then-status-ne200
 returns-then-status-ne200 g c = record {
-  pass = read-none c.args.shared.now c.args.pass.now c.requires.turn c.requires.free;
+  pass = read-none c.args.shared.now c.args.pass.now c.requires;
   reply = bare (status_of (message_in c.args.message.now));
   replied = refused (λ is. c.if-status-ne200.true (c.status_of-status.ensures ∙ is));
   carried = bare-carried c.bare.result c.status_of-status.result (status_of (message_in c.args.message.now)) c.status_of-status.ensures c.bare.ensures;

@@ -11,7 +11,7 @@ use Rattle.wk_replica_reads.proofs.session.serve_all.Goals as goal
 pub messages-init : goal.messages-init
 messages-init g c = record {
   served = served-begun (seen_by c.args.shared.now c.args.pass.now) _ c.new-messages.result c.args.points.now.items c.new-messages.ensures c.requires.no_point;
-  free = (c.requires.turn, c.requires.free);
+  free = c.requires.free;
   few = (let none = ap (λ (r : Reading). r.total) c.new-messages.ensures in omega (arith, none));
   read_faults = refl;
   write_faults = refl;

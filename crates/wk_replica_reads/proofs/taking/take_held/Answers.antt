@@ -20,7 +20,7 @@ give_taken-requires-clause-journal g c =
 
 pub returns-clause-free : goal.returns-clause-free
 returns-clause-free g c =
-    done-free c.args.shared.now c.args.pass.now c.take-held.new.pass c.take-held.result.value c.take-held.ensures.taken c.take_here-taken.new.replica _ c.give_taken.new.pass c.take-held.ensures.before c.give_taken.ensures c.requires.turn
+    done-free c.args.shared.now c.args.pass.now c.take-held.new.pass c.take-held.result.value c.take-held.ensures.taken c.take_here-taken.new.replica _ c.give_taken.new.pass c.take-held.ensures.before c.give_taken.ensures c.requires.free.turn
 
 pub returns-clause-taken : goal.returns-clause-taken
 returns-clause-taken g c =

@@ -8,7 +8,7 @@ pub gathering-preserved : goal.gathering-preserved
 gathering-preserved g c =
     let inv = c.gathering.invariant in
     let joined = c.join.ensures.pass in (
-      ((ap (λ p. p.turn) joined ∙ inv.0.0.0, ap (λ p. p.start) joined ∙ inv.0.0.1), ap (λ p. p.held) joined ∙ inv.0.1),
+      record { turn = (ap (λ p. p.turn) joined ∙ inv.0.turn.0, ap (λ p. p.start) joined ∙ inv.0.turn.1); free = ap (λ p. p.held) joined ∙ inv.0.free },
       prefix_trans _ _ _ inv.1 c.join.ensures.seen.0,
       subst (All (λ w. IsFree c.args.shared.now w.reader.pass)) (sym c.in-Some.ensures.rest) (All-take (λ w. IsFree c.args.shared.now w.reader.pass) _ _ inv.2),
     )

@@ -41,10 +41,10 @@ returns-in-Some g c =
     let Call = ActTold fails parsed (c.args.moment ∷ []) c.in-Some.value in
     told-of c.args.shared.now fails c.args.reader.now.pass c.give-point.new.reader.pass c.give-point.result
     (has-seen g.K.Keeper.told c.args.shared.now c.args.reader.now.pass c.take-held.new.reader.pass c.take-held.result.value c.act_with-acted.new.wiki taken _ _ _
-    c.requires.turn c.take-held.ensures.before c.give-point.ensures Call out)
+    c.requires.free.turn c.take-held.ensures.before c.give-point.ensures Call out)
     parsed (c.args.moment ∷ []) c.in-Some.value (one-moment (request_asked c.args.request.now) c.args.moment c.requires.asks)
     (is-made g.K.Keeper.told c.args.shared.now c.args.reader.now.pass c.take-held.new.reader.pass c.take-held.result.value c.act_with-acted.new.wiki taken _ _ _
-    c.requires.turn c.take-held.ensures.before c.give-point.ensures Call out)
+    c.requires.free.turn c.take-held.ensures.before c.give-point.ensures Call out)
 
 pub returns-in-None : goal.returns-in-None
 returns-in-None g c =
@@ -52,10 +52,10 @@ returns-in-None g c =
     let out = unchanged g.K.Keeper.told c.args.reader.now.pass.own c.take-held.result.value c.act_with-acted.new.wiki (c.in-Ok.ensures.stale c.in-None.is).0 in
     seen-read c.args.shared.now c.args.reader.now.pass c.give-point.new.reader.pass c.give-point.result
     (has-seen g.K.Keeper.told c.args.shared.now c.args.reader.now.pass c.take-held.new.reader.pass c.take-held.result.value c.act_with-acted.new.wiki taken _ _ _
-    c.requires.turn c.take-held.ensures.before c.give-point.ensures NothingTold out)
+    c.requires.free.turn c.take-held.ensures.before c.give-point.ensures NothingTold out)
     (own-kept c.args.shared.now c.args.reader.now.pass c.give-point.new.reader.pass NothingTold
     (is-made g.K.Keeper.told c.args.shared.now c.args.reader.now.pass c.take-held.new.reader.pass c.take-held.result.value c.act_with-acted.new.wiki taken _ _ _
-    c.requires.turn c.take-held.ensures.before c.give-point.ensures NothingTold out)
+    c.requires.free.turn c.take-held.ensures.before c.give-point.ensures NothingTold out)
     (λ start state point event told. told))
 
 pub returns-in-Err : goal.returns-in-Err
@@ -66,8 +66,8 @@ returns-in-Err g c =
     let out = unchanged g.K.Keeper.told c.args.reader.now.pass.own c.take-held.result.value c.act_with-acted.new.wiki c.in-Err.ensures.memory in
     starved c.args.shared.now fails c.args.reader.now.pass c.give-point.new.reader.pass c.give-point.result
     (has-seen g.K.Keeper.told c.args.shared.now c.args.reader.now.pass c.take-held.new.reader.pass c.take-held.result.value c.act_with-acted.new.wiki taken _ _ _
-    c.requires.turn c.take-held.ensures.before c.give-point.ensures NothingTold out)
+    c.requires.free.turn c.take-held.ensures.before c.give-point.ensures NothingTold out)
     parsed (c.args.moment ∷ []) c.no_memory.result
     (is-made g.K.Keeper.told c.args.shared.now c.args.reader.now.pass c.take-held.new.reader.pass c.take-held.result.value c.act_with-acted.new.wiki taken _ _ _
-    c.requires.turn c.take-held.ensures.before c.give-point.ensures NothingTold out)
+    c.requires.free.turn c.take-held.ensures.before c.give-point.ensures NothingTold out)
     (one-moment (request_asked c.args.request.now) c.args.moment c.requires.asks) c.no_memory.ensures.point c.no_memory.ensures.value

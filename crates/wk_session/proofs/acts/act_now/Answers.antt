@@ -26,10 +26,10 @@ returns-in-Ok g c =
     let Call = ActTold fails parsed (c.args.moment ∷ []) c.in-Ok.value in
     told-of c.args.shared.now fails c.args.reader.now.pass c.give-point.new.reader.pass c.give-point.result
     (has-seen g.K.Keeper.told c.args.shared.now c.args.reader.now.pass c.take-held.new.reader.pass c.take-held.result.value c.act-acted.new.wiki taken _ _ _
-    c.requires.turn c.take-held.ensures.before c.give-point.ensures Call out)
+    c.requires.free.turn c.take-held.ensures.before c.give-point.ensures Call out)
     parsed (c.args.moment ∷ []) c.in-Ok.value (one-moment (request_asked c.args.request.now) c.args.moment c.requires.asks)
     (is-made g.K.Keeper.told c.args.shared.now c.args.reader.now.pass c.take-held.new.reader.pass c.take-held.result.value c.act-acted.new.wiki taken _ _ _
-    c.requires.turn c.take-held.ensures.before c.give-point.ensures Call out)
+    c.requires.free.turn c.take-held.ensures.before c.give-point.ensures Call out)
 
 pub returns-in-Err : goal.returns-in-Err
 returns-in-Err g c =
@@ -39,8 +39,8 @@ returns-in-Err g c =
     let out = unchanged g.K.Keeper.told c.args.reader.now.pass.own c.take-held.result.value c.act-acted.new.wiki c.in-Err.ensures.memory in
     starved c.args.shared.now fails c.args.reader.now.pass c.give-point.new.reader.pass c.give-point.result
     (has-seen g.K.Keeper.told c.args.shared.now c.args.reader.now.pass c.take-held.new.reader.pass c.take-held.result.value c.act-acted.new.wiki taken _ _ _
-    c.requires.turn c.take-held.ensures.before c.give-point.ensures NothingTold out)
+    c.requires.free.turn c.take-held.ensures.before c.give-point.ensures NothingTold out)
     parsed (c.args.moment ∷ []) c.no_memory.result
     (is-made g.K.Keeper.told c.args.shared.now c.args.reader.now.pass c.take-held.new.reader.pass c.take-held.result.value c.act-acted.new.wiki taken _ _ _
-    c.requires.turn c.take-held.ensures.before c.give-point.ensures NothingTold out)
+    c.requires.free.turn c.take-held.ensures.before c.give-point.ensures NothingTold out)
     (one-moment (request_asked c.args.request.now) c.args.moment c.requires.asks) c.no_memory.ensures.point c.no_memory.ensures.value

@@ -8,7 +8,7 @@ use Rattle.wk_session.proofs.replies.answer_message.Goals as goal
 
 pub returns-then-status-ne200 : goal.returns-then-status-ne200
 returns-then-status-ne200 g c = record {
-  free = record { turn = c.requires.turn; free = c.requires.free };
+  free = c.requires.free;
   made = [];
   goes = goes-nowhere (seen_by c.args.shared.now.start c.args.worker.now.reader.pass);
   moments = [];

@@ -6,7 +6,7 @@ use Rattle.wk_session.proofs.Passing.{on-since, read-both, reads-none}
 use Rattle.wk_session.proofs.saves.subst_now.Goals as goal
 
 pub tries-init : goal.tries-init
-tries-init g c = reads-none c.args.shared.now c.args.worker.now.reader.pass c.requires.turn c.requires.free
+tries-init g c = reads-none c.args.shared.now c.args.worker.now.reader.pass c.requires.free
 
 pub returns-in-Some : goal.returns-in-Some
 returns-in-Some g c =

@@ -11,7 +11,7 @@ pub messages-init : goal.messages-init
 messages-init g c = record {
   served = served-begun (MayFail c.args.shared.now.start) (seen_by c.args.shared.now.start c.args.worker.now.reader.pass) _ c.new-messages.result c.args.points.now.items c.args.refreshes.now.items
       c.new-messages.ensures c.requires.no_point c.requires.no_refresh;
-  free = record { turn = c.requires.turn; free = c.requires.free };
+  free = c.requires.free;
   few = (let none = ap (λ (r : Reading). r.total) c.new-messages.ensures in omega (arith, none));
   read_faults = refl;
   write_faults = refl;

@@ -1,6 +1,5 @@
 use Rattle.std.proofs.Common.{◌≡◌, ◌+◌, ◌-◌, ◌*◌, ◌^◌, ◌<◌, length}
-use Rattle.wk_shared.specs.Calls.{MayFail, seen_by}
-use Rattle.wk_session.specs.Passes.{IsFree}
+use Rattle.wk_shared.specs.Calls.{IsFree, MayFail, seen_by}
 use Rattle.wk_session.specs.Serving.{HasServed}
 use Rattle.wk_session.proofs.session.serve_all.Given as goal
 

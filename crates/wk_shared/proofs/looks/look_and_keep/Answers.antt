@@ -27,7 +27,7 @@ returns-clause-looked g c =
     let found = c.found_in-found in
     let wiki = c.take-held.result.value in (
       wiki.state,
-      looked-as c.args.shared.now c.args.pass.now c.take-held.new.pass wiki c.take-held.ensures.taken c.requires.turn c.give.new.pass c.keep_found.new.wiki c.keep_found.ensures c.give.ensures,
+      looked-as c.args.shared.now c.args.pass.now c.take-held.new.pass wiki c.take-held.ensures.taken c.requires.free.turn c.give.new.pass c.keep_found.new.wiki c.keep_found.ensures c.give.ensures,
       found.ensures.id ∙ ap (λ (d : DraftShown). shown_number wiki.state.history d.page) c.draft-made.ensures,
       subst (λ (d : DraftShown). TellsCurrent (world_of wiki.state) d.reads found.result.current) c.draft-made.ensures found.ensures.current,
     )

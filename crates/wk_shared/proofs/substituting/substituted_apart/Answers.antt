@@ -5,7 +5,7 @@ use Rattle.wk_shared.proofs.ApartLaws.{agrees-none, answered-none, asked-none}
 use Rattle.wk_shared.proofs.substituting.substituted_apart.Goals as goal
 
 pub drafted_by-requires-clause-leaves : goal.drafted_by-requires-clause-leaves
-drafted_by-requires-clause-leaves g c = asked-none c.args.shared.now c.args.pass.now c.requires.turn c.requires.free
+drafted_by-requires-clause-leaves g c = asked-none c.args.shared.now c.args.pass.now c.requires
 
 pub drafted_by-requires-clause-answers : goal.drafted_by-requires-clause-answers
 drafted_by-requires-clause-answers g c = answered-none c.args.shared.now c.args.pass.now c.new-seen.result c.new-seen.ensures

@@ -8,13 +8,13 @@ use Rattle.wk_readers.proofs.ReaderLaws.{current-told, right-behind, right-marke
 use Rattle.wk_readers.proofs.reader.Reader.check.Goals as goal
 
 pub invariant_of-self : goal.invariant_of-self
-invariant_of-self g c = right-behind c.self.inside.pass c.self.inside.cache c.args.self.now c.self.view_is c.self.invariant c.args.shared.now c.look_for-sought.new.pass c.requires.turn c.look_for-sought.ensures.looked.1.read
+invariant_of-self g c = right-behind c.self.inside.pass c.self.inside.cache c.args.self.now c.self.view_is c.self.invariant c.args.shared.now c.look_for-sought.new.pass c.requires.free.turn c.look_for-sought.ensures.looked.1.read
 
 pub invariant_of-self-in-Shared : goal.invariant_of-self-in-Shared
-invariant_of-self-in-Shared g c = right-behind c.self.inside.pass c.self.inside.cache c.args.self.now c.self.view_is c.self.invariant c.args.shared.now c.look_for-sought.new.pass c.requires.turn c.look_for-sought.ensures.looked.1.read
+invariant_of-self-in-Shared g c = right-behind c.self.inside.pass c.self.inside.cache c.args.self.now c.self.view_is c.self.invariant c.args.shared.now c.look_for-sought.new.pass c.requires.free.turn c.look_for-sought.ensures.looked.1.read
 
 pub invariant_of-self-in-Nothing-1 : goal.invariant_of-self-in-Nothing-1
-invariant_of-self-in-Nothing-1 g c = right-behind c.self.inside.pass c.self.inside.cache c.args.self.now c.self.view_is c.self.invariant c.args.shared.now c.look_for-sought.new.pass c.requires.turn c.look_for-sought.ensures.looked.1.read
+invariant_of-self-in-Nothing-1 g c = right-behind c.self.inside.pass c.self.inside.cache c.args.self.now c.self.view_is c.self.invariant c.args.shared.now c.look_for-sought.new.pass c.requires.free.turn c.look_for-sought.ensures.looked.1.read
 
 pub invariant_of-self-in-Own : goal.invariant_of-self-in-Own
 invariant_of-self-in-Own g c =
@@ -22,7 +22,7 @@ invariant_of-self-in-Own g c =
     let seen = subst (λ (d : DraftShown). IsSeen d.reads) c.draft-made.ensures c.reads-reads.ensures.seen in
     let own = subst (λ s. IsLookedFor c.args.shared.now c.look_for-sought.new.pass looked.0 c.args.title.now c.draft-made.result.now s) c.in-Own.is looked.2 in
     let none = subst (λ (d : DraftShown). first_stale (world_of looked.0) d.reads ≡ None) c.draft-made.ensures own in
-    right-marked c.self.inside.pass c.self.inside.cache c.args.self.now c.self.view_is c.self.invariant c.args.shared.now c.requires.turn c.args.title.now c.args.kept c.requires.entry c.look_for-sought.new.pass looked.0 looked.1
+    right-marked c.self.inside.pass c.self.inside.cache c.args.self.now c.self.view_is c.self.invariant c.args.shared.now c.requires.free.turn c.args.title.now c.args.kept c.requires.entry c.look_for-sought.new.pass looked.0 looked.1
     c.look_for-sought.result.1 c.look_for-sought.ensures.point seen none c.set.new.self c.set.ensures
 
 pub returns-in-Own-clause-check : goal.returns-in-Own-clause-check
@@ -31,7 +31,7 @@ returns-in-Own-clause-check g c =
     let seen = subst (λ (d : DraftShown). IsSeen d.reads) c.draft-made.ensures c.reads-reads.ensures.seen in
     let own = subst (λ s. IsLookedFor c.args.shared.now c.look_for-sought.new.pass looked.0 c.args.title.now c.draft-made.result.now s) c.in-Own.is looked.2 in
     let none = subst (λ (d : DraftShown). first_stale (world_of looked.0) d.reads ≡ None) c.draft-made.ensures own in
-    current-told c.self.inside.pass c.self.inside.cache c.args.self.now c.self.view_is c.self.invariant c.args.shared.now c.requires.turn c.args.title.now c.args.kept c.requires.entry c.look_for-sought.new.pass looked.0 looked.1
+    current-told c.self.inside.pass c.self.inside.cache c.args.self.now c.self.view_is c.self.invariant c.args.shared.now c.requires.free.turn c.args.title.now c.args.kept c.requires.entry c.look_for-sought.new.pass looked.0 looked.1
     c.look_for-sought.result.1 c.look_for-sought.ensures.point seen none c.set.new.self c.set.ensures c.args.least c.if-point-least.false _ refl
 
 pub take_in-requires-clause-right : goal.take_in-requires-clause-right

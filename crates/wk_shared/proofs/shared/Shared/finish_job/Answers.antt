@@ -6,10 +6,10 @@ pub give_wiki-point-requires-clause-made : goal.give_wiki-point-requires-clause-
 give_wiki-point-requires-clause-made g c = makes g.K.Keeper.told c.args.self.now c.args.pass.now c.take_wiki-held.new.pass c.take_wiki-held.result.value c.finish-answer.new.self c.take_wiki-held.ensures.taken _ _ c.take_wiki-held.ensures.before (finish-made g.K.Keeper.told _ _ _ c.args.ticket.ticket c.args.draft.reads c.finish-answer.result c.finish-answer.ensures.event c.finish-answer.ensures.stale (c.take_wiki-held.ensures.taken.still_open _ c.requires.ticket.claim))
 
 pub returns-clause-pass : goal.returns-clause-pass
-returns-clause-pass g c = has-seen g.K.Keeper.told c.args.self.now c.args.pass.now c.take_wiki-held.new.pass c.take_wiki-held.result.value c.finish-answer.new.self c.take_wiki-held.ensures.taken _ _ _ c.requires.turn c.take_wiki-held.ensures.before c.give_wiki-point.ensures _ (finish-made g.K.Keeper.told _ _ _ c.args.ticket.ticket c.args.draft.reads c.finish-answer.result c.finish-answer.ensures.event c.finish-answer.ensures.stale (c.take_wiki-held.ensures.taken.still_open _ c.requires.ticket.claim))
+returns-clause-pass g c = has-seen g.K.Keeper.told c.args.self.now c.args.pass.now c.take_wiki-held.new.pass c.take_wiki-held.result.value c.finish-answer.new.self c.take_wiki-held.ensures.taken _ _ _ c.requires.free.turn c.take_wiki-held.ensures.before c.give_wiki-point.ensures _ (finish-made g.K.Keeper.told _ _ _ c.args.ticket.ticket c.args.draft.reads c.finish-answer.result c.finish-answer.ensures.event c.finish-answer.ensures.stale (c.take_wiki-held.ensures.taken.still_open _ c.requires.ticket.claim))
 
 pub returns-clause-call : goal.returns-clause-call
-returns-clause-call g c = is-made g.K.Keeper.told c.args.self.now c.args.pass.now c.take_wiki-held.new.pass c.take_wiki-held.result.value c.finish-answer.new.self c.take_wiki-held.ensures.taken _ _ _ c.requires.turn c.take_wiki-held.ensures.before c.give_wiki-point.ensures _ (finish-made g.K.Keeper.told _ _ _ c.args.ticket.ticket c.args.draft.reads c.finish-answer.result c.finish-answer.ensures.event c.finish-answer.ensures.stale (c.take_wiki-held.ensures.taken.still_open _ c.requires.ticket.claim))
+returns-clause-call g c = is-made g.K.Keeper.told c.args.self.now c.args.pass.now c.take_wiki-held.new.pass c.take_wiki-held.result.value c.finish-answer.new.self c.take_wiki-held.ensures.taken _ _ _ c.requires.free.turn c.take_wiki-held.ensures.before c.give_wiki-point.ensures _ (finish-made g.K.Keeper.told _ _ _ c.args.ticket.ticket c.args.draft.reads c.finish-answer.result c.finish-answer.ensures.event c.finish-answer.ensures.stale (c.take_wiki-held.ensures.taken.still_open _ c.requires.ticket.claim))
 
 pub finish-answer-requires-clause-out : goal.finish-answer-requires-clause-out
 finish-answer-requires-clause-out g c = out-taken c.args.self.now c.args.pass.now c.take_wiki-held.new.pass c.take_wiki-held.result.value c.take_wiki-held.ensures.taken c.args.ticket c.requires.ticket
