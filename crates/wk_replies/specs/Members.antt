@@ -1,7 +1,8 @@
 -- Members of an object with further ones.
-use Rattle.std.specs.Prelude.{ℕ, List, fold}
+use Rattle.std.specs.Prelude.{ℕ, List, codes, fold}
 use Rattle.std.specs.Borrow.{Bor}
-use Rattle.serde_json.specs.Data.{Data, Members, boolean, put, string}
+use Rattle.serde_json.specs.Data.{Data, Members, boolean, no_members, object, put, string}
+use Rattle.wk_text_rules.specs.Titles.{PageTitle, shown}
 use Rattle.wk_answer_rules.specs.Values.{Entries, integer, whole}
 use Rattle.wk_replies.specs.declared.members.Plain.{Plain}
 use Rattle.wk_replies.specs.declared.members.Plain.TheVariants.{Flag, Namespace, Number, Text}
@@ -20,3 +21,7 @@ plain_data (Text text) = string text.now
 -- the members with the rows of a table, put one after the other
 abbrev pub with_rows : Members → List (Bor (List ℕ) × Plain) → Members
 with_rows members rows = fold (λ all row. put row.0.now (plain_data row.1) all) members rows
+
+-- the object of a title's shown form and of the rows of a table
+abbrev pub titled : PageTitle → List (Bor (List ℕ) × Plain) → Data
+titled title rows = object (with_rows (put (codes "title") (string (shown title)) no_members) rows)

@@ -13,7 +13,8 @@ pub use errors::{
     bad_integer, bad_value, edit_conflict, error_reply, future_point, no_title, wiki_full,
 };
 pub use lists::{change_entry, listed, member_entry, page_entry, revision_entry};
+pub use members::{Plain, object, reply, reply_of};
 pub use pages::{PageShown, expanded, parsed};
 pub use saves::{SavedNumbers, changed, created, deleted, unchanged};
 pub use site::{Counts, site_info, tokens};
-pub use values::{array_value, title_value, titles_value};
+pub use values::{array_value, shown_text, title_value, titled, titles_value};

@@ -1,14 +1,15 @@
 //! Listings (MediaWiki's API:Backlinks, API:Embeddedin, API:Categorymembers, API:RecentChanges and API:Revisions; what a
 //! listing goes on by is own).
 ghost use Rattle.std.specs.Prelude.{◌≡◌, [], IfOk, OnOk, unwrap_or};
+ghost use Rattle.serde_json.specs.Data.{no_members};
 ghost use Rattle.serde_json.specs.View.{members_view, view};
 ghost use Rattle.wk_answer_rules.specs.Lists.{change_type, content_entries, continue_entries, deleted_entries, revision_entries};
 ghost use Rattle.wk_answer_rules.specs.Values.{object_of, reply_beside};
 ghost use Rattle.wk_replies.specs.Listed.{change_shown, first_of_revision, listed_entries, member_shown, page_shown};
 ghost use Rattle.wk_replies.specs.Members.{with_entries};
 
-use crate::members::{Plain, object_with, put, put_rows};
-use crate::values::shown_text;
+use crate::members::{Plain, members_of, object_with, put, put_rows};
+use crate::values::titled;
 use serde_json::{Map, Value};
 use std::alloc::Global;
 use wk_index::MemberPage;
@@ -16,43 +17,27 @@ use wk_memory::Memory;
 use wk_revs::Revision;
 use wk_title::Title;
 
-/// Puts a page's number and title.
-fn put_page(
-    alloc: Global,
-    members: &mut Map<String, Value>,
-    page: u32,
-    title: &Title,
-) -> Result<(), Memory>
-    ensures { OnOk result (members_view members.new.entries
-        ≡ with_entries (members_view members.old.entries) (page_shown page title.now)) }
-{
-    let text = shown_text(alloc, title)?;
-    let table = &[
-        ("pageid", Plain::Number(u64::from(page))),
-        ("ns", Plain::Namespace(title.ns())),
-        ("title", Plain::Text(text.as_str())),
-    ];
-    put_rows(alloc, members, table)
-}
-
 /// A page: its number and its title.
 pub fn page_entry(alloc: Global, page: u32, title: &Title) -> Result<Value, Memory>
     ensures { IfOk result (λ v. view v ≡ object_of (page_shown page title.now)) }
 {
-    let mut members = Map::new(alloc);
-    put_page(alloc, &mut members, page, title)?;
-    Ok(Value::Object(members))
+    let table = &[
+        ("pageid", Plain::Number(u64::from(page))),
+        ("ns", Plain::Namespace(title.ns())),
+    ];
+    titled(alloc, title, table)
 }
 
 /// A member of a category, whose page has this title: the prefix, and the page.
 pub fn member_entry(alloc: Global, member: &MemberPage, title: &Title) -> Result<Value, Memory>
     ensures { IfOk result (λ v. view v ≡ object_of (member_shown member.now title.now)) }
 {
-    let mut members = Map::new(alloc);
-    let prefix = &[("sortkeyprefix", Plain::Text(member.prefix.as_str()))];
-    put_rows(alloc, &mut members, prefix)?;
-    put_page(alloc, &mut members, member.page, title)?;
-    Ok(Value::Object(members))
+    let table = &[
+        ("sortkeyprefix", Plain::Text(member.prefix.as_str())),
+        ("pageid", Plain::Number(u64::from(member.page))),
+        ("ns", Plain::Namespace(title.ns())),
+    ];
+    titled(alloc, title, table)
 }
 
 /// What a revision does: a deletion has no text, and a page that was missing is new.
@@ -77,16 +62,15 @@ pub fn change_entry(
 ) -> Result<Value, Memory>
     ensures { IfOk result (λ v. view v ≡ object_of (change_shown number revision.now title.now)) }
 {
-    let mut members = Map::new(alloc);
-    let change = &[
-        ("oldrevid", Plain::Number(revision.parent())),
-        ("revid", Plain::Number(number)),
-        ("timestamp", Plain::Number(revision.moment())),
+    let table = &[
         ("type", Plain::Text(change_type(revision))),
+        ("timestamp", Plain::Number(revision.moment())),
+        ("revid", Plain::Number(number)),
+        ("pageid", Plain::Number(u64::from(revision.page()))),
+        ("oldrevid", Plain::Number(revision.parent())),
+        ("ns", Plain::Namespace(title.ns())),
     ];
-    put_rows(alloc, &mut members, change)?;
-    put_page(alloc, &mut members, revision.page(), title)?;
-    Ok(Value::Object(members))
+    titled(alloc, title, table)
 }
 
 /// The text of a revision, empty where it is a deletion.
@@ -131,24 +115,23 @@ fn put_content(
     Ok(())
 }
 
-/// Puts the numbers of a revision: the one before it, its own, its size in bytes and its moment.
-fn put_revision(
+/// The numbers of a revision: the one before it, its own, its size in bytes and its moment.
+fn revision_numbers(
     alloc: Global,
-    members: &mut Map<String, Value>,
     number: u64,
     revision: &Revision,
-) -> Result<(), Memory>
-    ensures { OnOk result (members_view members.new.entries
-        ≡ with_entries (members_view members.old.entries) (first_of_revision number revision.now)) }
+) -> Result<Map<String, Value>, Memory>
+    ensures { IfOk result (λ members. members_view members.entries
+        ≡ with_entries no_members (first_of_revision number revision.now)) }
 {
     let size = text_or_empty(revision).len() as u64;
     let table = &[
-        ("parentid", Plain::Number(revision.parent())),
-        ("revid", Plain::Number(number)),
-        ("size", Plain::Number(size)),
         ("timestamp", Plain::Number(revision.moment())),
+        ("size", Plain::Number(size)),
+        ("revid", Plain::Number(number)),
+        ("parentid", Plain::Number(revision.parent())),
     ];
-    put_rows(alloc, members, table)
+    members_of(alloc, table)
 }
 
 /// A revision of a page, with its text where that is asked for.
@@ -160,8 +143,7 @@ pub fn revision_entry(
 ) -> Result<Value, Memory>
     ensures { IfOk result (λ v. view v ≡ object_of (revision_entries content (number, revision.now))) }
 {
-    let mut members = Map::new(alloc);
-    put_revision(alloc, &mut members, number, revision)?;
+    let mut members = revision_numbers(alloc, number, revision)?;
     put_deleted(alloc, &mut members, revision)?;
     put_content(alloc, &mut members, revision, content)?;
     Ok(Value::Object(members))

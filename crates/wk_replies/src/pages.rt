@@ -1,6 +1,6 @@
 //! What is told of a page and of a text that are expanded (MediaWiki's API:Parsing wikitext and API:Expandtemplates; that
 //! links, categories and templates come in title order is own).
-ghost use Rattle.std.specs.Prelude.{◌≡◌, ◌∷◌, [], IfOk, OnOk, codes, map};
+ghost use Rattle.std.specs.Prelude.{◌≡◌, ◌∷◌, [], IfOk, OnOk, codes, map, string_bytes};
 ghost use Rattle.serde_json.specs.Data.{string};
 ghost use Rattle.serde_json.specs.View.{members_view, view};
 ghost use Rattle.wk_table_rows.specs.Members.{member_of};
@@ -9,7 +9,7 @@ ghost use Rattle.wk_answer_rules.specs.Values.{array_of, object_of, reply_beside
 ghost use Rattle.wk_replies.specs.Members.{with_entries};
 ghost use Rattle.wk_replies.specs.Shown.{first_entries, later_entries, page_data, page_of};
 
-use crate::members::{Plain, object, put, put_rows, reply, reply_of};
+use crate::members::{Plain, put, put_rows, reply, reply_of};
 use crate::values::{array_value, shown_text, title_value, titles_value};
 use serde_json::{Map, Value};
 use std::alloc::Global;
@@ -33,15 +33,14 @@ pub struct PageShown<'a> {
 }
 
 /// A category, and what a page in it asks to be sorted by.
-fn category_entry(alloc: Global, category: &str, sort_key: &str) -> Result<Value, Memory>
+fn category_entry(alloc: Global, category: String, sort_key: &str) -> Result<Value, Memory>
     ensures { IfOk result (λ v. view v
-        ≡ object_of ((codes "category", string category.now) ∷ (codes "sortkey", string sort_key.now) ∷ [])) }
+        ≡ object_of ((codes "category", string (string_bytes category)) ∷ (codes "sortkey", string sort_key.now) ∷ [])) }
 {
-    let table = &[
-        ("category", Plain::Text(category)),
-        ("sortkey", Plain::Text(sort_key)),
-    ];
-    object(alloc, table)
+    let mut members = Map::new(alloc);
+    put(alloc, &mut members, "category", Value::from(category))?;
+    put_rows(alloc, &mut members, &[("sortkey", Plain::Text(sort_key))])?;
+    Ok(Value::Object(members))
 }
 
 /// A category that a page is in: its key with spaces, and what the page asks to be sorted by.
@@ -50,7 +49,7 @@ fn category_value(alloc: Global, member: &(Title, Text, Text)) -> Result<Value, 
 {
     let (category, _, prefix) = member;
     let key = spaced(alloc, category.key())?;
-    category_entry(alloc, key.as_str(), prefix.as_str())
+    category_entry(alloc, key, prefix.as_str())
 }
 
 /// Categories that a page is in.
@@ -121,7 +120,7 @@ fn put_later(
         titles_value(alloc, &rows.templates)?,
     )?;
     let title = shown_text(alloc, page.title)?;
-    put_rows(alloc, members, &[("title", Plain::Text(title.as_str()))])
+    put(alloc, members, "title", Value::from(title))
 }
 
 /// What stands in the reply for a page.

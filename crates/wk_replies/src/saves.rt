@@ -6,8 +6,8 @@ ghost use Rattle.wk_answer_rules.specs.Saves.{delete_entries, edit_entries};
 ghost use Rattle.wk_answer_rules.specs.Values.{reply_beside};
 ghost use Rattle.wk_replies.specs.Shown.{numbers_of};
 
-use crate::members::{Plain, reply_of};
-use crate::values::shown_text;
+use crate::members::{Plain, reply};
+use crate::values::titled;
 use serde_json::Value;
 use std::alloc::Global;
 use wk_memory::Memory;
@@ -33,16 +33,14 @@ pub fn created(
 ) -> Result<Value, Memory>
     ensures { IfOk result (λ v. view v ≡ (reply_beside (edit_entries (created title.now (numbers_of numbers))) point).value) }
 {
-    let title = shown_text(alloc, title)?;
     let table = &[
-        ("new", Plain::Flag(true)),
-        ("newrevid", Plain::Number(numbers.new)),
-        ("oldrevid", Plain::Number(numbers.old)),
-        ("pageid", Plain::Number(u64::from(numbers.page))),
         ("result", Plain::Text("Success")),
-        ("title", Plain::Text(title.as_str())),
+        ("pageid", Plain::Number(u64::from(numbers.page))),
+        ("oldrevid", Plain::Number(numbers.old)),
+        ("newrevid", Plain::Number(numbers.new)),
+        ("new", Plain::Flag(true)),
     ];
-    reply_of(alloc, "edit", table, point)
+    reply(alloc, "edit", titled(alloc, title, table)?, point)
 }
 
 /// An edit of a page that existed.
@@ -54,29 +52,25 @@ pub fn changed(
 ) -> Result<Value, Memory>
     ensures { IfOk result (λ v. view v ≡ (reply_beside (edit_entries (changed title.now (numbers_of numbers))) point).value) }
 {
-    let title = shown_text(alloc, title)?;
     let table = &[
-        ("newrevid", Plain::Number(numbers.new)),
-        ("oldrevid", Plain::Number(numbers.old)),
-        ("pageid", Plain::Number(u64::from(numbers.page))),
         ("result", Plain::Text("Success")),
-        ("title", Plain::Text(title.as_str())),
+        ("pageid", Plain::Number(u64::from(numbers.page))),
+        ("oldrevid", Plain::Number(numbers.old)),
+        ("newrevid", Plain::Number(numbers.new)),
     ];
-    reply_of(alloc, "edit", table, point)
+    reply(alloc, "edit", titled(alloc, title, table)?, point)
 }
 
 /// An edit by a text that the page has already.
 pub fn unchanged(alloc: Global, title: &Title, page: u32, point: u64) -> Result<Value, Memory>
     ensures { IfOk result (λ v. view v ≡ (reply_beside (edit_entries (unchanged title.now page)) point).value) }
 {
-    let title = shown_text(alloc, title)?;
     let table = &[
-        ("nochange", Plain::Flag(true)),
-        ("pageid", Plain::Number(u64::from(page))),
         ("result", Plain::Text("Success")),
-        ("title", Plain::Text(title.as_str())),
+        ("pageid", Plain::Number(u64::from(page))),
+        ("nochange", Plain::Flag(true)),
     ];
-    reply_of(alloc, "edit", table, point)
+    reply(alloc, "edit", titled(alloc, title, table)?, point)
 }
 
 /// A deletion of a page, which existed.
@@ -88,11 +82,9 @@ pub fn deleted(
 ) -> Result<Value, Memory>
     ensures { IfOk result (λ v. view v ≡ (reply_beside (delete_entries (changed title.now (numbers_of numbers))) point).value) }
 {
-    let title = shown_text(alloc, title)?;
     let table = &[
-        ("oldrevid", Plain::Number(numbers.old)),
         ("revid", Plain::Number(numbers.new)),
-        ("title", Plain::Text(title.as_str())),
+        ("oldrevid", Plain::Number(numbers.old)),
     ];
-    reply_of(alloc, "delete", table, point)
+    reply(alloc, "delete", titled(alloc, title, table)?, point)
 }

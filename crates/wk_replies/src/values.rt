@@ -3,9 +3,10 @@ ghost use Rattle.std.specs.Prelude.{◌≡◌, IfOk, string_bytes, map};
 ghost use Rattle.serde_json.specs.View.{view};
 ghost use Rattle.wk_text_rules.specs.Titles.{shown};
 ghost use Rattle.wk_answer_rules.specs.Values.{object_of, title_entries, titles_value, array_of};
+ghost use Rattle.wk_replies.specs.Members.{titled};
 
-use crate::members::{Plain, object};
-use serde_json::Value;
+use crate::members::{Plain, put, put_rows};
+use serde_json::{Map, Value};
 use std::alloc::Global;
 use wk_memory::Memory;
 use wk_title::Title;
@@ -19,16 +20,23 @@ pub fn shown_text(alloc: Global, title: &Title) -> Result<String, Memory>
     Ok(text)
 }
 
+/// The object of a table and of the shown form of a title, under `title`. Rows whose names fall cost least: each name is
+/// then compared with the lowest of those that stand, and not with all.
+pub fn titled(alloc: Global, title: &Title, table: &[(&str, Plain<'_>)]) -> Result<Value, Memory>
+    ensures { IfOk result (λ v. view v ≡ titled title.now table.now) }
+{
+    let text = shown_text(alloc, title)?;
+    let mut members = Map::new(alloc);
+    put(alloc, &mut members, "title", Value::from(text))?;
+    put_rows(alloc, &mut members, table)?;
+    Ok(Value::Object(members))
+}
+
 /// A title: its namespace and its shown form.
 pub fn title_value(alloc: Global, title: &Title) -> Result<Value, Memory>
     ensures { IfOk result (λ v. view v ≡ object_of (title_entries title.now)) }
 {
-    let text = shown_text(alloc, title)?;
-    let table = &[
-        ("ns", Plain::Namespace(title.ns())),
-        ("title", Plain::Text(text.as_str())),
-    ];
-    object(alloc, table)
+    titled(alloc, title, &[("ns", Plain::Namespace(title.ns()))])
 }
 
 /// The array of these values.
