@@ -41,8 +41,7 @@ pub fn hired<K: Keeper, G: Gate + Copy>(
     ensures number { IfOk result (λ v. vec_len v ≡ max 1 count) }
 {
     let mut workers = Vec::new(alloc);
-    workers.push(worker(alloc, shared, pass, gate)?)?;
-    'hiring: for _ in 1..count {
+    'hiring: for _ in 0..count.max(1) {
         workers.push(worker(alloc, shared, pass, gate)?)?;
     }
     Ok(workers)
