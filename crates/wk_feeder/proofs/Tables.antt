@@ -58,10 +58,10 @@ all_tables old t =
     ∙ behind old (map of_page t.pages) r1
 
 -- the lines of a start: those of the rows of its tables, and then its own
-pub start-told : (before after lines : List ℕ) (t : StoreTables) (state : State) → before ≡ [] → t ≡ tables_of state → after ≡ before ++ feed_bytes (map row (rows_of_tables t))
-    → lines ≡ after ++ feed_bytes (start ∷ []) → lines ≡ feed_bytes (start_lines state)
-start-told before after lines t state none tables with_rows with_start =
-    with_start
-    ∙ ap (λ l. l ++ feed_bytes (start ∷ [])) (with_rows ∙ ap (λ l. l ++ feed_bytes (map row (rows_of_tables t))) none)
+pub start-told : (before lines : List ℕ) (t : StoreTables) (state : State) → before ≡ [] → t ≡ tables_of state
+    → lines ≡ (before ++ feed_bytes (map row (rows_of_tables t))) ++ feed_bytes (start ∷ []) → lines ≡ feed_bytes (start_lines state)
+start-told before lines t state none tables told =
+    told
+    ∙ ap (λ l. (l ++ feed_bytes (map row (rows_of_tables t))) ++ feed_bytes (start ∷ [])) none
     ∙ sym (bytes-append (map row (rows_of_tables t)) (start ∷ []))
     ∙ ap (λ (u : StoreTables). feed_bytes (map row (rows_of_tables u) ++ start ∷ [])) tables

@@ -1,6 +1,7 @@
 //! A line of a feed, made of its values.
 ghost use Rattle.std.specs.Prelude.{◌≡◌, ◌++◌, map, string_bytes, IfOk, OnOk};
 ghost use Rattle.serde_json.specs.View.{view};
+ghost use Rattle.serde_json.specs.Written.{compact_text};
 ghost use Rattle.wk_answer_rules.specs.Values.{array_of};
 ghost use Rattle.wk_feeder.specs.Cells.{data_of};
 ghost use Rattle.wk_feeder.specs.Bytes.{bytes_of_values};
@@ -46,12 +47,19 @@ fn cells_value(alloc: Global, cells: &[Cell<'_>]) -> Result<Value, Memory>
     Ok(array_value(values))
 }
 
+/// The line of these values, compact JSON (RFC 8259), without a newline.
+fn cells_text(alloc: Global, cells: &[Cell<'_>]) -> Result<String, Memory>
+    ensures { IfOk result (λ line. string_bytes line ≡ compact_text (array_of (map data_of cells.now))) }
+{
+    let value = cells_value(alloc, cells)?;
+    Ok(value.to_string(alloc)?)
+}
+
 /// Appends the line of these values, compact JSON (RFC 8259), and a newline.
 pub fn push_line(alloc: Global, cells: &[Cell<'_>], lines: &mut String) -> Result<(), Memory>
     ensures { OnOk result (string_bytes lines.new ≡ string_bytes lines.old ++ bytes_of_values (map data_of cells.now)) }
 {
-    let value = cells_value(alloc, cells)?;
-    let line = value.to_string(alloc)?;
+    let line = cells_text(alloc, cells)?;
     lines.push_str(&line)?;
     lines.push('\n')?;
     Ok(())

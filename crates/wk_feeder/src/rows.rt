@@ -209,6 +209,18 @@ fn push_page_tables(alloc: Global, rows: &TableRows, lines: &mut String) -> Resu
     push_rows::<Revisions>(alloc, &rows.revisions, lines)
 }
 
+/// Appends the lines of links: plain ones, inclusions, and tests of whether a page exists.
+fn push_link_rows(alloc: Global, rows: &TableRows, lines: &mut String) -> Result<(), Memory>
+    ensures { OnOk result (string_bytes lines.new ≡ ((string_bytes lines.old
+        ++ feed_bytes (map row (map of_pagelinks rows.now.pagelinks)))
+        ++ feed_bytes (map row (map of_templatelinks rows.now.templatelinks)))
+        ++ feed_bytes (map row (map of_existlinks rows.now.existlinks))) }
+{
+    push_rows::<Links>(alloc, &rows.pagelinks, lines)?;
+    push_rows::<Templates>(alloc, &rows.templatelinks, lines)?;
+    push_rows::<Tested>(alloc, &rows.existlinks, lines)
+}
+
 /// Appends the lines of the tables that name titles.
 fn push_link_tables(alloc: Global, rows: &TableRows, lines: &mut String) -> Result<(), Memory>
     ensures { OnOk result (string_bytes lines.new ≡ ((((string_bytes lines.old
@@ -218,9 +230,7 @@ fn push_link_tables(alloc: Global, rows: &TableRows, lines: &mut String) -> Resu
         ++ feed_bytes (map row (map of_categorylinks rows.now.categorylinks)))
         ++ feed_bytes (map row (map of_redirect rows.now.redirects))) }
 {
-    push_rows::<Links>(alloc, &rows.pagelinks, lines)?;
-    push_rows::<Templates>(alloc, &rows.templatelinks, lines)?;
-    push_rows::<Tested>(alloc, &rows.existlinks, lines)?;
+    push_link_rows(alloc, rows, lines)?;
     push_rows::<Categories>(alloc, &rows.categorylinks, lines)?;
     push_rows::<Redirects>(alloc, &rows.redirects, lines)
 }

@@ -1,9 +1,10 @@
 //! The lines of a wiki's start, and why a feed isn't written.
-ghost use Rattle.std.specs.Prelude.{◌≡◌, ◌≢◌, ◌≤◌, [], Err, IfOk, IsOkAnd, OnOk, string_bytes};
+ghost use Rattle.std.specs.Prelude.{◌≡◌, ◌≢◌, ◌≤◌, ◌++◌, ◌∷◌, [], map, Err, IfOk, IsOkAnd, OnOk, string_bytes};
 ghost use Rattle.std.specs.Io.KnownBytes.{Appends};
 ghost use Rattle.wk_base.specs.Faults.{Rose};
 ghost use Rattle.wk_base.specs.Writing.{AppendsPrefix};
-ghost use Rattle.wk_feed_rules.specs.Feeds.{start_lines};
+ghost use Rattle.wk_feed_rules.specs.Feeds.{rows_of_tables, start_lines};
+ghost use Rattle.wk_feed_rules.specs.Lines.{row, start};
 ghost use Rattle.wk_feeder.specs.Bytes.{feed_bytes};
 
 use crate::lines::{Cell, push_line};
@@ -13,6 +14,7 @@ use thiserror::Error;
 use wk_base::{Failed, Sink, write_all};
 use wk_core::{Keeper, Wiki};
 use wk_memory::Memory;
+use wk_tables::TableRows;
 use wk_wiki_laws::journals::calls_make_a_journal;
 
 /// Why a feed isn't written.
@@ -26,6 +28,15 @@ pub enum FeedRefusal {
     Memory,
 }
 
+/// Appends the lines of the rows of all tables, and then that of the start.
+fn push_start(alloc: Global, rows: &TableRows, lines: &mut String) -> Result<(), Memory>
+    ensures { OnOk result (string_bytes lines.new ≡ (string_bytes lines.old
+        ++ feed_bytes (map row (rows_of_tables rows.now))) ++ feed_bytes (start ∷ [])) }
+{
+    push_tables(alloc, rows, lines)?;
+    push_line(alloc, &[Cell::Text("start")], lines)
+}
+
 /// The lines of a wiki's tables, and of the start.
 fn lines_of_start<K: Keeper>(alloc: Global, wiki: &Wiki<K>) -> Result<String, Memory>
     requires { wiki.now.journal ≡ [] }
@@ -35,8 +46,7 @@ fn lines_of_start<K: Keeper>(alloc: Global, wiki: &Wiki<K>) -> Result<String, Me
     calls_make_a_journal();
     let rows = wiki.tables()?.rows()?;
     let mut lines = String::new(alloc);
-    push_tables(alloc, &rows, &mut lines)?;
-    push_line(alloc, &[Cell::Text("start")], &mut lines)?;
+    push_start(alloc, &rows, &mut lines)?;
     Ok(lines)
 }
 

@@ -1,15 +1,13 @@
 use Rattle.std.proofs.Common.{◌++◌, ◌∷◌, [], map, string_bytes, append_assoc, ap, ◌∙◌}
-use Rattle.serde_json.specs.Written.{compact_text, has_float}
+use Rattle.serde_json.specs.Written.{compact_text}
 use Rattle.wk_answer_rules.specs.Values.{array_of}
 use Rattle.wk_feeder.specs.Cells.{data_of}
-use Rattle.wk_feeder.proofs.Cells.{no_floats}
 use Rattle.wk_feeder.proofs.lines.push_line.Goals as goal
 
 pub returns : goal.returns
 unfolding lib.Utf8.encode
 returns c =
-    let seen = c.in_ok-value.ensures in
-    let text = c.in_ok-line.ensures.text (ap has_float seen ∙ no_floats c.args.cells.now) ∙ ap compact_text seen in
+    let text = c.in_ok-line.ensures in
     let before = string_bytes c.args.lines.now in
     c.in_ok-push.ensures.bytes
     ∙ ap (λ l. l ++ 10 ∷ []) (c.in_ok-push_str.ensures.bytes ∙ ap (λ l. before ++ l) (c.deref.ensures ∙ text))

@@ -1,4 +1,4 @@
-use Rattle.std.proofs.Common.{◌≡◌, ◌++◌, Some, ap, append-nil, string_bytes, sym, ◌∙◌}
+use Rattle.std.proofs.Common.{◌≡◌, Some, ap, sym, ◌∙◌}
 use Rattle.wk_wiki_rules.specs.Lives.{replay_by}
 use Rattle.wk_wiki_rules.specs.Steps.{fan_pages}
 use Rattle.wk_wiki_rules.specs.Tables.{tables_of}
@@ -11,6 +11,5 @@ returns g c =
     let done = c.calls_make_a_journal.ensures fan_pages wiki.start.limits wiki.start.state wiki.state wiki.journal c.facts.ensures.run.calls in
     let none : Some wiki.start.state ≡ Some wiki.state = sym (ap (replay_by fan_pages wiki.start.state) c.requires) ∙ done in
     let same : wiki.start.state ≡ wiki.state = cc in
-    start-told _ _ _ c.in_ok-rows.rows wiki.start.state c.new-lines.ensures.bytes (c.in_ok-rows.ensures ∙ c.in_ok-tables.ensures ∙ ap tables_of (sym same))
-    c.in_ok-push_tables.ensures
-    (c.in_ok-push_line.ensures ∙ ap (λ l. string_bytes c.push_tables.new.lines ++ l) (sym (append-nil _)))
+    start-told _ _ c.in_ok-rows.rows wiki.start.state c.new-lines.ensures.bytes (c.in_ok-rows.ensures ∙ c.in_ok-tables.ensures ∙ ap tables_of (sym same))
+    c.in_ok-push_start.ensures
