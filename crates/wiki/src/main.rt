@@ -86,6 +86,22 @@ fn tell_bad(rt: &HostRuntime, rule: u8, key: Option<RowKey>) -> io::Result<()> {
     eprintln!(rt; "the rule: {}", rule_text(rule))
 }
 
+/// Tells a status, and the row that breaks a rule of a good store, if one does.
+fn tell_status(rt: &HostRuntime, status: u8, bad: Option<BadRow>) -> io::Result<()> {
+    match bad {
+        Some(
+            BadRow {
+                store: BadStore { rule, row },
+                key,
+            },
+        ) => {
+            eprintln!(rt; "wiki: status {status} rule {rule} row {row}")?;
+            tell_bad(rt, rule, key)
+        }
+        None => eprintln!(rt; "wiki: status {status}"),
+    }
+}
+
 /// Tells a status that isn't 0 on the standard error: what is wrong with the words, if anything; the status with the bad
 /// row, if any; and what the status means.
 fn tell(rt: &HostRuntime, words: &[String], status: u8, bad: Option<BadRow>) -> io::Result<()> {
@@ -95,18 +111,7 @@ fn tell(rt: &HostRuntime, words: &[String], status: u8, bad: Option<BadRow>) -> 
     if let Ok(Some(text)) = refusal_text(rt.alloc(), words) {
         eprint!(rt; "{text}")?;
     }
-    match bad {
-        Some(
-            BadRow {
-                store: BadStore { rule, row },
-                key,
-            },
-        ) => {
-            eprintln!(rt; "wiki: status {status} rule {rule} row {row}")?;
-            tell_bad(rt, rule, key)?
-        }
-        None => eprintln!(rt; "wiki: status {status}")?,
-    }
+    tell_status(rt, status, bad)?;
     eprintln!(rt; "{}", meaning(status))
 }
 
@@ -173,6 +178,27 @@ fn tell_log(rt: &HostRuntime, closed: Result<Option<Closed>, SqlCause>) -> io::R
     }
 }
 
+/// Tells on the standard error what there is to tell of the end: why the store wasn't opened, why nobody can connect, the
+/// status and what it means, and why the store's log wasn't copied into its file.
+fn tell_end(
+    rt: &HostRuntime,
+    words: &[String],
+    said: Outside<'_>,
+    vault: &FileVault<'_>,
+    error: Option<io::Error>,
+    ended: Ended,
+) -> io::Result<()> {
+    let Ended {
+        status,
+        bad,
+        closed,
+    } = ended;
+    vault.tell_cause(said.store)?;
+    tell_door(rt, said.listen, error)?;
+    tell(rt, words, status, bad)?;
+    tell_log(rt, closed)
+}
+
 fn main(rt: HostRuntime) -> io::Result<ExitCode> {
     let words = words(&rt)?;
     let said = said_by(rt.alloc(), &words);
@@ -181,11 +207,7 @@ fn main(rt: HostRuntime) -> io::Result<ExitCode> {
     let mut output = WriteSink::new(io::writer(&rt));
     let mut clock = SystemClock::new(&rt);
     let mut door = TcpDoor::new(&rt);
-    let Ended {
-        status,
-        bad,
-        closed,
-    } = ran(
+    let ended = ran(
         &rt,
         rt.alloc(),
         &words,
@@ -195,9 +217,7 @@ fn main(rt: HostRuntime) -> io::Result<ExitCode> {
         &mut clock,
         &mut door,
     );
-    vault.tell_cause(said.store)?;
-    tell_door(&rt, said.listen, door.error())?;
-    tell(&rt, &words, status, bad)?;
-    tell_log(&rt, closed)?;
+    let status = ended.status;
+    tell_end(&rt, &words, said, &vault, door.error(), ended)?;
     Ok(ExitCode::from(status))
 }
