@@ -2,8 +2,8 @@
 
 What one line or message takes is the difference of a few and of many, sent to one process one behind the other: so its start,
 its opening of a store and what was sent before fall out. BENCH_SECONDS (120) is how long one count of instructions may take;
-behind it, and where valgrind isn't there, it is None, which a table shows as `-`. WIKI, PROBE and BENCH name other programs
-than those that fit the sources, which were built here or are the release, and are built first where there are none."""
+behind it, and where valgrind isn't there, it is None, which a table shows as `-`. WIKI, PROBE, BENCH and REPLICA_BENCH name
+other programs than those that fit the sources, which were built here or are the release, and are built first where there are none."""
 
 import glob
 import os
@@ -17,7 +17,7 @@ import time
 
 TOP = os.path.dirname(os.path.dirname(os.path.abspath(__file__)))
 LIMIT = float(os.environ.get("BENCH_SECONDS", "120"))
-INSTEAD = {"wiki": "WIKI", "wk_probe": "PROBE", "wk_bench": "BENCH"}
+INSTEAD = {"wiki": "WIKI", "wk_probe": "PROBE", "wk_bench": "BENCH", "wk_replica_bench": "REPLICA_BENCH"}
 READY = {}
 
 

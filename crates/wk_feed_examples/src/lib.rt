@@ -6,12 +6,12 @@ ghost use Rattle.std.specs.Prelude.{◌≡◌, pos, true, codes, [], ◌∷◌, 
 ghost use Rattle.wk_page_rules.specs.Verdict.{full_limits};
 ghost use Rattle.wk_wiki_rules.specs.Steps.{fan_pages};
 ghost use Rattle.wk_wiki_rules.specs.Calls.{CallsMake};
-ghost use Rattle.wk_wiki_rules.specs.Events.{Claim, Save};
+ghost use Rattle.wk_wiki_rules.specs.Events.{Claim, Fan, Save};
 ghost use Rattle.wk_wiki_rules.specs.States.{no_state};
-ghost use Rattle.wk_feed_rules.specs.Lines.{bytes_of_lines, done, line_text, lines_in, of_revision, of_site, row, save};
+ghost use Rattle.wk_feed_rules.specs.Lines.{bytes_of_lines, claim, done, fan, line_text, lines_in, of_revision, of_site, row, save};
 ghost use Rattle.wk_feed_rules.specs.Reading.{said};
 ghost use Rattle.wk_feed_rules.specs.Feeds.{event_line, feed_of};
-ghost use Rattle.wk_feed_rules.specs.Taking.{bad_line, fed, loading, running, told};
+ghost use Rattle.wk_feed_rules.specs.Taking.{bad_line, event_of_line, fed, loading, running, told};
 ghost use Rattle.wk_feed_examples.specs.Wikis.{claimed, claimed_events, deleted, deleted_events, empty_run, page_a, refreshed, refreshed_events, stored, stored_claimed};
 
 /// A is saved in an empty wiki at moment 7 and refreshed: the feed has the version, the start, and a line for each event; and these
@@ -121,10 +121,12 @@ pub fn rows_out_of_order()
 pub fn bad_starts()
     ensures no_version { fed (lines_in (codes "[\"start\"]\n")) ≡ bad_line 1 }
     ensures first_version { fed (lines_in (codes "[\"site\",\"version\",\"1\"]\n[\"start\"]\n")) ≡ bad_line 2 }
+    ensures third_version { fed (lines_in (codes "[\"site\",\"version\",\"3\"]\n[\"start\"]\n")) ≡ bad_line 2 }
     ensures leading_zero { fed (lines_in (codes "[\"site\",\"version\",\"02\"]\n[\"start\"]\n")) ≡ bad_line 2 }
     ensures broken_rule { fed (lines_in (codes "[\"page\",1,0,\"A\",1,1]\n[\"site\",\"version\",\"2\"]\n[\"start\"]\n")) ≡ bad_line 3 }
     ensures row_behind { fed (lines_in (codes "[\"site\",\"version\",\"2\"]\n[\"start\"]\n[\"page\",1,0,\"A\",1,1]\n")) ≡ bad_line 3 }
     ensures second { fed (lines_in (codes "[\"site\",\"version\",\"2\"]\n[\"start\"]\n[\"start\"]\n")) ≡ bad_line 3 }
+    ensures save_before { fed (lines_in (codes "[\"save\",\"A\",\"x\",7]\n")) ≡ bad_line 1 }
     ensures event_before { fed (lines_in (codes "[\"site\",\"version\",\"2\"]\n[\"claim\"]\n")) ≡ bad_line 2 }
 {}
 
@@ -133,6 +135,7 @@ pub fn bad_saves()
     ensures not_capital { fed (lines_in (codes "[\"site\",\"version\",\"2\"]\n[\"start\"]\n[\"save\",\"a\",\"x\",7]\n")) ≡ bad_line 3 }
     ensures underscore { fed (lines_in (codes "[\"site\",\"version\",\"2\"]\n[\"start\"]\n[\"save\",\"A_b\",\"x\",7]\n")) ≡ bad_line 3 }
     ensures special { fed (lines_in (codes "[\"site\",\"version\",\"2\"]\n[\"start\"]\n[\"save\",\"Special:A\",\"x\",7]\n")) ≡ bad_line 3 }
+    ensures no_title { fed (lines_in (codes "[\"site\",\"version\",\"2\"]\n[\"start\"]\n[\"save\",\"{\",\"x\",7]\n")) ≡ bad_line 3 }
     ensures blank_end { fed (lines_in (codes "[\"site\",\"version\",\"2\"]\n[\"start\"]\n[\"save\",\"A\",\"x \",7]\n")) ≡ bad_line 3 }
     ensures carriage_return { fed (lines_in (codes "[\"site\",\"version\",\"2\"]\n[\"start\"]\n[\"save\",\"A\",\"x\\ry\",7]\n")) ≡ bad_line 3 }
     ensures no_change { fed (lines_in (codes "[\"site\",\"version\",\"2\"]\n[\"start\"]\n[\"save\",\"A\",\"x\",7]\n[\"save\",\"A\",\"x\",8]\n")) ≡ bad_line 4 }
@@ -143,6 +146,18 @@ pub fn bad_saves()
 pub fn bad_tickets_and_fans()
     ensures done { fed (lines_in (codes "[\"site\",\"version\",\"2\"]\n[\"start\"]\n[\"save\",\"A\",\"x\",7]\n[\"done\",1]\n")) ≡ bad_line 4 }
     ensures twice { fed (lines_in (codes "[\"site\",\"version\",\"2\"]\n[\"start\"]\n[\"save\",\"A\",\"x\",7]\n[\"claim\"]\n[\"back\",2]\n[\"back\",2]\n")) ≡ bad_line 6 }
+    ensures done_twice { fed (lines_in (codes "[\"site\",\"version\",\"2\"]\n[\"start\"]\n[\"save\",\"A\",\"x\",7]\n[\"claim\"]\n[\"done\",2]\n[\"done\",2]\n")) ≡ bad_line 6 }
     ensures fan { fed (lines_in (codes "[\"site\",\"version\",\"2\"]\n[\"start\"]\n[\"fan\"]\n")) ≡ bad_line 3 }
     ensures first { fed (lines_in (codes "[\"site\",\"version\",\"2\"]\n[\"start\"]\n[\"fan\"]\n[\n")) ≡ bad_line 3 }
+{}
+
+/// A claim wants room for two events in a journal, a save and a step of a fan job for one. Where the full limits leave less, each is a
+/// bad line.
+pub fn full_journals()
+    ensures claim { event_of_line stored 33554431 claim ≡ None }
+    ensures last_claim { event_of_line stored 33554430 claim ≡ Some Claim }
+    ensures fan { event_of_line no_state 33554432 fan ≡ None }
+    ensures last_fan { event_of_line no_state 33554431 fan ≡ Some Fan }
+    ensures save { event_of_line no_state 33554432 (save (codes "A") (Some (codes "x")) 7) ≡ None }
+    ensures last_save { event_of_line no_state 33554431 (save (codes "A") (Some (codes "x")) 7) ≡ Some (Save page_a (Some (codes "x")) 7) }
 {}

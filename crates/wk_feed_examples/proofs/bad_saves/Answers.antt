@@ -29,3 +29,7 @@ returns-clause-no_change c = refl
 pub returns-clause-no_page : goal.returns-clause-no_page
 unfolding computing
 returns-clause-no_page c = refl
+
+pub returns-clause-no_title : goal.returns-clause-no_title
+unfolding computing
+returns-clause-no_title c = refl

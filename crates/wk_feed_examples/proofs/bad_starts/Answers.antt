@@ -29,3 +29,11 @@ returns-clause-second c = refl
 pub returns-clause-event_before : goal.returns-clause-event_before
 unfolding computing
 returns-clause-event_before c = refl
+
+pub returns-clause-third_version : goal.returns-clause-third_version
+unfolding computing
+returns-clause-third_version c = refl
+
+pub returns-clause-save_before : goal.returns-clause-save_before
+unfolding computing
+returns-clause-save_before c = refl

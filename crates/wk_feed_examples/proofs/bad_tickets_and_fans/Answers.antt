@@ -17,3 +17,7 @@ returns-clause-fan c = refl
 pub returns-clause-first : goal.returns-clause-first
 unfolding computing
 returns-clause-first c = refl
+
+pub returns-clause-done_twice : goal.returns-clause-done_twice
+unfolding computing
+returns-clause-done_twice c = refl
