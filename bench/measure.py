@@ -43,9 +43,10 @@ def checked(piece):
 
 class Running:
     """A program that runs. `counts` says what instructions are counted: None for none, else the functions within which
-    they count, none of these for all. They are counted from `begin` on, or from the start."""
+    they count, none of these for all. They are counted from `begin` on, or from the start. `settings` are variables of its
+    environment beside this one's."""
 
-    def __init__(self, name, *words, counts=None, from_start=False, stack=None):
+    def __init__(self, name, *words, counts=None, from_start=False, stack=None, settings=None):
         self.folder = tempfile.mkdtemp(prefix="bench-")
         command = [program(name), *map(str, words)]
         if counts is not None:
@@ -54,7 +55,8 @@ class Running:
             command = tool + command
         if stack:
             command = ["sh", "-c", f'ulimit -s {stack} && exec "$@"', "sh", *command]
-        self.process = subprocess.Popen(command, stdin=subprocess.PIPE, stdout=subprocess.PIPE, stderr=subprocess.DEVNULL)
+        around = {**os.environ, **(settings or {})}
+        self.process = subprocess.Popen(command, env=around, stdin=subprocess.PIPE, stdout=subprocess.PIPE, stderr=subprocess.DEVNULL)
         self.timer = threading.Timer(LIMIT, self.process.kill) if counts is not None else None
         if self.timer:
             self.timer.start()
@@ -102,10 +104,28 @@ class Running:
         """The processor's seconds that the program took so far."""
         return time.clock_gettime((~self.process.pid << 3) | 2)
 
+    def told(self, file, name):
+        """The bytes of memory that the system tells of it in this file under this name."""
+        with open(f"/proc/{self.process.pid}/{file}", encoding="utf-8") as it:
+            return 1024 * int(re.search(rf"^{name}:\s+(\d+)", it.read(), re.M).group(1))
+
     def peak(self):
         """The most bytes of memory that it had so far."""
-        with open(f"/proc/{self.process.pid}/status", encoding="utf-8") as it:
-            return 1024 * int(re.search(r"VmHWM:\s+(\d+)", it.read()).group(1))
+        return self.told("status", "VmHWM")
+
+    def reserved(self):
+        """The bytes that it may write to."""
+        return self.told("status", "VmData")
+
+    def written(self):
+        """Those of them that it has written to."""
+        return self.told("smaps_rollup", "Anonymous")
+
+    def mapped(self):
+        """Those of them that lie apart from the heap and the stack, as the mappings that malloc asks for do."""
+        with open(f"/proc/{self.process.pid}/maps", encoding="utf-8") as it:
+            found = [re.match(r"(\w+)-(\w+) rw-p \S+ \S+ 0\s*$", line) for line in it]
+        return sum(int(it.group(2), 16) - int(it.group(1), 16) for it in found if it)
 
     def control(self, *words):
         done = subprocess.run(["callgrind_control", *words, str(self.process.pid)], capture_output=True, text=True, check=False)
@@ -130,14 +150,14 @@ class Running:
     def at_end(self):
         """The instructions that are counted once the program has come to its end by itself."""
         self.process.wait()
-        return self.told()
+        return self.in_files()
 
     def counted(self):
         """The instructions since the last call, or since they are counted."""
         self.control("--dump")
-        return self.told()
+        return self.in_files()
 
-    def told(self):
+    def in_files(self):
         """The instructions in what callgrind has written."""
         files = glob.glob(f"{self.folder}/count*")
         total = 0
