@@ -80,7 +80,15 @@ fn take_all<R: Wait + Clock>(
     let mut gate = NoGate;
     'lines: for line in lines.lines() {
         let from = asked.passed(rt);
-        take_apart(rt, shared, &mut worker.pass, trees, line.as_bytes(), &mut gate).ok()?;
+        take_apart(
+            rt,
+            shared,
+            &mut worker.pass,
+            trees,
+            line.as_bytes(),
+            &mut gate,
+        )
+        .ok()?;
         worker.spans.push((from, asked.passed(rt))).ok()?;
     }
     Some(())
