@@ -7,11 +7,11 @@ use wk_core::{Keeper, Wiki};
 use wk_expand::Trees;
 use wk_memory::Memory;
 use wk_replica::Replica;
-use wk_request::Request;
+use wk_request::{Asked, Request};
 
 /// What is read from.
 pub trait Answers {
-    /// The answer to a request.
+    /// The answer to a request. A wiki is asked by reads alone, and answers `Memory` to a save.
     fn answer_to(&self, request: &Request, trees: &mut Trees) -> Result<Value, Memory>;
 }
 
@@ -23,7 +23,10 @@ impl Answers for Replica {
 
 impl<K: Keeper> Answers for Wiki<K> {
     fn answer_to(&self, request: &Request, trees: &mut Trees) -> Result<Value, Memory> {
-        answer(self, request, trees)
+        match request.ask.asked() {
+            Asked::Save(_) => Err(Memory),
+            _ => answer(self, request, trees),
+        }
     }
 }
 
