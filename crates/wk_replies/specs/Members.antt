@@ -22,6 +22,6 @@ plain_data (Text text) = string text.now
 abbrev pub with_rows : Members → List (Bor (List ℕ) × Plain) → Members
 with_rows members rows = fold (λ all row. put row.0.now (plain_data row.1) all) members rows
 
--- the object of a title's shown form and of the rows of a table
+-- the object of the rows of a table and of a title's shown form
 abbrev pub titled : PageTitle → List (Bor (List ℕ) × Plain) → Data
-titled title rows = object (with_rows (put (codes "title") (string (shown title)) no_members) rows)
+titled title rows = object (put (codes "title") (string (shown title)) (with_rows no_members rows))

@@ -8,7 +8,7 @@ ghost use Rattle.wk_answer_rules.specs.Values.{object_of, reply_beside};
 ghost use Rattle.wk_replies.specs.Listed.{change_shown, first_of_revision, listed_entries, member_shown, page_shown};
 ghost use Rattle.wk_replies.specs.Members.{with_entries};
 
-use crate::members::{Plain, members_of, object_with, put, put_rows};
+use crate::members::{Plain, object_with, put, put_rows};
 use crate::values::titled;
 use serde_json::{Map, Value};
 use std::alloc::Global;
@@ -22,8 +22,8 @@ pub fn page_entry(alloc: Global, page: u32, title: &Title) -> Result<Value, Memo
     ensures { IfOk result (λ v. view v ≡ object_of (page_shown page title.now)) }
 {
     let table = &[
-        ("pageid", Plain::Number(u64::from(page))),
         ("ns", Plain::Namespace(title.ns())),
+        ("pageid", Plain::Number(u64::from(page))),
     ];
     titled(alloc, title, table)
 }
@@ -33,9 +33,9 @@ pub fn member_entry(alloc: Global, member: &MemberPage, title: &Title) -> Result
     ensures { IfOk result (λ v. view v ≡ object_of (member_shown member.now title.now)) }
 {
     let table = &[
-        ("sortkeyprefix", Plain::Text(member.prefix.as_str())),
-        ("pageid", Plain::Number(u64::from(member.page))),
         ("ns", Plain::Namespace(title.ns())),
+        ("pageid", Plain::Number(u64::from(member.page))),
+        ("sortkeyprefix", Plain::Text(member.prefix.as_str())),
     ];
     titled(alloc, title, table)
 }
@@ -63,12 +63,12 @@ pub fn change_entry(
     ensures { IfOk result (λ v. view v ≡ object_of (change_shown number revision.now title.now)) }
 {
     let table = &[
-        ("type", Plain::Text(change_type(revision))),
-        ("timestamp", Plain::Number(revision.moment())),
-        ("revid", Plain::Number(number)),
-        ("pageid", Plain::Number(u64::from(revision.page()))),
-        ("oldrevid", Plain::Number(revision.parent())),
         ("ns", Plain::Namespace(title.ns())),
+        ("oldrevid", Plain::Number(revision.parent())),
+        ("pageid", Plain::Number(u64::from(revision.page()))),
+        ("revid", Plain::Number(number)),
+        ("timestamp", Plain::Number(revision.moment())),
+        ("type", Plain::Text(change_type(revision))),
     ];
     titled(alloc, title, table)
 }
@@ -125,13 +125,23 @@ fn revision_numbers(
         ≡ with_entries no_members (first_of_revision number revision.now)) }
 {
     let size = text_or_empty(revision).len() as u64;
-    let table = &[
-        ("timestamp", Plain::Number(revision.moment())),
-        ("size", Plain::Number(size)),
-        ("revid", Plain::Number(number)),
-        ("parentid", Plain::Number(revision.parent())),
-    ];
-    members_of(alloc, table)
+    // Lists have many of these, and a table costs more than the calls.
+    let mut members = Map::new(alloc);
+    put(
+        alloc,
+        &mut members,
+        "parentid",
+        Value::from(revision.parent()),
+    )?;
+    put(alloc, &mut members, "revid", Value::from(number))?;
+    put(alloc, &mut members, "size", Value::from(size))?;
+    put(
+        alloc,
+        &mut members,
+        "timestamp",
+        Value::from(revision.moment()),
+    )?;
+    Ok(members)
 }
 
 /// A revision of a page, with its text where that is asked for.

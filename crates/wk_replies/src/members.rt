@@ -61,20 +61,13 @@ pub fn put_rows(
     Ok(())
 }
 
-/// The members of a table.
-pub fn members_of(alloc: Global, table: &[(&str, Plain<'_>)]) -> Result<Map<String, Value>, Memory>
-    ensures { IfOk result (λ members. members_view members.entries ≡ with_rows no_members table.now) }
-{
-    let mut members = Map::new(alloc);
-    put_rows(alloc, &mut members, table)?;
-    Ok(members)
-}
-
 /// The object of a table.
 pub fn object(alloc: Global, table: &[(&str, Plain<'_>)]) -> Result<Value, Memory>
     ensures { IfOk result (λ v. view v ≡ object (with_rows no_members table.now)) }
 {
-    Ok(Value::Object(members_of(alloc, table)?))
+    let mut members = Map::new(alloc);
+    put_rows(alloc, &mut members, table)?;
+    Ok(Value::Object(members))
 }
 
 /// The object of one member.

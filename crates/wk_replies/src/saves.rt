@@ -34,11 +34,11 @@ pub fn created(
     ensures { IfOk result (λ v. view v ≡ (reply_beside (edit_entries (created title.now (numbers_of numbers))) point).value) }
 {
     let table = &[
-        ("result", Plain::Text("Success")),
-        ("pageid", Plain::Number(u64::from(numbers.page))),
-        ("oldrevid", Plain::Number(numbers.old)),
-        ("newrevid", Plain::Number(numbers.new)),
         ("new", Plain::Flag(true)),
+        ("newrevid", Plain::Number(numbers.new)),
+        ("oldrevid", Plain::Number(numbers.old)),
+        ("pageid", Plain::Number(u64::from(numbers.page))),
+        ("result", Plain::Text("Success")),
     ];
     reply(alloc, "edit", titled(alloc, title, table)?, point)
 }
@@ -53,10 +53,10 @@ pub fn changed(
     ensures { IfOk result (λ v. view v ≡ (reply_beside (edit_entries (changed title.now (numbers_of numbers))) point).value) }
 {
     let table = &[
-        ("result", Plain::Text("Success")),
-        ("pageid", Plain::Number(u64::from(numbers.page))),
-        ("oldrevid", Plain::Number(numbers.old)),
         ("newrevid", Plain::Number(numbers.new)),
+        ("oldrevid", Plain::Number(numbers.old)),
+        ("pageid", Plain::Number(u64::from(numbers.page))),
+        ("result", Plain::Text("Success")),
     ];
     reply(alloc, "edit", titled(alloc, title, table)?, point)
 }
@@ -66,9 +66,9 @@ pub fn unchanged(alloc: Global, title: &Title, page: u32, point: u64) -> Result<
     ensures { IfOk result (λ v. view v ≡ (reply_beside (edit_entries (unchanged title.now page)) point).value) }
 {
     let table = &[
-        ("result", Plain::Text("Success")),
-        ("pageid", Plain::Number(u64::from(page))),
         ("nochange", Plain::Flag(true)),
+        ("pageid", Plain::Number(u64::from(page))),
+        ("result", Plain::Text("Success")),
     ];
     reply(alloc, "edit", titled(alloc, title, table)?, point)
 }
@@ -83,8 +83,8 @@ pub fn deleted(
     ensures { IfOk result (λ v. view v ≡ (reply_beside (delete_entries (changed title.now (numbers_of numbers))) point).value) }
 {
     let table = &[
-        ("revid", Plain::Number(numbers.new)),
         ("oldrevid", Plain::Number(numbers.old)),
+        ("revid", Plain::Number(numbers.new)),
     ];
     reply(alloc, "delete", titled(alloc, title, table)?, point)
 }

@@ -20,15 +20,15 @@ pub fn shown_text(alloc: Global, title: &Title) -> Result<String, Memory>
     Ok(text)
 }
 
-/// The object of a table and of the shown form of a title, under `title`. Rows whose names fall cost least: each name is
-/// then compared with the lowest of those that stand, and not with all.
+/// The object of a table and of the shown form of a title, under `title`. The text is moved there. Rows cost least in the
+/// order of their names: then nothing that stands is moved.
 pub fn titled(alloc: Global, title: &Title, table: &[(&str, Plain<'_>)]) -> Result<Value, Memory>
     ensures { IfOk result (λ v. view v ≡ titled title.now table.now) }
 {
     let text = shown_text(alloc, title)?;
     let mut members = Map::new(alloc);
-    put(alloc, &mut members, "title", Value::from(text))?;
     put_rows(alloc, &mut members, table)?;
+    put(alloc, &mut members, "title", Value::from(text))?;
     Ok(Value::Object(members))
 }
 

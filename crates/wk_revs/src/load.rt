@@ -65,7 +65,6 @@ fn text_of_row(row: &RevisionRow) -> Result<Option<Text>, Memory>
 
 /// Appends the revisions of their rows, in order.
 fn append_rows(revs: &mut Revs, rows: &[RevisionRow]) -> Result<(), Memory>
-    requires room { length rows.now ≤ revs.old.spare }
     requires few { length revs.old.history.pages ≤ max_pages }
     requires within { (k : ℕ) (row : RevisionColumns) → slice_get rows.now k ≡ Some row → (0 < row.rev_page) × (row.rev_page ≤ length revs.old.history.pages) }
     requires none { revs.old.history.revisions ≡ [] }
@@ -74,6 +73,8 @@ fn append_rows(revs: &mut Revs, rows: &[RevisionRow]) -> Result<(), Memory>
 {
     'rows: for row in rows {
         let text = text_of_row(row)?;
+        // (room for all of them at once would be room for as many pages)
+        revs.make_room(1)?;
         revs.append(
             row.rev_page as u32,
             row.rev_parent_id,
@@ -94,7 +95,6 @@ impl Revs {
         let pages = pages_of_rows(alloc, tables.pages())?;
         let existing = existing_of_rows(tables.pages());
         let mut revs = Revs::of_pages(alloc, pages, existing)?;
-        revs.make_room(tables.revisions().len())?;
         append_rows(&mut revs, tables.revisions())?;
         Ok(revs)
     }

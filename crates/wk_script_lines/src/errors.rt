@@ -57,9 +57,9 @@ pub fn needs_read(alloc: Global, title: &Title, kind: Kind, point: u64) -> Resul
     ensures { IfOk result (λ v. view v ≡ (line_error (needsread title.now kind) point).value) }
 {
     let table = &[
-        ("kind", Plain::Text(kind_name(kind))),
-        ("info", Plain::Text("A read is missing.")),
         ("code", Plain::Text("needsread")),
+        ("info", Plain::Text("A read is missing.")),
+        ("kind", Plain::Text(kind_name(kind))),
     ];
     reply(alloc, "error", titled(alloc, title, table)?, point)
 }

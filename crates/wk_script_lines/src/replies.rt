@@ -39,8 +39,8 @@ pub fn next_read(
     ensures { IfOk result (λ v. view v ≡ (reply_beside (read_shown title.now kind mark) point).value) }
 {
     let table = &[
-        ("mark", Plain::Number(mark)),
         ("kind", Plain::Text(kind_name(kind))),
+        ("mark", Plain::Number(mark)),
     ];
     reply(alloc, "read", titled(alloc, title, table)?, point)
 }
@@ -74,11 +74,11 @@ pub fn stale(
     })) point).value) }
 {
     let table = &[
-        ("read", Plain::Number(read)),
-        ("point", Plain::Number(point)),
-        ("now", Plain::Number(now)),
-        ("kind", Plain::Text(kind_name(kind))),
         ("finish", Plain::Text("stale")),
+        ("kind", Plain::Text(kind_name(kind))),
+        ("now", Plain::Number(now)),
+        ("point", Plain::Number(point)),
+        ("read", Plain::Number(read)),
     ];
     titled(alloc, title, table)
 }
@@ -106,8 +106,8 @@ pub fn fanned(
     })) point).value) }
 {
     let table = &[
-        ("served", Plain::Number(u64::from(served))),
         ("queued", Plain::Number(u64::from(queued))),
+        ("served", Plain::Number(u64::from(served))),
     ];
     reply(alloc, "fan", titled(alloc, title, table)?, point)
 }

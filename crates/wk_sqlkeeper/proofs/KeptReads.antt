@@ -159,8 +159,8 @@ reads_version old new row h tables keeps =
     let alone : row ∷ got.0 ≡ (Text (decimal tables.version) ∷ []) ∷ [] = one_permutation (Text (decimal tables.version) ∷ []) (row ∷ got.0) (subst (λ l. IsPermutation l (row ∷ got.0)) one perm) in
     cc
 
-pub version_read : (row : Row) (text : List ℕ) (v : ℕ) → row ≡ Text (decimal v) ∷ [] → column row 0 ≡ Text text → text ≡ decimal v
-version_read row text v is read = let both : Text text ≡ Text (decimal v) = sym read ∙ ap (λ r. column r 0) is in cc
+pub version_read : (cells : Row) (text : List ℕ) (v : ℕ) → cells ≡ Text (decimal v) ∷ [] → column cells 0 ≡ Text text → text ≡ decimal v
+version_read cells text v is read = let both : Text text ≡ Text (decimal v) = sym read ∙ ap (λ r. column r 0) is in cc
 
 -- a query that gives a row, and that isn't a write that shows its rows, changes nothing
 pub row_unchanged : (sql : List ℕ) (old new : State) (row : Row) → IsPlain (understood old.now.schema sql) → QueriesRow sql [] old new (Ok row) → IsUnchanged old new

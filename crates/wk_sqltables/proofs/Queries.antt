@@ -141,5 +141,5 @@ still_holds old new id row h tables holds =
       tables_are = subst (λ (d : Database). HoldTables d.trees tables) (sym same.0.now_is) holds.tables_are;
     }
 
-pub read_number : (row : Row) (n m : ℤ) → row ≡ Int m ∷ [] → column row 0 ≡ Int n → n ≡ m
-read_number row n m is read = let both : Int n ≡ Int m = sym read ∙ ap (λ r. column r 0) is in cc
+pub read_number : (cells : Row) (n m : ℤ) → cells ≡ Int m ∷ [] → column cells 0 ≡ Int n → n ≡ m
+read_number cells n m is read = let both : Int n ≡ Int m = sym read ∙ ap (λ r. column r 0) is in cc

@@ -13,11 +13,11 @@ returns-clause-namespace g c clean tables holds has =
     let new = state g.S.Store c.run_find.new.transaction.conn.now in
     let page : to_z w64 (of_z w64 c.from.result) ≡ c.from.result = search rules in
     let found = rw (c.in_ok-row.was, page, c.from.ensures) at (c.run_find.ensures.runs clean) in
-    let row = c.in_ok-row.row in
+    let cells = c.in_ok-row.row in
     let namespace = c.in_ok-namespace.namespace in
     let wide : to_z w64 (of_z w64 namespace) ≡ namespace = search rules in
-    let read : column row 0 ≡ Int namespace = search (rules, c.in_ok-namespace.ensures.ok) in
-    wide ∙ read_number row namespace (namespace_of tables c.args.page) (finds_namespace old new c.args.page row found tables holds has) read
+    let read : column cells 0 ≡ Int namespace = search (rules, c.in_ok-namespace.ensures.ok) in
+    wide ∙ read_number cells namespace (namespace_of tables c.args.page) (finds_namespace old new c.args.page cells found tables holds has) read
 
 pub returns-clause-made : goal.returns-clause-made
 returns-clause-made g c clean tables holds =

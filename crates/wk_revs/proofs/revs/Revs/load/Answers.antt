@@ -7,7 +7,6 @@ of_pages-requires-clause-few c = loaded_few c.args.tables.now.tables c.pages.res
 
 pub append_rows-requires-clause-within : goal.append_rows-requires-clause-within
 append_rows-requires-clause-within c =
-    let pages =
-    ap (λ h. h.pages) c.in_ok-make_room.ensures.history ∙ ap (λ revs. revs.history.pages) c.in_ok-revs.ensures ∙ c.in_ok-pages.ensures in
-    loaded_within c.args.tables.now.tables c.revisions-2.result.now c.make_room.new.self.history.pages c.requires c.revisions-2.ensures
-    (loaded_length c.args.tables.now.tables c.pages.result.now c.make_room.new.self.history.pages c.pages.ensures pages)
+    let pages = ap (λ revs. revs.history.pages) c.in_ok-revs.ensures ∙ c.in_ok-pages.ensures in
+    loaded_within c.args.tables.now.tables c.revisions.result.now c.in_ok-revs.revs.history.pages c.requires c.revisions.ensures
+    (loaded_length c.args.tables.now.tables c.pages.result.now c.in_ok-revs.revs.history.pages c.pages.ensures pages)
