@@ -1,5 +1,5 @@
 //! A feeder and the sink that it writes to, for many threads.
-ghost use Rattle.std.specs.Prelude.{◌≡◌, ◌≢◌, ◌≤◌, ℕ, Err, IfOk, IfSome, List, None, Option, Some, length, take};
+ghost use Rattle.std.specs.Prelude.{◌≡◌, ◌≢◌, ◌≤◌, ℕ, Err, IfOk, IfSome, IsErr, IsSome, List, None, Option, Some, is_some, length, take};
 ghost use Rattle.std.specs.Io.KnownBytes.{Appends};
 ghost use Rattle.std.proofs.Props.{props};
 ghost use base.Fml.{GName};
@@ -104,11 +104,19 @@ impl<'a, K: Keeper, O: Sink, E: Begins> FeedOutput<'a, K, O, E> {
         }
     }
 
+    /// Whether a call was refused: nothing more is sent then. Takes no memory.
+    pub fn is_refused(&self) -> bool
+        ensures { result ≡ is_some self.now.refused }
+    {
+        self.refused.is_some()
+    }
+
     /// Takes the wiki, and sends the rest, if no call was refused. It waits.
     pub fn finish<R: Wait>(self, rt: &R, shared: Shared<K>) -> Fed<'a, K, O>
         requires { E.turn ≡ Some shared }
         ensures name { Some result.sink.ghost_name ≡ E.name }
         ensures start { result.wiki.start ≡ shared.start }
+        ensures refused { IsSome self.entry.refused → IsErr result.sent }
         ensures sent { IfOk result.sent (λ n. (n ≡ length result.wiki.journal)
             × Appends E.told (O.taken result.sink.now) (event_bytes result.wiki.journal)) }
         ensures never_falls { E.faults ≤ O.faults result.sink.now }

@@ -1,5 +1,5 @@
 -- One read after others.
-use Rattle.std.proofs.Common.{◌≡◌, ◌≢◌, ℕ, ◌+◌, List, [], ◌++◌, ◌≤◌, ◌↔◌, false, length, refl, sym, ◌∙◌, ap, subst, append_assoc, length-append, arith}
+use Rattle.std.proofs.Common.{◌≡◌, ℕ, ◌+◌, List, [], ◌++◌, ◌≤◌, ◌↔◌, false, true, length, refl, sym, ◌∙◌, ap, subst, append_assoc, length-append, arith}
 use Rattle.std.proofs.KnownBytes.{Consumes-trans}
 use Rattle.std.specs.Io.KnownBytes.{Consumes}
 use Rattle.std.specs.Prelude.{◌^◌, Bool, Option}
@@ -7,7 +7,8 @@ use Rattle.wk_bytes.specs.Line.{line_in}
 use Rattle.wk_bytes.specs.LineCutter.{Cutting, HasNoNewline, lines_to_come}
 use Rattle.wk_bytes.specs.declared.lines.Line.{Line}
 use Rattle.wk_bytes.specs.declared.lines.Line.TheVariants.{More}
-use Rattle.wk_lines.specs.Reading.{Fills, LeavesNoLine, Reading, Reads, StopsReading, lines_left}
+use Rattle.wk_text_rules.specs.Lines.{lines}
+use Rattle.wk_lines.specs.Reading.{Fills, LeavesNoLine, Reading, Reads, ReadsToEnd, StopsReading, lines_left}
 use Rattle.wk_lines.specs.declared.stop.Stop.{Stop}
 use Rattle.wk_lines.specs.Stop.{IsReading}
 use Rattle.wk_lines.specs.declared.stop.Stop.TheVariants.{Bound}
@@ -91,3 +92,25 @@ stops_unread r x y stop consumed bound is_reading none begun = record {
   is_reading = is_reading;
   all_given = λ _. leaves_none r none begun;
 }
+
+-- The input was at its end behind others that gave no line: the last line is what stands in the cutter.
+pub ends_on : (a : Reading) (k m n e : Cutting) (t u : ℕ) (x y z : Option (List ℕ)) (line last : Line) (ended : Bool) →
+    Reads a (record { cutter = k; total = t }) x y [] → k ≡ record m { whole = line_in line ++ m.whole } → line ≡ More → k.whole ≡ [] →
+    HasNoNewline k.rest → Fills (record { cutter = m; total = t }) (record { cutter = n; total = u }) y z ended → ended ≡ true →
+    line_in last ≡ lines_to_come n [] → ReadsToEnd a (record { cutter = e; total = u }) x z (line_in last)
+ends_on a k m n e t u x y z line last ended reads is more none begun fills ends given =
+    let at_end = subst (λ b. Fills (record { cutter = m; total = t }) (record { cutter = n; total = u }) y z b) ends fills in
+    let same : n ≡ k = ap (λ (r : Reading). r.cutter) at_end.0 ∙ sym (none_given k m line is more) in
+    let total : u ≡ t = ap (λ (r : Reading). r.total) at_end.0 in
+    record {
+      read = reads.read ++ [];
+      left = k.rest;
+      consumed = Consumes-trans x y z reads.read [] reads.consumed at_end.1;
+      ended = at_end.2;
+      counted = omega (arith, length-append reads.read [], reads.counted, total);
+      come = given ∙ ap (λ c. lines_to_come c []) same ∙ sym (reads.come []);
+      unended = begun;
+      joined = λ later.
+          ap (lines_to_come a.cutter) (append_assoc reads.read [] later) ∙ reads.come later ∙ ap
+          (λ whole. whole ++ lines k.most (k.rest ++ later)) none ∙ ap (λ most. lines most (k.rest ++ later)) reads.most;
+    }

@@ -3,6 +3,7 @@ use Rattle.std.specs.Prelude.{◌≡◌, ◌≢◌, ℕ, ◌+◌, ◌-◌, ◌*�
 use Rattle.std.specs.Io.KnownBytes.{Consumes, IsAtEnd}
 use Rattle.wk_bytes.specs.Line.{line_in}
 use Rattle.wk_bytes.specs.LineCutter.{Cutting, HasNoNewline, lines_to_come}
+use Rattle.wk_text_rules.specs.Lines.{lines}
 use Rattle.wk_lines.specs.Stop.{IsReading}
 use Rattle.wk_lines.specs.declared.reading.NextLine.{NextLine}
 use Rattle.wk_lines.specs.declared.reading.NextLine.TheVariants.{Inner, Last}
@@ -30,13 +31,17 @@ pub record Reads (old new : Reading) (rest later : Option (List ℕ)) (given : L
   pub counted : new.total ≡ old.total + length read
   pub come : (more : List ℕ) → lines_to_come old.cutter (read ++ more) ≡ given ++ lines_to_come new.cutter more
 
--- the bytes were read to the input's end, and these lines are all that were to come
+-- The bytes were read to the input's end, and these lines are all that were to come. What is left behind the last newline
+-- makes the last of them, so whoever wants only lines that end with a newline leaves it out.
 pub record ReadsToEnd (old new : Reading) (rest later : Option (List ℕ)) (given : List (Option (List ℕ))) : Type 0 where
   pub read : List ℕ
+  pub left : List ℕ
   pub consumed : Consumes rest later read
   pub ended : IsAtEnd later
   pub counted : new.total ≡ old.total + length read
   pub come : given ≡ lines_to_come old.cutter read
+  pub unended : HasNoNewline left
+  pub joined : (more : List ℕ) → lines_to_come old.cutter (read ++ more) ≡ lines old.cutter.most (left ++ more)
 
 -- No line that ends with a newline is left of what was read, and none was lost.
 pub record LeavesNoLine (old new : Reading) (read : List ℕ) : Type 0 where

@@ -1,4 +1,4 @@
-use Rattle.std.proofs.Common.{[], arith}
+use Rattle.std.proofs.Common.{[]}
 use Rattle.std.proofs.KnownBytes.{Consumes-kept, Consumes-nil}
 use Rattle.wk_lines.specs.declared.stop.Stop.TheVariants.{Bound, ReadFault}
 use Rattle.wk_lines.proofs.Joined.{stops_unread}

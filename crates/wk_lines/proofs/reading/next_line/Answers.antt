@@ -1,5 +1,5 @@
 use Rattle.std.proofs.Common.{arith, ◌∙◌}
-use Rattle.wk_lines.proofs.Joined.{fills_on, none_left, rest_of, stops_on}
+use Rattle.wk_lines.proofs.Joined.{ends_on, fills_on, none_left, rest_of, stops_on}
 use Rattle.wk_lines.proofs.reading.next_line.Goals as goal
 
 pub returns-in-Err-clause-err : goal.returns-in-Err-clause-err
@@ -17,3 +17,8 @@ fill-requires-clause-none g c = none_left _ _ c.next.result c.next.ensures.line 
 
 pub fill-requires-clause-begun : goal.fill-requires-clause-begun
 fill-requires-clause-begun g c = rest_of _ _ c.next.result c.next.ensures.line c.reads.invariant.4
+
+pub returns-then-ended-clause-ok : goal.returns-then-ended-clause-ok
+returns-then-ended-clause-ok g c =
+    ends_on _ _ _ _ _ _ _ _ _ _ c.next.result c.end.result c.in-Ok.ended c.reads.invariant.0 c.next.ensures.line c.in-More.is
+    (c.next.ensures.more.0 c.in-More.is) c.reads.invariant.4 c.in-Ok.ensures.ok c.if-ended.true c.end.ensures.line

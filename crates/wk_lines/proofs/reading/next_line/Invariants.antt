@@ -1,4 +1,4 @@
-use Rattle.std.proofs.Common.{◌≡◌, ℕ, ◌+◌, ◌-◌, ◌^◌, ◌<◌, ◌≤◌, []}
+use Rattle.std.proofs.Common.{◌≡◌, ◌+◌, ◌-◌, ◌^◌, ◌<◌, ◌≤◌, []}
 use Rattle.wk_bytes.specs.LineCutter.{HasNoNewline}
 use Rattle.wk_lines.specs.Reading.{Reads, lines_left}
 use Rattle.wk_lines.proofs.reading.next_line.Given as goal
