@@ -17,7 +17,7 @@ use Rattle.wk_replica.specs.Taken.{GoesOn, IsLeft, IsTaken, IsTakenLine}
 use Rattle.wk_replica.specs.declared.refusal.TakeRefusal.{TakeRefusal}
 use Rattle.wk_replica.specs.declared.refusal.TakeRefusal.TheVariants.{BadLine, Memory}
 use Rattle.wk_replica_reads.specs.Looks.{HasRead, IsFree, IsHeld}
-use Rattle.wk_replica_reads.specs.Taking.{IsDoneIn, TakesLine, TakesSaidLine}
+use Rattle.wk_replica_reads.specs.Taking.{AreRunning, DoesLine, DoesSaidLine, IsDoneIn, IsRunning, TakesLine, TakesSaidLine}
 use Rattle.wk_replica_reads.proofs.LookLaws.{Pass, read-both}
 
 -- ---- in the replica
@@ -31,6 +31,24 @@ takes-said old new line told (Ok end) text is t = record {
 }
 takes-said old new line told (Err (BadLine number)) text is t = (t.0, λ _. ap (option_and_then (line_taken (so_far old))) is ∙ t.1, t.2)
 takes-said old new line told (Err Memory) text is t = t
+
+does-said : (old new : ReplicaSeen) (line : List ℕ) (told : FeedLine) (result : Result (Unit {0}) TakeRefusal) → IsUtf8 line → said line ≡ Some told → DoesSaidLine old told new result → DoesLine old line new result
+does-said old new line told result text is d = (takes-said old new line told result text is d.0, d.1)
+
+-- the journal leads to the state before and behind a line
+module _ (old new : ReplicaSeen) (going : old.stopped ≡ false) (before : old.stopped ≡ false → IsRunning old) (behind : new.stopped ≡ false → IsRunning new) where
+  as-before : new ≡ old → IsRunning new
+  as-before same = subst IsRunning (sym same) (before going)
+
+  pub said-runs : (told : FeedLine) (result : Result (Unit {0}) TakeRefusal) → IsTaken old told new result → AreRunning old new result
+  said-runs told (Ok end) t = (before going, behind t.goes_on.going)
+  said-runs told (Err (BadLine number)) t = (before going, as-before t.2)
+  said-runs told (Err Memory) t = tt
+
+  pub line-runs : (line : List ℕ) (result : Result (Unit {0}) TakeRefusal) → IsTakenLine old line new result → AreRunning old new result
+  line-runs line (Ok end) t = (before going, behind t.goes_on.going)
+  line-runs line (Err (BadLine number)) t = (before going, as-before t.2)
+  line-runs line (Err Memory) t = tt
 
 -- the page of the ticket that is out
 pub ticket-page : (at : Option ClaimOutcome) (out : ClaimOutcome) (page shown named : PageTitle) → Some out ≡ at → shown ≡ page → named ≡ out.title → title_eq shown named ≡ true
@@ -113,11 +131,11 @@ done-since shared old mid new Done looked d = record {
 }
 
 pub said-since : (shared : Begun ReplicaBegun) (old mid new : Pass) (told : FeedLine) (result : Result (Unit {0}) TakeRefusal) → HasRead shared old mid → TakesSaidLine shared mid new told result → TakesSaidLine shared old new told result
-said-since shared old mid new told result looked (inl d) = inl (done-since shared old mid new (λ before after. IsTaken before told after result) looked d)
+said-since shared old mid new told result looked (inl d) = inl (done-since shared old mid new (λ before after. DoesSaidLine before told after result) looked d)
 said-since shared old mid new told result looked (inr wanting) = inr (read-both shared old mid new looked wanting.0, wanting.1)
 
 pub line-since : (shared : Begun ReplicaBegun) (old mid new : Pass) (line : List ℕ) (result : Result (Unit {0}) TakeRefusal) → HasRead shared old mid → TakesLine shared mid new line result → TakesLine shared old new line result
-line-since shared old mid new line result looked (inl d) = inl (done-since shared old mid new (λ before after. IsTakenLine before line after result) looked d)
+line-since shared old mid new line result looked (inl d) = inl (done-since shared old mid new (λ before after. DoesLine before line after result) looked d)
 line-since shared old mid new line result looked (inr wanting) = inr (read-both shared old mid new looked wanting.0, wanting.1)
 
 -- a line by what it says
@@ -127,7 +145,7 @@ line-said shared old new line told result text is (inl d) = inl (record {
   after = d.after;
   start = d.start;
   seen = d.seen;
-  did = takes-said d.before d.after line told result text is d.did;
+  did = does-said d.before d.after line told result text is d.did;
   all = d.all;
   own = d.own;
 })

@@ -10,7 +10,7 @@ ghost use Rattle.wk_turn.specs.Told.{IsOf};
 ghost use Rattle.wk_read_laws.specs.Points.{AreReadSince};
 ghost use Rattle.wk_replica.specs.Taken.{IsTaken, IsTakenLine};
 ghost use Rattle.wk_replica_reads.specs.Looks.{HasRead, IsFree};
-ghost use Rattle.wk_replica_reads.specs.Taking.{FitsTicket, TakesLine, TakesSaidLine};
+ghost use Rattle.wk_replica_reads.specs.Taking.{AreRunning, FitsTicket, TakesLine, TakesSaidLine};
 
 use crate::apart::draft_apart;
 use crate::desk::{give, look, take};
@@ -42,12 +42,16 @@ fn give_taken(shared: &Turn<Replica>, pass: &mut Pass<Replica>, held: Held<Repli
 
 /// Takes a line, unless the replica is stopped.
 fn take_here(replica: &mut Replica, line: &[u8]) -> Result<(), TakeRefusal>
-    ensures { IsTakenLine replica.old line.now replica.new result }
+    ensures taken { IsTakenLine replica.old line.now replica.new result }
+    ensures running { AreRunning replica.old replica.new result }
 {
     if replica.stopped() {
         return Err(TakeRefusal::Memory);
     }
-    replica.take(line)
+    replica.facts();
+    let taken = replica.take(line);
+    replica.facts();
+    taken
 }
 
 /// Takes a line with the turn held. It waits.
@@ -70,12 +74,16 @@ fn take_held<R: Wait>(
 
 /// Takes what a line says, unless the replica is stopped.
 fn take_said_here(replica: &mut Replica, said: FeedLine) -> Result<(), TakeRefusal>
-    ensures { IsTaken replica.old (line_of said) replica.new result }
+    ensures taken { IsTaken replica.old (line_of said) replica.new result }
+    ensures running { AreRunning replica.old replica.new result }
 {
     if replica.stopped() {
         return Err(TakeRefusal::Memory);
     }
-    replica.take_said(said)
+    replica.facts();
+    let taken = replica.take_said(said);
+    replica.facts();
+    taken
 }
 
 /// Takes what a line says, under one turn. It waits.
@@ -125,20 +133,34 @@ fn fits_here(replica: &Replica, ticket: u64, draft: &Draft) -> bool
     is_of_ticket(replica.wiki(), ticket, draft)
 }
 
-/// Takes the line that the refresh with this ticket was done, unless the replica is stopped: by a draft that was made before, where it
-/// is of the ticket's page and each of its reads is current; else the page is drafted now.
-fn finish_here(replica: &mut Replica, ticket: u64, draft: Draft) -> Result<(), TakeRefusal>
+/// Takes the line that the refresh with this ticket was done: by a draft that was made before, where it is of the ticket's page and
+/// each of its reads is current; else the page is drafted now.
+fn finish_going(replica: &mut Replica, ticket: u64, draft: Draft) -> Result<(), TakeRefusal>
+    requires going { replica.old.stopped ≡ false }
     requires own_text { draft.given ≡ None }
     requires since { (from : ℕ) × AreReadSince replica.old.start.wiki replica.old.journal from draft.reads }
     ensures { IsTaken replica.old (done ticket) replica.new result }
 {
-    if replica.stopped() {
-        return Err(TakeRefusal::Memory);
-    }
     if fits_here(replica, ticket, &draft) {
         return replica.take_done(ticket, draft);
     }
     replica.take_said(FeedLine::Event(EventLine::Done(ticket)))
+}
+
+/// The same, unless the replica is stopped.
+fn finish_here(replica: &mut Replica, ticket: u64, draft: Draft) -> Result<(), TakeRefusal>
+    requires own_text { draft.given ≡ None }
+    requires since { (from : ℕ) × AreReadSince replica.old.start.wiki replica.old.journal from draft.reads }
+    ensures taken { IsTaken replica.old (done ticket) replica.new result }
+    ensures running { AreRunning replica.old replica.new result }
+{
+    if replica.stopped() {
+        return Err(TakeRefusal::Memory);
+    }
+    replica.facts();
+    let taken = finish_going(replica, ticket, draft);
+    replica.facts();
+    taken
 }
 
 /// Takes the line that the refresh with this ticket was done, under one turn, by a draft that was made before. It waits.
@@ -269,7 +291,8 @@ fn take_read<R: Wait, G: Gate>(
 /// turn held. All else is taken under one turn. The event that was taken is the pass's own. `trees` keeps parsed texts.
 ///
 /// `BadLine` comes exactly where the line is bad behind those that were taken, with its number; the replica is as before. `Memory`
-/// leaves it as before, or stopped; it comes where the replica is stopped already, which is left so. It waits.
+/// leaves it as before, or stopped; it comes where the replica is stopped already, which is left so. At each other answer its journal
+/// leads to its state, before the line and behind it. It waits.
 pub fn take_apart<R: Wait, G: Gate>(
     rt: &R,
     shared: &Turn<Replica>,

@@ -2,7 +2,7 @@ use Rattle.std.proofs.Common.{◌∙◌, inl, sym, subst}
 use mathlib.Core.List.{IsPrefix}
 use Rattle.wk_feed_lines.specs.Said.{line_of}
 use Rattle.wk_replica.specs.Replicas.{ReplicaSeen}
-use Rattle.wk_replica.specs.Taken.{IsTaken}
+use Rattle.wk_replica_reads.specs.Taking.{DoesSaidLine}
 use Rattle.wk_replica_reads.proofs.TakeLaws.{begun-here, done-free, done-in, said-begins}
 use Rattle.wk_replica_reads.proofs.taking.take_said.Goals as goal
 
@@ -10,14 +10,14 @@ pub give_taken-requires-clause-start : goal.give_taken-requires-clause-start
 give_taken-requires-clause-start g c =
     let before = c.take-held.result.value in
     let taken = c.take-held.ensures.taken in
-    (said-begins before c.take_said_here-taken.new.replica (line_of c.args.said) c.take_said_here-taken.result (begun-here c.args.shared.now c.args.pass.now c.take-held.new.pass before taken c.requires.begun) c.take_said_here-taken.ensures).0 ∙ taken.start
+    (said-begins before c.take_said_here-taken.new.replica (line_of c.args.said) c.take_said_here-taken.result (begun-here c.args.shared.now c.args.pass.now c.take-held.new.pass before taken c.requires.begun) c.take_said_here-taken.ensures.taken).0 ∙ taken.start
 
 pub give_taken-requires-clause-journal : goal.give_taken-requires-clause-journal
 give_taken-requires-clause-journal g c =
     let before = c.take-held.result.value in
     let taken = c.take-held.ensures.taken in
     subst (λ (r : ReplicaSeen). IsPrefix r.journal c.take_said_here-taken.new.replica.journal) (sym c.take-held.ensures.before)
-    (said-begins before c.take_said_here-taken.new.replica (line_of c.args.said) c.take_said_here-taken.result (begun-here c.args.shared.now c.args.pass.now c.take-held.new.pass before taken c.requires.begun) c.take_said_here-taken.ensures).1
+    (said-begins before c.take_said_here-taken.new.replica (line_of c.args.said) c.take_said_here-taken.result (begun-here c.args.shared.now c.args.pass.now c.take-held.new.pass before taken c.requires.begun) c.take_said_here-taken.ensures.taken).1
 
 pub returns-clause-free : goal.returns-clause-free
 returns-clause-free g c =
@@ -26,4 +26,4 @@ returns-clause-free g c =
 pub returns-clause-taken : goal.returns-clause-taken
 returns-clause-taken g c =
     inl (done-in c.args.shared.now c.args.pass.now c.take-held.new.pass c.take-held.result.value c.take-held.ensures.taken c.take_said_here-taken.new.replica _ c.give_taken.new.pass c.take-held.ensures.before c.give_taken.ensures
-    (λ before after. IsTaken before (line_of c.args.said) after c.take_said_here-taken.result) c.take_said_here-taken.ensures)
+    (λ before after. DoesSaidLine before (line_of c.args.said) after c.take_said_here-taken.result) (c.take_said_here-taken.ensures.taken, c.take_said_here-taken.ensures.running))
