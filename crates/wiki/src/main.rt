@@ -42,10 +42,18 @@ fn meaning(status: u8) -> &'static str {
     }
 }
 
+/// Whether the command makes a store that isn't there: some would tell nothing of it.
+fn is_made_by(command: Command) -> bool {
+    match command {
+        Command::Script | Command::Serve | Command::Generate => true,
+        Command::Jobs | Command::Check | Command::Report => false,
+    }
+}
+
 /// What the words say to what stands outside.
 #[derive(Clone, Copy)]
 struct Outside<'a> {
-    /// Whether a store that isn't there is made: `check` and `jobs` would tell nothing of it.
+    /// Whether a store that isn't there is made.
     makes: bool,
     /// The store's name.
     store: &'a str,
@@ -57,7 +65,7 @@ struct Outside<'a> {
 fn said_by<'a>(alloc: Global, words: &'a [String]) -> Outside<'a> {
     match read(alloc, words) {
         Ok(line) => Outside {
-            makes: line.command != Command::Check && line.command != Command::Jobs,
+            makes: is_made_by(line.command),
             store: line.store,
             listen: line.listen,
         },

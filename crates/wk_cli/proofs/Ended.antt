@@ -1,5 +1,5 @@
 -- What follows from how the program ended.
-use Rattle.std.proofs.Common.{◌≡◌, ◌≢◌, ℕ, Bool, true, false, List, Option, Result, refl, sym, ap, ◌∙◌, subst, inl, inr, arith}
+use Rattle.std.proofs.Common.{◌≡◌, ◌≢◌, ◌==◌, ℕ, Bool, true, false, List, [], ◌∷◌, Option, Result, refl, sym, ap, ◌∙◌, subst, inl, inr, arith}
 use Rattle.wk_table_rules.specs.Rows.{StoreTables}
 use Rattle.wk_script_runs.specs.Outside.{Outside}
 use Rattle.wk_cli.specs.Scripted.{IsOver, IsScripted, VaultStore, no_memory, not_loaded, not_opened, over_a_store, ran}
@@ -21,13 +21,17 @@ use Rattle.wk_commands.specs.declared.works.Work.TheVariants.{Check, Jobs, Gener
 use Rattle.wk_words.specs.Verdicts.{Verdict, Wanted, is_refused}
 use Rattle.wk_cli.specs.Finished.{IsCarriedOut, IsShown}
 use Rattle.wk_cli.specs.Finished as carried
+use Rattle.std.specs.List.{list_any}
 use Rattle.wk_base.specs.Faults.{Rose}
+use Rattle.wk_report_rules.specs.declared.Report.{Report}
+use Rattle.wk_cli.specs.Reported.{IsReportedAt}
+use Rattle.wk_cli.specs.Reported as told_of
 use Rattle.wk_door.specs.Told.{DoorTold}
 use Rattle.wk_cli.specs.Statuses.{status_of_work}
 use Rattle.wk_cli.specs.Works.{DoorSeen, IsServedAt, IsWorkedAt}
 use Rattle.wk_cli.specs.Works as work
 use Rattle.wk_cli.specs.declared.ends.Finish.{Finish}
-use Rattle.wk_cli.proofs.Statuses.{IsKnown, command-is-done, command-is-door-fault, known-cause, known-end, known-work, no-cause-six, no-cause-two, no-end-six, no-end-two, no-work-three, no-work-two}
+use Rattle.wk_cli.proofs.Statuses.{IsKnown, command-is-done, command-is-door-fault, known-cause, known-end, known-report, known-work, no-cause-six, no-cause-two, no-end-six, no-end-two, no-report-at, not-listed, no-work-three, no-work-two}
 
 module _ {K : Type 0} {told : K → Option StoreTables} {faults : K → ℕ} {is_whole : K → Bool} {journal : ℕ} {keeper : K} {before after : Outside} {finish : Finish K} where
   over-known : IsOver told faults is_whole journal keeper before after finish → IsKnown finish.status
@@ -166,21 +170,41 @@ module _ {K L : Type 0} {told : K → Option StoreTables} {faults : K → ℕ} {
   serve-opens (work.unopened is rose none same) nil = absurd (omega (arith, is, nil))
   serve-opens (work.over_the_store keeper had same over) nil = same
 
+module _ {K : Type 0} {told : K → Option StoreTables} {faults : K → ℕ} {is_whole : K → Bool} {which : Report} {most : ℕ} {kept : VaultStore} {opens later : ℕ} {before after : Outside} {finish : Finish K} where
+  pub report-known : IsReportedAt told faults is_whole which most kept opens later before after finish → IsKnown finish.status
+  report-known (told_of.no_memory is none) = subst IsKnown (sym is) refl
+  report-known (told_of.not_opened is rose none) = subst IsKnown (sym is) refl
+  report-known (told_of.over_a_store keeper had same over) = known-report finish.status over.end over.status_is
+
+  -- at none but those of a report
+  pub report-not : (status : ℕ) → list_any (λ s. status == s) (0 ∷ 1 ∷ 4 ∷ 5 ∷ 7 ∷ []) ≡ false → IsReportedAt told faults is_whole which most kept opens later before after finish → finish.status ≡ status → ⊥
+  report-not status other (told_of.no_memory is none) at = not-listed 1 status other (sym is ∙ at) refl
+  report-not status other (told_of.not_opened is rose none) at = not-listed 5 status other (sym is ∙ at) refl
+  report-not status other (told_of.over_a_store keeper had same over) at = no-report-at status over.end other (sym over.status_is ∙ at)
+
+  pub report-opens : IsReportedAt told faults is_whole which most kept opens later before after finish → finish.status ≡ 0 → later ≡ opens
+  report-opens (told_of.no_memory is none) nil = absurd (omega (arith, is, nil))
+  report-opens (told_of.not_opened is rose none) nil = absurd (omega (arith, is, nil))
+  report-opens (told_of.over_a_store keeper had same over) nil = same
+
 module _ {K L : Type 0} {told : K → Option StoreTables} {faults : K → ℕ} {is_whole : K → Bool} {wanted : Wanted} {kept : VaultStore} {opens later : ℕ} {door door_later : DoorSeen L} {before after : Outside} {finish : Finish K} where
   pub carried-known : IsCarriedOut told faults is_whole wanted kept opens later door door_later before after finish → IsKnown finish.status
   carried-known (carried.scripted is done same) = script-known done
   carried-known (carried.worked asked is done same) = work-known done
   carried-known (carried.served is done) = serve-known done
+  carried-known (carried.reported is done same) = report-known done
 
   pub carried-not-two : IsCarriedOut told faults is_whole wanted kept opens later door door_later before after finish → finish.status ≡ 2 → ⊥
   carried-not-two (carried.scripted is done same) two = script-not-two done two
   carried-not-two (carried.worked asked is done same) two = work-not-two done two
   carried-not-two (carried.served is done) two = serve-not-two done two
+  carried-not-two (carried.reported is done same) two = report-not 2 refl done two
 
   pub carried-opens : IsCarriedOut told faults is_whole wanted kept opens later door door_later before after finish → finish.status ≡ 0 → later ≡ opens
   carried-opens (carried.scripted is done same) nil = script-opens done nil
   carried-opens (carried.worked asked is done same) nil = work-opens done nil
   carried-opens (carried.served is done) nil = serve-opens done nil
+  carried-opens (carried.reported is done same) nil = report-opens done nil
 
 module _ {K : Type 0} {text : List ℕ} {before after : Outside} {finish : Finish K} where
   pub shown-known : IsShown text before after finish → IsKnown finish.status

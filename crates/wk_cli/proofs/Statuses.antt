@@ -1,5 +1,6 @@
 -- The statuses of ends and causes.
-use Rattle.std.proofs.Common.{◌≡◌, ◌==◌, ℕ, true, Result, Ok, Err, refl, sym, ap, subst, arith}
+use Rattle.std.proofs.Common.{◌≡◌, ◌==◌, ◌∙◌, ℕ, true, false, List, [], ◌∷◌, Result, Ok, Err, refl, sym, ap, subst, arith}
+use Rattle.std.proofs.lemmas.Bool.{false≢true}
 use Rattle.std.specs.List.{list_any}
 use Rattle.wk_commands.specs.declared.ends.CommandEnd.{CommandEnd}
 use Rattle.wk_commands.specs.declared.ends.CommandEnd.TheVariants as command
@@ -7,6 +8,9 @@ use Rattle.wk_core.specs.declared.outcomes.LoadCause.{LoadCause}
 use Rattle.wk_core.specs.declared.outcomes.LoadCause.TheVariants as cause
 use Rattle.wk_script.specs.declared.script.ScriptEnd.{ScriptEnd}
 use Rattle.wk_script.specs.declared.script.ScriptEnd.TheVariants as end
+use Rattle.wk_reports.specs.Over.{status_of_report}
+use Rattle.wk_reports.specs.declared.written.ReportEnd.{ReportEnd}
+use Rattle.wk_reports.specs.declared.written.ReportEnd.TheVariants as report
 use Rattle.wk_cli.specs.Statuses.{status_of_cause, status_of_command, status_of_end, status_of_work, statuses}
 
 abbrev pub IsKnown : ℕ → Type 0
@@ -180,3 +184,43 @@ command-is-done command.StoreFault is = absurd (omega (arith, is))
 command-is-done command.Differs is = absurd (omega (arith, is))
 command-is-done command.Full is = absurd (omega (arith, is))
 command-is-done command.DoorFault is = absurd (omega (arith, is))
+
+-- ---- reports
+
+pub known-report : (status : ℕ) (end : Result ReportEnd LoadCause) → status ≡ status_of_report end → IsKnown status
+known-report status end is = subst IsKnown (sym is) (by end)
+  where
+    by : (e : Result ReportEnd LoadCause) → IsKnown (status_of_report e)
+    by (Ok report.Done) = refl
+    by (Ok report.Memory) = refl
+    by (Ok report.WriteFault) = refl
+    by (Err cause.Memory) = refl
+    by (Err cause.StoreFault) = refl
+    by (Err (cause.BadStore bad)) = refl
+
+-- a report ends at no other status than one of these
+pub report-among : (end : Result ReportEnd LoadCause) → list_any (λ s. status_of_report end == s) (0 ∷ 1 ∷ 4 ∷ 5 ∷ 7 ∷ []) ≡ true
+report-among (Ok report.Done) = refl
+report-among (Ok report.Memory) = refl
+report-among (Ok report.WriteFault) = refl
+report-among (Err cause.Memory) = refl
+report-among (Err cause.StoreFault) = refl
+report-among (Err (cause.BadStore bad)) = refl
+
+-- so at none that isn't among them
+pub not-listed : (one status : ℕ) → list_any (λ s. status == s) (0 ∷ 1 ∷ 4 ∷ 5 ∷ 7 ∷ []) ≡ false → one ≡ status → list_any (λ s. one == s) (0 ∷ 1 ∷ 4 ∷ 5 ∷ 7 ∷ []) ≡ true → ⊥
+not-listed one status other is among = false≢true (sym other ∙ subst (λ (n : ℕ). list_any (λ s. n == s) (0 ∷ 1 ∷ 4 ∷ 5 ∷ 7 ∷ []) ≡ true) is among)
+
+pub no-report-at : (status : ℕ) (end : Result ReportEnd LoadCause) → list_any (λ s. status == s) (0 ∷ 1 ∷ 4 ∷ 5 ∷ 7 ∷ []) ≡ false → status_of_report end ≡ status → ⊥
+no-report-at status end other is = not-listed (status_of_report end) status other is (report-among end)
+
+pub report-is-write-fault : (end : Result ReportEnd LoadCause) → status_of_report end ≡ 4 → end ≡ Ok report.WriteFault
+report-is-write-fault (Ok report.Done) is = absurd (omega (arith, is))
+report-is-write-fault (Ok report.Memory) is = absurd (omega (arith, is))
+report-is-write-fault (Ok report.WriteFault) is = refl
+report-is-write-fault (Err cause.Memory) is = absurd (omega (arith, is))
+report-is-write-fault (Err cause.StoreFault) is = absurd (omega (arith, is))
+report-is-write-fault (Err (cause.BadStore bad)) is = absurd (omega (arith, is))
+
+pub report-without-write-fault : (end : Result ReportEnd LoadCause) → status_of_report end ≡ 0 → end ≡ Ok report.WriteFault → ⊥
+report-without-write-fault end done is = let four : status_of_report end ≡ 4 = ap status_of_report is in omega (arith, done, four)

@@ -1,4 +1,5 @@
 pub mod Finished
 pub mod Scripted
 pub mod Works
+pub mod Reported
 pub mod Statuses

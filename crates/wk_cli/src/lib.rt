@@ -3,6 +3,7 @@
 
 mod ends;
 mod helps;
+mod reports;
 mod scripts;
 mod serves;
 mod top;

@@ -9,6 +9,7 @@ ghost use Rattle.wk_cli.specs.Statuses.{statuses};
 
 use crate::ends::{Finish, unopened};
 use crate::helps::show;
+use crate::reports::report;
 use crate::scripts::script;
 use crate::serves::serve;
 use crate::works::work;
@@ -107,6 +108,7 @@ where
             };
             work(rt, alloc, vault, name, limit, pages, hands, output, clock)
         }
+        Command::Report => report(alloc, vault, name, line.report, line.most as usize, output),
     }
 }
 
@@ -114,9 +116,11 @@ where
 /// `script` runs the lines of the input over the wiki of the store that is named ([`run_script`](wk_script::run_script)),
 /// and `jobs`, `check` and `gen` do their work over it ([`work_over`](wk_commands::work_over)), each with a journal of at most
 /// as many events as the line says; `jobs` and `gen` do the jobs by as many workers as `--procs` says. `serve` serves the connections
-/// that come in by the door, by as many workers as `--workers` says ([`serve_over`](wk_commands::serve_over)).
+/// that come in by the door, by as many workers as `--workers` says ([`serve_over`](wk_commands::serve_over)). `report` writes a report
+/// of the store with at most as many lines as `--most` says ([`report_over`](wk_reports::report_over)), and makes no event.
 ///
-/// Its commands but `script` and `check` wait for each other's threads, and `serve` for its peers: it isn't promised that it returns.
+/// Its commands but `script`, `check` and `report` wait for each other's threads, and `serve` for its peers: it isn't promised that
+/// it returns.
 ///
 /// The status is
 /// - 0: all was done: all lines of the input were answered, to its end, or no job is left and no page differs, where pages

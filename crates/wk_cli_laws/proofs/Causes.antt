@@ -17,7 +17,7 @@ use Rattle.wk_script.specs.declared.script.ScriptEnd.TheVariants as end
 use Rattle.wk_script_runs.specs.Outside.{Outside}
 use Rattle.wk_words.specs.Verdicts.{Wanted, runs}
 use Rattle.wk_words.specs.declared.commands.Command.{Command}
-use Rattle.wk_words.specs.declared.commands.Command.TheVariants.{Script, Serve, Jobs, Check, Generate}
+use Rattle.wk_words.specs.declared.commands.Command.TheVariants.{Script, Serve, Jobs, Check, Generate, Report}
 use Rattle.wk_cli.specs.Statuses.{status_of_cause, status_of_command, status_of_end, status_of_work}
 use Rattle.wk_cli.specs.Scripted.{IsOver, IsScripted, VaultStore}
 use Rattle.wk_cli.specs.Scripted as script
@@ -29,6 +29,7 @@ use Rattle.wk_cli.specs.declared.ends.Finish.{Finish}
 use Rattle.wk_cli_laws.specs.Causes.{EndsWithItsCause, ReadsTooMuch, compares, is_done, no_room, out_of_memory, pages_differ, too_long}
 use Rattle.wk_cli_laws.specs.Complete.{EndsWithoutFault, HasNoFaultOutside}
 use Rattle.wk_cli_laws.specs.Full.{FindsNoRoom}
+use Rattle.wk_cli.proofs.Ended.{report-not}
 use Rattle.wk_cli_laws.proofs.Complete.{finished-ends, finished-whole}
 use Rattle.wk_cli_laws.proofs.Full.{finished-full}
 
@@ -117,6 +118,7 @@ module _ (wanted : Wanted) (kept : VaultStore) (before after : Outside) (status 
   with-cause : (c : Command) → wanted.command ≡ c → EndsWithoutFault c status → Ends
   with-cause Script is = by-status 0 (1 ∷ 9 ∷ []) is_done (by-status 1 (9 ∷ []) out_of_memory (by-status 9 [] (λ nine. too_long nine is (bound nine)) at-none))
   with-cause Serve is = by-status 0 (1 ∷ []) is_done (by-status 1 [] out_of_memory at-none)
+  with-cause Report is = by-status 0 (1 ∷ []) is_done (by-status 1 [] out_of_memory at-none)
   with-cause Jobs is = by-status 0 (1 ∷ 10 ∷ []) is_done (by-status 1 (10 ∷ []) out_of_memory at-ten)
   with-cause Check is = by-status 0 (1 ∷ 8 ∷ []) is_done (by-status 1 (8 ∷ []) out_of_memory (by-status 8 [] (λ eight. pages_differ eight (ap compares is)) at-none))
   with-cause Generate is =
@@ -127,6 +129,7 @@ module _ {K L : Type 0} (told : K → Option StoreTables) (faults : K → ℕ) (
       → finish.status ≡ 9 → ReadsTooMuch before after
   carried-bound wanted kept (finished.scripted is done same) nine = scripted-bound told faults is_whole wanted.journal_limit before after finish kept opens later done nine
   carried-bound wanted kept (finished.worked asked is done same) nine = absurd (worked-bound told faults is_whole wanted.journal_limit before after finish kept opens later asked done nine)
+  carried-bound wanted kept (finished.reported is done same) nine = absurd (report-not 9 refl done nine)
   carried-bound wanted kept (finished.served is done) nine =
       absurd (served-bound told faults is_whole wanted.journal_limit before after finish kept opens later door door_later wanted.listen wanted.max_connections done nine)
 

@@ -1,5 +1,5 @@
 -- Which ends need a fault.
-use Rattle.std.proofs.Common.{◌≡◌, ◌≢◌, ◌≤◌, ℕ, ◌+◌, ◌⊎◌, Bool, true, List, [], ◌∷◌, Option, Some, None, Result, IfSome, is_some, refl, sym, ap, ◌∙◌, subst, inl, inr, arith}
+use Rattle.std.proofs.Common.{◌≡◌, ◌≢◌, ◌≤◌, ℕ, ◌+◌, ◌⊎◌, Bool, true, List, [], ◌∷◌, Option, Some, None, Result, Ok, Err, IfSome, is_some, refl, sym, ap, ◌∙◌, subst, inl, inr, arith}
 use Rattle.wk_base.specs.Faults.{Rose}
 use Rattle.wk_table_rules.specs.GoodStore.{first_broken}
 use Rattle.wk_table_rules.specs.Rows.{StoreTables}
@@ -24,6 +24,10 @@ use Rattle.wk_commands.specs.declared.ends.CommandEnd.{CommandEnd}
 use Rattle.wk_commands.specs.declared.ends.CommandEnd.TheVariants as command
 use Rattle.wk_commands.specs.declared.works.Work.{Work}
 use Rattle.wk_commands.specs.declared.works.Work.TheVariants as asks
+use Rattle.wk_report_rules.specs.declared.Report.{Report as Which}
+use Rattle.wk_reports.specs.Over.{IsReportedOver, status_of_report}
+use Rattle.wk_reports.specs.declared.written.ReportEnd.{ReportEnd}
+use Rattle.wk_reports.specs.declared.written.ReportEnd.TheVariants as report
 use Rattle.wk_script_runs.specs.Ends.{keeper_left}
 use Rattle.wk_script_runs.specs.Outside.{Outside}
 use Rattle.wk_script_runs.specs.Served.{StoreFaults, no_replies, passed_over, risen}
@@ -32,12 +36,14 @@ use Rattle.wk_script.specs.declared.script.ScriptEnd.{ScriptEnd}
 use Rattle.wk_script.specs.declared.script.ScriptEnd.TheVariants as end
 use Rattle.wk_words.specs.Verdicts.{Wanted, refused, runs, shows_help, shows_version}
 use Rattle.wk_words.specs.declared.commands.Command.{Command}
-use Rattle.wk_words.specs.declared.commands.Command.TheVariants.{Script, Serve, Jobs, Check, Generate}
+use Rattle.wk_words.specs.declared.commands.Command.TheVariants.{Script, Serve, Jobs, Check, Generate, Report}
 use Rattle.wk_cli.specs.Statuses.{status_of_cause, status_of_command, status_of_end, status_of_work}
 use Rattle.wk_cli.specs.Scripted.{IsOpened, IsOver, IsScripted, VaultStore}
 use Rattle.wk_cli.specs.Scripted as script
 use Rattle.wk_cli.specs.Works.{DoorSeen, IsServedAt, IsWorkedAt}
 use Rattle.wk_cli.specs.Works as work
+use Rattle.wk_cli.specs.Reported.{IsReportedAt}
+use Rattle.wk_cli.specs.Reported as reports
 use Rattle.wk_cli.specs.Finished.{IsCarriedOut, IsFinished, VaultTold, store_named, work_of}
 use Rattle.wk_cli.specs.Finished as finished
 use Rattle.wk_cli.specs.declared.ends.Finish.{Finish}
@@ -66,6 +72,7 @@ memory-ends Serve = refl
 memory-ends Jobs = refl
 memory-ends Check = refl
 memory-ends Generate = refl
+memory-ends Report = refl
 
 at-status : (asked : Command) (status other : ℕ) → status ≡ other → EndsWithoutFault asked other → EndsWithoutFault asked status
 at-status asked status other is ends = subst (EndsWithoutFault asked) (sym is) ends
@@ -79,6 +86,7 @@ command_of (asks.Generate pages number) = Generate
 named : (c : Command) (pages number : ℕ) (asked : Work) → work_of c pages number ≡ Some asked → command_of asked ≡ c
 named Script pages number asked is = absurd (let e : None ≡ Some asked = is in cc)
 named Serve pages number asked is = absurd (let e : None ≡ Some asked = is in cc)
+named Report pages number asked is = absurd (let e : None ≡ Some asked = is in cc)
 named Jobs pages number asked is = let same : asks.Jobs ≡ asked = (let e : Some asks.Jobs ≡ Some asked = is in cc) in ap command_of (sym same)
 named Check pages number asked is = let same : asks.Check ≡ asked = (let e : Some asks.Check ≡ Some asked = is in cc) in ap command_of (sym same)
 named Generate pages number asked is =
@@ -221,6 +229,13 @@ module _ {L : Type 0} (door later : DoorSeen L) {address : List ℕ} {most : ℕ
   served-ends status (served.unwritten part) not_risen written is = absurd (written is)
   served-ends status (served.no_memory part) not_risen written is = at-status Serve status 1 is refl
 
+-- ---- reports
+
+cause-of-report : (why : LoadCause) → status_of_report (Err why) ≡ status_of_cause why
+cause-of-report cause.Memory = refl
+cause-of-report cause.StoreFault = refl
+cause-of-report (cause.BadStore bad) = refl
+
 -- ---- the commands
 
 module _ {K L : Type 0} (told : K → Option StoreTables) (faults : K → ℕ) (is_whole : K → Bool) (journal : ℕ) (kept : VaultStore) (opens later : ℕ) (door door_later : DoorSeen L)
@@ -312,6 +327,31 @@ module _ {K L : Type 0} (told : K → Option StoreTables) (faults : K → ℕ) (
     work-whole (work.not_opened is rose none) whole = held-none faults finish.store none.no_store
     work-whole (work.over_a_store keeper had same over) whole = held-by faults finish.store over.left over.store_is (worked-whole keeper over.left over.end had over.worked whole)
 
+  module _ (which : Which) (most : ℕ) where
+    report-ends : (keeper left : K) (end : Result ReportEnd LoadCause) → IsOpened told faults is_whole kept keeper → IsReportedOver told faults is_whole which most keeper left before.taken after.taken end
+        → finish.status ≡ status_of_report end → finish.store ≡ Some left → Fine → EndsWithoutFault Report finish.status
+    report-ends keeper left (Ok report.Done) had o status_is store_is fine = at-status Report finish.status 0 status_is refl
+    report-ends keeper left (Ok report.Memory) had o status_is store_is fine = at-status Report finish.status 1 status_is refl
+    report-ends keeper left (Ok report.WriteFault) had o status_is store_is fine = absurd (fine.no_write_fault status_is)
+    report-ends keeper left (Err why) had o status_is store_is fine =
+        let held = held-of faults finish.store left store_is fine.no_store_fault in
+        at-status Report finish.status 1
+        (status_is ∙ (cause-of-report why ∙ load-ends told faults keeper left fine.tables why (told-of keeper had fine) fine.good o.broken o.fault held)) refl
+
+    reported-ends : IsReportedAt told faults is_whole which most kept opens later before after finish → Fine → EndsWithoutFault Report finish.status
+    reported-ends (reports.no_memory is none) fine = at-status Report finish.status 1 is refl
+    reported-ends (reports.not_opened is rose none) fine = absurd (fine.no_open_fault rose)
+    reported-ends (reports.over_a_store keeper had same over) fine = report-ends keeper over.left over.end had over.reported over.status_is over.store_is fine
+
+    report-whole : (keeper left : K) (end : Result ReportEnd LoadCause) → IsOpened told faults is_whole kept keeper → IsReportedOver told faults is_whole which most keeper left before.taken after.taken end → kept.whole ≡ true → faults left ≡ 0
+    report-whole keeper left (Ok how) had o whole = o.keeper_goes_on.whole (had.whole whole) ∙ had.no_fault
+    report-whole keeper left (Err why) had o whole = o.whole (had.whole whole) ∙ had.no_fault
+
+    reported-whole : IsReportedAt told faults is_whole which most kept opens later before after finish → kept.whole ≡ true → IfSome finish.store (λ left. faults left ≡ 0)
+    reported-whole (reports.no_memory is none) whole = held-none faults finish.store none.no_store
+    reported-whole (reports.not_opened is rose none) whole = held-none faults finish.store none.no_store
+    reported-whole (reports.over_a_store keeper had same over) whole = held-by faults finish.store over.left over.store_is (report-whole keeper over.left over.end had over.reported whole)
+
   module _ (address : List ℕ) (most : ℕ) where
     serving-ends : (keeper left : K) (end : Result CommandEnd LoadCause) → IsOpened told faults is_whole kept keeper
         → IsServedOn told faults is_whole address most journal keeper left door.told door_later.told door.faults door_later.faults before.taken after.taken end
@@ -348,6 +388,9 @@ module _ {K L : Type 0} (told : K → Option StoreTables) (faults : K → ℕ) (
   carried-ends wanted kept (finished.worked asked is done same) fine =
       subst (λ (c : Command). EndsWithoutFault c finish.status) (named wanted.command wanted.pages wanted.number asked is)
       (work-ends told faults is_whole wanted.journal_limit kept opens later door door_later before after finish asked done fine)
+  carried-ends wanted kept (finished.reported is done same) fine =
+      subst (λ (c : Command). EndsWithoutFault c finish.status) (sym is)
+      (reported-ends told faults is_whole wanted.journal_limit kept opens later door door_later before after finish wanted.report wanted.most done fine)
   carried-ends wanted kept (finished.served is done) fine =
       subst (λ (c : Command). EndsWithoutFault c finish.status) (sym is)
       (serve-ends told faults is_whole wanted.journal_limit kept opens later door door_later before after finish wanted.listen wanted.max_connections done fine)
@@ -358,6 +401,8 @@ module _ {K L : Type 0} (told : K → Option StoreTables) (faults : K → ℕ) (
       scripted-whole told faults is_whole wanted.journal_limit kept opens later door door_later before after finish done whole
   carried-whole wanted kept (finished.worked asked is done same) whole =
       work-whole told faults is_whole wanted.journal_limit kept opens later door door_later before after finish asked done whole
+  carried-whole wanted kept (finished.reported is done same) whole =
+      reported-whole told faults is_whole wanted.journal_limit kept opens later door door_later before after finish wanted.report wanted.most done whole
   carried-whole wanted kept (finished.served is done) whole =
       serve-whole told faults is_whole wanted.journal_limit kept opens later door door_later before after finish wanted.listen wanted.max_connections done whole
 

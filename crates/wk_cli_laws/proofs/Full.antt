@@ -38,7 +38,7 @@ use Rattle.wk_script.specs.declared.script.ScriptEnd.TheVariants as end
 use Rattle.wk_script_runs.specs.Outside.{Outside}
 use Rattle.wk_words.specs.Verdicts.{Wanted, runs}
 use Rattle.wk_words.specs.declared.commands.Command.{Command}
-use Rattle.wk_words.specs.declared.commands.Command.TheVariants.{Script, Serve, Jobs, Check, Generate}
+use Rattle.wk_words.specs.declared.commands.Command.TheVariants.{Script, Serve, Jobs, Check, Generate, Report}
 use Rattle.wk_cli.specs.Statuses.{status_of_cause, status_of_command, status_of_end, status_of_work}
 use Rattle.wk_cli.specs.Scripted.{IsOpened, IsOver, IsScripted, VaultStore}
 use Rattle.wk_cli.specs.Scripted as script
@@ -47,6 +47,7 @@ use Rattle.wk_cli.specs.Works as work
 use Rattle.wk_cli.specs.Finished.{IsCarriedOut, IsFinished, IsShown, VaultTold, store_named, work_of}
 use Rattle.wk_cli.specs.Finished as finished
 use Rattle.wk_cli.specs.declared.ends.Finish.{Finish}
+use Rattle.wk_cli.proofs.Ended.{report-not}
 use Rattle.wk_cli_laws.specs.Full.{CannotDrain, CannotDrainBehind, FindsNoRoom, HasNoRoom, IsRefusedForRoom, first_saves}
 
 -- ---- statuses
@@ -174,6 +175,7 @@ IsFew (asks.Generate pages number) = pages ≤ 10000
 few-asked : (c : Command) (count number : ℕ) (asked : Work) → work_of c count number ≡ Some asked → count ≤ 10000 → IsFew asked
 few-asked Script count number asked is few = absurd (let e : None ≡ Some asked = is in cc)
 few-asked Serve count number asked is few = absurd (let e : None ≡ Some asked = is in cc)
+few-asked Report count number asked is few = absurd (let e : None ≡ Some asked = is in cc)
 few-asked Jobs count number asked is few = let same : asks.Jobs ≡ asked = (let e : Some asks.Jobs ≡ Some asked = is in cc) in subst IsFew same tt
 few-asked Check count number asked is few = let same : asks.Check ≡ asked = (let e : Some asks.Check ≡ Some asked = is in cc) in subst IsFew same tt
 few-asked Generate count number asked is few =
@@ -258,6 +260,7 @@ module _ {K L : Type 0} (told : K → Option StoreTables) (faults : K → ℕ) (
       → finish.status ≡ 10 → FindsNoRoom wanted kept
   carried-full wanted kept few (finished.scripted is done same) ten = absurd (scripted-not-ten done ten)
   carried-full wanted kept few (finished.served is done) ten = absurd (served-not-ten told faults is_whole wanted.listen wanted.max_connections wanted.journal_limit door door_later before after kept opens later finish done ten)
+  carried-full wanted kept few (finished.reported is done same) ten = absurd (report-not 10 refl done ten)
   carried-full wanted kept few (finished.worked asked is done same) ten =
       let none = worked-full told faults is_whole wanted.journal_limit kept before after opens later finish asked (few-asked wanted.command wanted.pages wanted.number asked is few) done ten in
       record { state = none.0; asked = asked; asked_is = is; opened_is = none.1; no_room = none.2 }

@@ -3,7 +3,7 @@ use Rattle.std.specs.Prelude.{◌≡◌, ◌≤◌, ◌^◌, ℕ, Bool, true, fa
 use Rattle.std.specs.Io.KnownBytes.{Consumes}
 use Rattle.wk_words.specs.Verdicts.{Wanted}
 use Rattle.wk_words.specs.declared.commands.Command.{Command}
-use Rattle.wk_words.specs.declared.commands.Command.TheVariants.{Script, Serve, Jobs, Check, Generate}
+use Rattle.wk_words.specs.declared.commands.Command.TheVariants.{Script, Serve, Jobs, Check, Generate, Report}
 use Rattle.wk_script_runs.specs.Outside.{Outside}
 use Rattle.wk_cli.specs.Scripted.{VaultStore}
 use Rattle.wk_cli_laws.specs.Full.{FindsNoRoom}
@@ -15,6 +15,7 @@ compares Serve = false
 compares Jobs = false
 compares Check = true
 compares Generate = true
+compares Report = false
 
 -- 2^40 bytes were read of the input, or more
 pub record ReadsTooMuch (before after : Outside) : Type 0 where

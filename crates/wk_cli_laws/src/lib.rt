@@ -27,7 +27,8 @@ pub use examples::a_check_of_an_empty_store;
 
 /// With legal words, over tables that break no rule, and where no count of faults rose, of the vault, the input, the output and the
 /// door, and that of the store that is handed back stands at 0, the status is 0, or 8 in `check` and `gen` alone, or 9 in `script` alone,
-/// or 10 in `jobs` and `gen` alone, or 1 for want of memory. What was done by each of these ends is told by how the program finished.
+/// or 10 in `jobs` and `gen` alone, or 1 for want of memory; so in `report` and in `serve` it is 0 or 1. What was done by each of
+/// these ends is told by how the program finished.
 pub fn a_run_without_faults_is_complete<K, L>()
     ensures { (told : K → Option StoreTables) (faults : K → ℕ) (is_whole : K → Bool) (wanted : Wanted) (vault : VaultTold) (opens later reads reads_later writes writes_later : ℕ) (door door_later : DoorSeen L) (before after : Outside) (finish : Finish K)
         → IsFinished told faults is_whole (runs wanted) vault opens later door door_later before after finish

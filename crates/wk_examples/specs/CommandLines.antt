@@ -1,5 +1,6 @@
 -- A command line without options.
 use Rattle.std.specs.Prelude.{[], codes}
+use Rattle.wk_report_rules.specs.declared.Report.TheVariants.{Wanted as WantedTitles}
 use Rattle.wk_words.specs.Verdicts.{Wanted}
 use Rattle.wk_words.specs.declared.commands.Command.{Command}
 
@@ -15,4 +16,6 @@ bare command = record {
   pages = 50;
   number = 1;
   journal_limit = 33554432;
+  most = 50;
+  report = WantedTitles;
 }

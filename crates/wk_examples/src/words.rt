@@ -1,7 +1,8 @@
 //! What the words of a command line come to.
 ghost use Rattle.std.specs.Prelude.{◌≡◌, ◌∷◌, [], codes};
 ghost use Rattle.wk_words.specs.Verdicts.{verdict, runs, refused, shows_help, shows_version};
-ghost use Rattle.wk_words.specs.declared.commands.Command.TheVariants.{Script, Serve, Jobs, Check, Generate};
+ghost use Rattle.wk_words.specs.declared.commands.Command.TheVariants.{Script, Serve, Jobs, Check, Generate, Report};
+ghost use Rattle.wk_report_rules.specs.declared.Report.TheVariants.{DoubleRedirects};
 ghost use Rattle.wk_examples.specs.CommandLines.{bare};
 
 /// Words that ask for something: an option stands before the command or behind it, and its value behind it or behind `=`.
@@ -12,6 +13,7 @@ pub fn asking()
     ensures serving { verdict (codes "wiki" ∷ codes "serve" ∷ codes "--workers=2" ∷ []) ≡ runs (record (bare Serve) { workers = 2 }) }
     ensures greatest { verdict (codes "wiki" ∷ codes "jobs" ∷ codes "--procs" ∷ codes "64" ∷ []) ≡ runs (record (bare Jobs) { procs = 64 }) }
     ensures without_effect { verdict (codes "wiki" ∷ codes "check" ∷ codes "--listen" ∷ codes "" ∷ []) ≡ runs (record (bare Check) { listen = [] }) }
+    ensures reporting { verdict (codes "wiki" ∷ codes "report" ∷ codes "--report" ∷ codes "doubleredirects" ∷ codes "--most=1" ∷ []) ≡ runs (record (bare Report) { report = DoubleRedirects; most = 1 }) }
 {}
 
 /// Words that are refused.
@@ -25,6 +27,7 @@ pub fn refusing()
     ensures too_small { verdict (codes "wiki" ∷ codes "gen" ∷ codes "--pages=0" ∷ []) ≡ refused }
     ensures too_large { verdict (codes "wiki" ∷ codes "jobs" ∷ codes "--procs" ∷ codes "65" ∷ []) ≡ refused }
     ensures no_value { verdict (codes "wiki" ∷ codes "gen" ∷ codes "--pages" ∷ []) ≡ refused }
+    ensures unknown_report { verdict (codes "wiki" ∷ codes "report" ∷ codes "--report=redirects" ∷ []) ≡ refused }
     ensures unknown_option { verdict (codes "wiki" ∷ codes "gen" ∷ codes "--page=7" ∷ []) ≡ refused }
 {}
 

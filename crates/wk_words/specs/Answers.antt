@@ -4,7 +4,7 @@ use Rattle.clap.specs.Words.{Row, Text, first_of}
 use Rattle.clap.specs.ValueTests.{is_unsigned_in}
 use Rattle.clap.specs.declared.error.kind.ErrorKind.{ErrorKind}
 use Rattle.clap.specs.declared.error.kind.ErrorKind.TheVariants.{DisplayHelp, DisplayVersion, OutOfMemory}
-use Rattle.wk_words.specs.Options.{NumberOption, workers, procs, max_connections, pages, number, journal_limit}
+use Rattle.wk_words.specs.Options.{NumberOption, workers, procs, max_connections, pages, number, journal_limit, most_lines}
 use Rattle.wk_words.specs.Verdicts.{Wanted, Verdict, refused, shows_help, shows_version}
 use Rattle.wk_words.specs.declared.options.NumberOption.{NumberOption as DeclaredOption}
 use Rattle.wk_words.specs.declared.reading.CommandLine.{CommandLine}
@@ -27,6 +27,8 @@ wanted_of line = record {
   pages = line.pages;
   number = line.number;
   journal_limit = line.journal_limit;
+  most = line.most;
+  report = line.report;
 }
 
 abbrev pub IsWithin : NumberOption → ℕ → Type 0
@@ -40,6 +42,7 @@ pub record IsInRange (line : CommandLine) : Type 0 where
   pub pages : IsWithin pages line.pages
   pub number : IsWithin number line.number
   pub journal_limit : IsWithin journal_limit line.journal_limit
+  pub most : IsWithin most_lines line.most
 
 -- a refusal says what words come to; want of memory says nothing
 abbrev pub Tells : Verdict → Refusal → Type 0

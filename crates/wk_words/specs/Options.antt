@@ -1,6 +1,6 @@
--- The command line (own): one word for the command, and eight options, of which each is given at most once and has one
+-- The command line (own): one word for the command, and ten options, of which each is given at most once and has one
 -- value. `clap` reads it, as a command without subcommands, groups or rules between arguments.
-use Rattle.std.specs.Prelude.{ℕ, true, List, [], ◌∷◌, map, fold, Some, codes}
+use Rattle.std.specs.Prelude.{ℕ, true, List, [], ◌∷◌, ◌++◌, map, fold, Some, codes}
 use Rattle.clap.specs.Words.{App, Rule, Text, new_app, new_rule, with_rule}
 use Rattle.clap.specs.Simple.{on_top}
 use Rattle.clap.specs.declared.builder.value_parser.ValueParser.TheVariants.{Unsigned}
@@ -36,8 +36,12 @@ number = record { name = codes "number"; least = 0; most = 4294967295; default =
 abbrev pub journal_limit : NumberOption
 journal_limit = record { name = codes "journal-limit"; least = 1; most = 33554432; default = 33554432 }
 
+-- lines of a report
+abbrev pub most_lines : NumberOption
+most_lines = record { name = codes "most"; least = 1; most = 1000000; default = 50 }
+
 abbrev pub numbers : List NumberOption
-numbers = workers ∷ procs ∷ max_connections ∷ pages ∷ number ∷ journal_limit ∷ []
+numbers = workers ∷ procs ∷ max_connections ∷ pages ∷ number ∷ journal_limit ∷ most_lines ∷ []
 
 -- the word for the command, without which no line is legal
 abbrev pub command_rule : Rule
@@ -53,7 +57,9 @@ number_rule option =
     record (new_rule option.name) { long = Some option.name; value_names = 1; parser = Some (Unsigned option.least option.most) }
 
 abbrev pub rules : List Rule
-rules = command_rule ∷ text_rule (codes "store") ∷ text_rule (codes "listen") ∷ map number_rule numbers
+rules =
+    command_rule ∷ text_rule (codes "store") ∷ text_rule (codes "listen")
+    ∷ (map number_rule numbers ++ (text_rule (codes "report") ∷ []))
 
 -- the program's name, with a version and no argument yet
 abbrev pub bare_app : App

@@ -4,9 +4,11 @@ use Rattle.std.specs.Option.{option_map_or}
 use Rattle.clap.specs.Words.{Row, Text, fault_of, first_of, matches_of}
 use Rattle.clap.specs.Kinds.{Kinds}
 use Rattle.clap.specs.declared.error.kind.ErrorKind.TheVariants.{DisplayHelp, DisplayVersion}
+use Rattle.wk_report_rules.specs.declared.Report.{Report}
 use Rattle.wk_text_rules.specs.Decimal.{is_decimal, digits_value}
 use Rattle.wk_words.specs.Commands.{command_named}
-use Rattle.wk_words.specs.Options.{NumberOption, wiki_app, workers, procs, max_connections, pages, number, journal_limit}
+use Rattle.wk_words.specs.Options.{NumberOption, wiki_app, workers, procs, max_connections, pages, number, journal_limit, most_lines}
+use Rattle.wk_words.specs.Reports.{report_named}
 use Rattle.wk_words.specs.declared.commands.Command.{Command}
 
 -- what a legal command line asks for
@@ -20,6 +22,8 @@ pub record Wanted : Type 0 where
   pub pages : ℕ
   pub number : ℕ
   pub journal_limit : ℕ
+  pub most : ℕ
+  pub report : Report
 
 -- the text that is given, or what stands for it
 abbrev pub text_in : Text → Text → List Row → Text
@@ -34,7 +38,8 @@ infixl 10 ◌>>=◌
 abbrev ◌>>=◌ : {X Y : Type 0} → Option X → (X → Option Y) → Option Y
 o >>= f = option_and_then f o
 
--- what is wanted by what `clap` finds in the words: the command is one that stands, and each number is written as above
+-- what is wanted by what `clap` finds in the words: the command and the report are ones that stand, and each number is
+-- written as above
 abbrev pub wanted_in : List Row → Option Wanted
 wanted_in rows = do
   command ← command_named (text_in (codes "command") [] rows)
@@ -44,6 +49,8 @@ wanted_in rows = do
   g ← number_in pages rows
   n ← number_in number rows
   j ← number_in journal_limit rows
+  l ← number_in most_lines rows
+  r ← report_named (text_in (codes "report") (codes "wanted") rows)
   Some (record {
     command = command;
     store = text_in (codes "store") [] rows;
@@ -54,6 +61,8 @@ wanted_in rows = do
     pages = g;
     number = n;
     journal_limit = j;
+    most = l;
+    report = r;
   })
 
 pub data Verdict : Type 0 where

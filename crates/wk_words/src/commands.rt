@@ -15,10 +15,12 @@ pub enum Command {
     Check,
     /// `gen`: pages are generated and saved, the jobs done and the rows compared.
     Generate,
+    /// `report`: the lines of a report over the store are written.
+    Report,
 }
 
 /// Whether the word is this name. Takes no memory.
-fn is_name(name: &str, word: &str) -> bool
+pub(crate) fn is_name(name: &str, word: &str) -> bool
     ensures { result ≡ bytes_eq name.now word.now }
 {
     name == word
@@ -38,6 +40,8 @@ pub(crate) fn command_named(word: &str) -> Option<Command>
         Some(Command::Check)
     } else if is_name("gen", word) {
         Some(Command::Generate)
+    } else if is_name("report", word) {
+        Some(Command::Report)
     } else {
         None
     }

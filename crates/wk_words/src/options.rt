@@ -2,7 +2,7 @@
 ghost use Rattle.std.specs.Prelude.{◌≡◌, false, IfOk, codes};
 ghost use Rattle.clap.specs.Words.{app_of, rule_of, with_rule};
 ghost use Rattle.wk_words.specs.Answers.{option_of};
-ghost use Rattle.wk_words.specs.Options.{bare_app, command_rule, journal_limit, max_connections, number, number_rule, pages, procs, text_rule, wiki_app, workers};
+ghost use Rattle.wk_words.specs.Options.{bare_app, command_rule, journal_limit, max_connections, most_lines, number, number_rule, pages, procs, text_rule, wiki_app, workers};
 
 use clap::Arg;
 use clap::builder::ValueParser;
@@ -71,8 +71,19 @@ pub(crate) const JOURNAL_LIMIT: NumberOption = NumberOption {
     help: "Events between two restarts, 1 to 33554432 [default: 33554432]",
 };
 
+pub(crate) const MOST: NumberOption = NumberOption {
+    name: "most",
+    least: 1,
+    most: 1_000_000,
+    default: 50,
+    help: "Lines of a report, 1 to 1000000 [default: 50]",
+};
+
 /// Where connections come in by default.
 pub(crate) const LISTEN: &str = "127.0.0.1:8080";
+
+/// What is reported by default.
+pub(crate) const REPORT: &str = "wanted";
 
 const VERSION: &str = "0.1.0";
 
@@ -86,7 +97,8 @@ Commands:
   check   compares the link rows of each page with a new expansion of it, and prints
           `differ TITLE` for each page that differs, then `pages N differ M`
   gen     generates pages, does their jobs and checks them, and prints
-          `pages N revisions R jobs 0 differ M`";
+          `pages N revisions R jobs 0 differ M`
+  report  prints the lines of a report, each a count and titles, and then `lines N`";
 
 const EXAMPLES: &str = "Examples:
   wiki gen --pages 1000
@@ -103,7 +115,7 @@ fn command_arg<'a>(alloc: Global) -> Arg<'a>
     Arg::new(alloc, "command")
         .value_name("COMMAND")
         .required(true)
-        .help("What to do: script, serve, jobs, check or gen")
+        .help("What to do: script, serve, jobs, check, gen or report")
 }
 
 /// An option whose value is any text.
@@ -178,8 +190,8 @@ fn with_first_numbers<'a>(
     app.arg(workers)?.arg(procs)?.arg(max_connections)
 }
 
-/// The other three.
-fn with_last_numbers<'a>(
+/// Three more.
+fn with_more_numbers<'a>(
     alloc: Global,
     app: clap::Command<'a>,
 ) -> Result<clap::Command<'a>, AllocError>
@@ -192,11 +204,27 @@ fn with_last_numbers<'a>(
     app.arg(pages)?.arg(number)?.arg(journal_limit)
 }
 
+/// What a report is, and how long.
+fn with_report<'a>(alloc: Global, app: clap::Command<'a>) -> Result<clap::Command<'a>, AllocError>
+    ensures { IfOk result (λ with. app_of with
+        ≡ with_rule (with_rule (app_of app.entry) (number_rule most_lines)) (text_rule (codes "report"))) }
+{
+    let most = number_arg(alloc, &MOST);
+    let report = text_arg(
+        alloc,
+        "report",
+        "REPORT",
+        "What is reported: wanted, orphaned, uncategorized, doubleredirects or mosttemplates [default: wanted]",
+    );
+    app.arg(most)?.arg(report)
+}
+
 /// The command line as `clap` reads it.
 pub(crate) fn wiki_app<'a>(alloc: Global) -> Result<clap::Command<'a>, AllocError>
     ensures { IfOk result (λ app. app_of app ≡ wiki_app) }
 {
     let texts = with_texts(alloc, bare_app(alloc))?;
     let numbers = with_first_numbers(alloc, texts)?;
-    with_last_numbers(alloc, numbers)
+    let all_numbers = with_more_numbers(alloc, numbers)?;
+    with_report(alloc, all_numbers)
 }

@@ -6,21 +6,25 @@ ghost use Rattle.clap.specs.Kinds.{HasKind};
 ghost use Rattle.wk_words.specs.Answers.{IsInRange, IsWithin, KeepsRange, Shows, Tells, option_of, texts, wanted_of};
 ghost use Rattle.wk_words.specs.Commands.{command_named};
 ghost use Rattle.wk_words.specs.Options.{numbers, wiki_app};
+ghost use Rattle.wk_words.specs.Reports.{report_named};
 ghost use Rattle.wk_words.specs.Verdicts.{number_in, is_refused, refused, runs, text_in, verdict, wanted_in};
 
 use crate::commands::{Command, command_named};
 use crate::options::{
-    JOURNAL_LIMIT, LISTEN, MAX_CONNECTIONS, NUMBER, NumberOption, PAGES, PROCS, WORKERS, wiki_app,
+    JOURNAL_LIMIT, LISTEN, MAX_CONNECTIONS, MOST, NUMBER, NumberOption, PAGES, PROCS, REPORT,
+    WORKERS, wiki_app,
 };
 use crate::refusals::Refusal;
+use crate::reports::report_named;
 use clap::error::ErrorKind;
 use clap::{ArgMatches, Error};
 use std::alloc::{AllocError, Global};
 use wk_bytes::decimal;
 use wk_memory::Memory;
+use wk_report_rules::Report;
 
 /// What a legal command line asks for. Each option has the value that is given, or its default.
-#[derive(Clone, Copy, PartialEq, Eq)]
+#[derive(Clone, Copy)]
 pub struct CommandLine<'a> {
     /// What to do.
     pub command: Command,
@@ -40,6 +44,10 @@ pub struct CommandLine<'a> {
     pub number: u32,
     /// The greatest number of events between two restarts: 1 to 33,554,432, which is the default.
     pub journal_limit: u64,
+    /// How many lines a report has at most: 1 to 1,000,000, by default 50.
+    pub most: u64,
+    /// What is reported, by default wanted titles.
+    pub report: Report,
 }
 
 /// What `clap` takes, and the rules of this program don't.
@@ -54,6 +62,8 @@ enum Misuse<'a> {
     },
     /// The word names no command that stands.
     Command(&'a str),
+    /// The word names no report that stands.
+    Report(&'a str),
 }
 
 /// The text that is given, or what stands for it.
@@ -98,6 +108,18 @@ fn read_command<'a>(matches: &ArgMatches<'a>) -> Result<Command, Misuse<'a>>
     }
 }
 
+/// The report that is named, or the one that stands for it.
+fn read_report<'a>(matches: &ArgMatches<'a>) -> Result<Report, Misuse<'a>>
+    ensures ok { IfOk result (λ report. report_named (text_in (codes "report") (codes "wanted") (rows_of (found_of matches.now))) ≡ Some report) }
+    ensures err { IsErr result → report_named (text_in (codes "report") (codes "wanted") (rows_of (found_of matches.now))) ≡ None }
+{
+    let word = read_text(matches, "report", REPORT);
+    match report_named(word) {
+        Some(report) => Ok(report),
+        None => Err(Misuse::Report(word)),
+    }
+}
+
 /// What matches ask for.
 fn command_line<'a>(matches: &ArgMatches<'a>) -> Result<CommandLine<'a>, Misuse<'a>>
     requires { All (KeepsRange (rows_of (found_of matches.now))) numbers }
@@ -112,6 +134,8 @@ fn command_line<'a>(matches: &ArgMatches<'a>) -> Result<CommandLine<'a>, Misuse<
     let pages = read_number(matches, &PAGES)?;
     let number = read_number(matches, &NUMBER)?;
     let journal_limit = read_number(matches, &JOURNAL_LIMIT)?;
+    let most = read_number(matches, &MOST)?;
+    let report = read_report(matches)?;
     Ok(CommandLine {
         command,
         store: read_text(matches, "store", ""),
@@ -122,6 +146,8 @@ fn command_line<'a>(matches: &ArgMatches<'a>) -> Result<CommandLine<'a>, Misuse<
         pages: pages as u32,
         number: number as u32,
         journal_limit,
+        most,
+        report,
     })
 }
 
@@ -155,7 +181,13 @@ fn misuse_error(
         }
         Misuse::Command(word) => {
             let message = format!(in alloc;
-                "unrecognized command '{word}'\n  [commands: script, serve, jobs, check, gen]"
+                "unrecognized command '{word}'\n  [commands: script, serve, jobs, check, gen, report]"
+            )?;
+            app.error(ErrorKind::InvalidValue, message.as_str())
+        }
+        Misuse::Report(word) => {
+            let message = format!(in alloc;
+                "invalid value '{word}' for '--report <REPORT>'\n  [possible values: wanted, orphaned, uncategorized, doubleredirects, mosttemplates]"
             )?;
             app.error(ErrorKind::InvalidValue, message.as_str())
         }
@@ -212,7 +244,7 @@ fn read_by<'a>(
 /// # Errors
 ///
 /// - `Words`: `clap` refuses them, and not to show help or the version; or a number is written with a sign or a leading
-///   zero; or the command word names no command that stands.
+///   zero; or a word names no command or no report that stands.
 /// - `Help` and `Version`: `--help` or `-h`, `--version` or `-V` stand before anything that `clap` refuses.
 /// - `Memory`: memory ran out.
 pub fn read<'a>(alloc: Global, words: &'a [String]) -> Result<CommandLine<'a>, Refusal>

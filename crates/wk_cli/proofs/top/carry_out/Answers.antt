@@ -1,8 +1,8 @@
 use Rattle.std.proofs.Common.{refl, ap, arith}
 use Rattle.wk_commands.specs.declared.works.Work.TheVariants as work
 use Rattle.wk_words.specs.declared.commands.Command.{Command}
-use Rattle.wk_cli.specs.Finished.{scripted, served, work_of, worked}
-use Rattle.wk_cli.proofs.Ended.{script-not-six, serve-not-three, work-not-six, work-not-three}
+use Rattle.wk_cli.specs.Finished.{reported, scripted, served, work_of, worked}
+use Rattle.wk_cli.proofs.Ended.{report-not, script-not-six, serve-not-three, work-not-six, work-not-three}
 use Rattle.wk_cli.proofs.top.carry_out.Goals as goal
 
 pub returns-in-Script : goal.returns-in-Script
@@ -79,3 +79,19 @@ returns-in-Serve g c = record {
   no_door_fault = c.serve.ensures.no_door_fault;
   door_fault = c.serve.ensures.door_fault;
 }
+
+pub returns-in-Report : goal.returns-in-Report
+returns-in-Report g c =
+    let done = c.report.ensures.reported (g.I.Source.rest c.args.input.now) (g.C.Clock.left c.args.clock.now) in record {
+      carried_out = reported c.in-Report.is done refl;
+      reads_never_fall = omega arith;
+      no_read_fault = λ is. refl;
+      read_fault = λ is. absurd (report-not 3 refl done is);
+      writes_never_fall = c.report.ensures.writes_never_fall;
+      no_write_fault = c.report.ensures.no_write_fault;
+      write_fault = c.report.ensures.write_fault;
+      opens_never_fall = c.report.ensures.opens_never_fall;
+      doors_never_fall = omega arith;
+      no_door_fault = λ _. refl;
+      door_fault = λ is. absurd (report-not 6 refl done is);
+    }

@@ -26,3 +26,7 @@ returns-clause-without_effect c = refl
 pub returns-clause-serving : goal.returns-clause-serving
 unfolding verdict clap_on_literals
 returns-clause-serving c = refl
+
+pub returns-clause-reporting : goal.returns-clause-reporting
+unfolding verdict clap_on_literals
+returns-clause-reporting c = refl

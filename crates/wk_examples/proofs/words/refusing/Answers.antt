@@ -42,3 +42,7 @@ returns-clause-no_value c = refl
 pub returns-clause-unknown_option : goal.returns-clause-unknown_option
 unfolding verdict clap_on_literals
 returns-clause-unknown_option c = refl
+
+pub returns-clause-unknown_report : goal.returns-clause-unknown_report
+unfolding verdict clap_on_literals
+returns-clause-unknown_report c = refl

@@ -1,5 +1,5 @@
 use Rattle.std.proofs.Common.{arith}
-use Rattle.wk_words.specs.Options.{workers, procs, max_connections, pages, number, journal_limit}
+use Rattle.wk_words.specs.Options.{workers, procs, max_connections, pages, number, journal_limit, most_lines}
 use Rattle.wk_words.proofs.reading.command_line.Goals as goal
 
 pub read_number-requires-clause-range : goal.read_number-requires-clause-range
@@ -19,3 +19,6 @@ read_number-requires-5-clause-range c = c.requires 4 number (omega arith)
 
 pub read_number-requires-6-clause-range : goal.read_number-requires-6-clause-range
 read_number-requires-6-clause-range c = c.requires 5 journal_limit (omega arith)
+
+pub read_number-requires-7-clause-range : goal.read_number-requires-7-clause-range
+read_number-requires-7-clause-range c = c.requires 6 most_lines (omega arith)

@@ -2,7 +2,7 @@ use Rattle.std.proofs.Common.{◌≡◌, ◌∙◌, ap, ap₂}
 use Rattle.std.proofs.lemmas.Result.{IfOk-weaker}
 use Rattle.clap.specs.Words.{app_of, rule_of, with_rule}
 use Rattle.wk_words.specs.Options.{pages, number, journal_limit, number_rule}
-use Rattle.wk_words.proofs.options.with_last_numbers.Goals as goal
+use Rattle.wk_words.proofs.options.with_more_numbers.Goals as goal
 
 pub returns : goal.returns
 returns c =
