@@ -20,6 +20,8 @@ import time
 TOP = os.path.dirname(os.path.dirname(os.path.abspath(__file__)))
 SECONDS = 120
 PAUSE = 0.05
+# How long a connection is listened to on which nothing comes.
+QUIET = 0.5
 # How long a second piece waits, so that the first one is mostly read before.
 PIECE = 0.005
 # Streams whose calls fail: a folder can't be read, and a full device can't be written.
@@ -47,6 +49,12 @@ def free_port():
         except OSError:
             pass
     raise OSError("no port is free")
+
+
+def listens(port):
+    """Whether a program listens at the port (proc(5): LISTEN is 0A)."""
+    with open("/proc/net/tcp", encoding="ascii") as it:
+        return any(re.match(rf" *\d+: \w+:{port:04X} \w+:\w+ 0A ", line) for line in it)
 
 
 def bytes_of(text):
@@ -133,12 +141,16 @@ class Connection:
         rest, self.held = self.held, b""
         return rest
 
+    def quiet(self):
+        """Whether nothing comes for a while."""
+        return not self.held and not select.select([self.socket], [], [], QUIET)[0]
+
 
 class Steps:
     """The steps of one case, its folder, and what goes on meanwhile."""
 
     def __init__(self, folder, paths):
-        self.folder, self.paths, self.limits = folder, paths, {}
+        self.folder, self.paths, self.limits, self.files = folder, paths, {}, {}
         self.going = self.port = self.side = self.wiki_port = None
         self.ports = []
         self.connections = {}
@@ -213,11 +225,12 @@ class Steps:
     def begin(self, rest, **streams):
         limits = {"preexec_fn": self.limited} if self.limits else {}
         others = {stream: os.open(path, mode) for kind, (stream, path, mode) in FAILING.items() if kind in self.limits}
+        others |= {stream: os.open(self.path(name), mode, 0o644) for stream, (name, mode) in self.files.items()}
         disk = [*ON_DISK, str(self.limits["disk"])] if "disk" in self.limits else []
         begun = subprocess.Popen([*disk, *self.words(rest)], cwd=self.folder, **(streams | others), **limits)
         for it in others.values():
             os.close(it)
-        self.limits = {}
+        self.limits, self.files = {}, {}
         return begun
 
     def run(self, rest, given):
@@ -233,8 +246,9 @@ class Steps:
     def start(self, rest, given):
         pipe = subprocess.PIPE
         self.going = self.begin(rest, stdin=pipe, stdout=pipe, stderr=pipe)
-        self.going.stdin.write(given)
-        self.going.stdin.flush()
+        if given:
+            self.going.stdin.write(given)
+            self.going.stdin.flush()
 
     def tell(self, rest):
         self.going.stdin.write(bytes_of(rest))
@@ -250,6 +264,10 @@ class Steps:
             got += byte
         return lines_of(got)
 
+    def unheard(self):
+        """From here on nobody takes what the program writes."""
+        self.going.stdout.close()
+
     def ended(self, by=None):
         """What the program writes until it ends, by a signal or at the end of its input."""
         it, self.going = self.going, None
@@ -264,11 +282,48 @@ class Steps:
 
     # Connections
 
-    def serve(self, rest):
+    def new_port(self):
         self.port = self.wiki_port = free_port()
         self.ports.append(self.port)
+
+    def serve(self, rest):
+        self.new_port()
         self.start(f"wiki serve {rest}" if "--listen" in rest else f"wiki serve --listen 127.0.0.1:PORT {rest}", b"")
-        return self.heard(1)
+        # (what goes into a file isn't heard)
+        return self.heard(1) if self.going.stdout else self.until_it_listens()
+
+    def until_it_listens(self):
+        """Waits until the program listens, or has ended."""
+        until = time.monotonic() + SECONDS
+        while not listens(self.port) and self.going.poll() is None and time.monotonic() < until:
+            time.sleep(PIECE)
+
+    def replica(self, rest, given):
+        self.new_port()
+        self.start(f"wiki replica --listen 127.0.0.1:PORT {rest}", given)
+        self.until_it_listens()
+
+    def point(self, least):
+        """The point that the server tells once it is at least this: it is asked again and again on a connection of its own."""
+        it, until = Connection(self.port), time.monotonic() + SECONDS
+        while True:
+            it.send(b"GET /api.php?action=query&meta=tokens HTTP/1.1\r\n\r\n")
+            found = re.search(rb'"point":(\d+)', it.response())
+            if not found or least <= int(found[1]) or until < time.monotonic():
+                it.socket.close()
+                return [found[1].decode() if found else "no reply"]
+            time.sleep(PIECE)
+
+    def knock(self):
+        """Comes as one client after the other until the program has ended: what it wrote until then."""
+        until = time.monotonic() + SECONDS
+        while self.going.poll() is None and time.monotonic() < until:
+            try:
+                socket.create_connection(("127.0.0.1", self.port), SECONDS).close()
+            except OSError:
+                pass
+            time.sleep(PAUSE)
+        return self.ended()
 
     def beside(self, rest):
         """Starts bin/mediawiki-api in front of the server, in the place of one that was there; what follows is asked of it."""
@@ -342,6 +397,9 @@ class Steps:
             "read": lambda: lines_of(of.response()),
             "rest": lambda: lines_of(of.rest()),
             "close": lambda: of.socket.close(),
+            "quiet": lambda: ["yes" if of.quiet() else "no"],
+            "point": lambda: self.point(int(rest)),
+            "knock": lambda: self.knock(),
             "pause": lambda: time.sleep(PAUSE),
             "request": lambda: self.request(rest),
             "cuts": lambda: self.cuts(rest),
@@ -360,6 +418,10 @@ class Steps:
             "start": lambda: self.start(rest, given),
             "tell": lambda: self.tell(rest),
             "heard": lambda: self.heard(int(rest)),
+            "unheard": lambda: self.unheard(),
+            "from": lambda: self.files.__setitem__("stdin", (rest, os.O_RDONLY)),
+            "into": lambda: self.files.__setitem__("stdout", (rest, os.O_WRONLY | os.O_CREAT | os.O_APPEND)),
+            "replica": lambda: self.replica(rest, given),
             "kill": lambda: self.ended(signal.Signals[rest]),
             "end": lambda: self.ended(),
             "limit": lambda: self.limits.update({rest.split(" ")[0]: int(rest.split(" ")[1])}),
@@ -393,6 +455,13 @@ def parted(text):
     return found
 
 
+def without_moments(text):
+    """What came, without the moments of replies and of the rows and saves of a feed."""
+    text = re.sub(r'"timestamp":\d+', '"timestamp":N', text)
+    text = re.sub(r'^(\["revision",\d+,\d+,\d+),\d+,', r"\1,N,", text, flags=re.M)
+    return re.sub(r'^(\["save",".*),\d+\]$', r"\1,N]", text, flags=re.M)
+
+
 def transcript(text, folder, paths):
     """The steps of a case and what came of each."""
     steps, lines = Steps(folder, paths), []
@@ -407,4 +476,4 @@ def transcript(text, folder, paths):
         whole = re.sub(r"\d{4}-\d\d-\d\dT\d\d:\d\d:\d\dZ", "MOMENT", whole)
     for port in steps.ports:
         whole = whole.replace(f":{port}", ":PORT")
-    return re.sub(r'"timestamp":\d+', '"timestamp":N', whole)
+    return without_moments(whole)

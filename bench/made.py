@@ -74,6 +74,14 @@ def filled(page):
     return "{{Infobox|name=%s%s}} [[Page 2]] {{Note|5}}[[Category:C3]]" % (page, fields)
 
 
+def drawn(number, pages, draw):
+    """The text of one of so many pages, which has some of the infobox's fields, a note, a link to another page and a category, as
+    they are drawn."""
+    fields = "".join(f"|f{field}=v{draw.randrange(100)}" for field in FIELDS if draw.randrange(2))
+    link, note, category = draw.randrange(pages) + 1, draw.randrange(10), draw.randrange(5)
+    return "{{Infobox|name=Page %d%s}} [[Page %d]] {{Note|%d}}[[Category:C%d]]" % (number, fields, link, note, category)
+
+
 def deep(at):
     """A text that calls the next template within four arguments."""
     return "{{{a|{{{b|{{{c|{{{d|{{Deep %d}}}}}}}}}}}}}}" % (at + 1)

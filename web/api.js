@@ -29,6 +29,7 @@ const WORDS = {
   articleexists: () => "There is a page of this title already.",
   missingtitle: () => "There is no page of this title.",
   editconflict: () => "Someone else has saved this page since you began.",
+  readonly: () => "This is a replica of the wiki, which can only be read. Nothing was saved.",
   wikifull: (it) => `The wiki is full: it can't take more ${{ pages: "pages", revisions: "revisions", text: "text" }[it.limit] ?? it.limit}. Nothing was saved.`,
   journalfull: () => "The wiki takes no more changes until it is started again; pages can be read meanwhile. Nothing was saved.",
   nomemory: () => "The wiki has run out of memory. Nothing was saved.",

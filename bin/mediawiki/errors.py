@@ -78,4 +78,6 @@ def told(it, title=""):
     if it.code in ("wikifull", "journalfull"):
         why = FULL.get(it.answered.get("limit"), "its journal is full until it is started again")
         return error("readonly", {"readonlyreason": f"The wiki takes no more changes: {why}."})
+    if it.code == "readonly":
+        return error("readonly", {"readonlyreason": "This is a replica: edits go to the wiki that it follows."})
     return ApiError(f"internal_api_error_{FAULTS.get(it.code, 'Wiki')}", f"The wiki answered {it.code}: {it.answered.get('info')}")

@@ -38,15 +38,17 @@ fn meaning(status: u8) -> &'static str {
         8 => "the link rows of a page aren't those of a new expansion",
         9 => "2^40 bytes were read",
         10 => "the journal or the wiki is full",
+        11 =>
+            "the feed is bad: a line breaks the rule of feeds, or the input ended before the start",
         _ => "the program ended early",
     }
 }
 
-/// Whether the command makes a store that isn't there: some would tell nothing of it.
+/// Whether the command makes a store that isn't there: some would tell nothing of it, and one opens none.
 fn is_made_by(command: Command) -> bool {
     match command {
         Command::Script | Command::Serve | Command::Generate => true,
-        Command::Jobs | Command::Check | Command::Report => false,
+        Command::Jobs | Command::Check | Command::Report | Command::Replica => false,
     }
 }
 
@@ -148,7 +150,7 @@ struct Ended {
 }
 
 /// Makes the top call, looks up the row that breaks a rule, if one does, and ends the store.
-fn ran<I: Source, O: Sink, C: Clock + Send, D: Door + Send, R: Threads + Wait + Sync>(
+fn ran<I: Source + Send, O: Sink + Send, C: Clock + Send, D: Door + Send, R: Threads + Wait + Sync>(
     rt: &R,
     alloc: Global,
     words: &[String],

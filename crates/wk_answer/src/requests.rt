@@ -6,7 +6,7 @@ ghost use Rattle.wk_view_rules.specs.Worlds.{IsHonest};
 ghost use Rattle.wk_wiki_rules.specs.States.{world_of};
 ghost use Rattle.wk_wiki_rules.specs.Staleness.{first_stale};
 ghost use Rattle.wk_request_rules.specs.Requests.{text_to_transform};
-ghost use Rattle.wk_request.specs.Asked.{ask_of, request_asked, save_of};
+ghost use Rattle.wk_request.specs.Asked.{ask_of, request_asked};
 ghost use Rattle.wk_core.specs.Steps.{GoesOn, HasMadeNothing};
 ghost use Rattle.wk_answer_rules.specs.Answers.{answer_to_request, asks_to_save};
 ghost use Rattle.wk_saving.specs.Saved.{IsActed};
@@ -17,7 +17,7 @@ use wk_core::{Keeper, Wiki};
 use wk_expand::Trees;
 use wk_memory::Memory;
 use wk_replies::future_point;
-use wk_request::{Ask, Asked, Request, SaveAsked};
+use wk_request::{Ask, Asked, Request};
 use wk_saving::{edit_with, save_asked, save_substituted};
 use wk_subst::Substituted;
 
@@ -54,31 +54,6 @@ pub fn answer<K: Keeper>(
     }
 }
 
-/// Makes the save that a request asks for, once its least point is reached.
-fn save<K: Keeper>(
-    wiki: &mut Wiki<K>,
-    request: &Request,
-    asked: &SaveAsked,
-    now: u64,
-) -> Result<Value, Memory>
-    requires unsealed { wiki.old.start.sealed ≡ None }
-    requires asked { save_of asked.now ≡ ask_of request.now.ask }
-    ensures acted { IfOk result (λ v. IsActed K.told K.faults wiki.old wiki.new
-        (answer_to_request wiki.old.start.limits wiki.old.state (length wiki.old.journal) now (request_asked request.now)) (view v)) }
-    ensures memory { OnErr result (HasMadeNothing K.told wiki.old wiki.new) }
-    ensures no_fault { OnErr result (K.faults wiki.new.keeper ≡ K.faults wiki.old.keeper) }
-    ensures keeper { GoesOn K.told K.faults wiki.old wiki.new }
-{
-    let point = wiki.point();
-    if is_early(request, point) {
-        return Ok(future_point(wiki.allocator(), point, point)?);
-    }
-    if request.subst {
-        return save_substituted(wiki, asked, now);
-    }
-    save_asked(wiki, asked, now)
-}
-
 /// Does what a request asks, at this many seconds since 1970, and gives the answer (MediaWiki's API:Main page and the page
 /// of each module). An edit and a deletion make the event of their save, where they aren't refused and change something;
 /// nothing else makes an event. The text of an edit that asks for it is transformed in the present state before it is judged
@@ -99,10 +74,17 @@ pub fn act<K: Keeper>(
     ensures no_fault { OnErr result (K.faults wiki.new.keeper ≡ K.faults wiki.old.keeper) }
     ensures keeper { GoesOn K.told K.faults wiki.old wiki.new }
 {
-    match request.ask.asked() {
-        Asked::Save(asked) => save(wiki, request, &asked, now),
-        _ => answer(wiki, request, trees),
+    let Asked::Save(asked) = request.ask.asked() else {
+        return answer(wiki, request, trees);
+    };
+    let point = wiki.point();
+    if is_early(request, point) {
+        return Ok(future_point(wiki.allocator(), point, point)?);
     }
+    if request.subst {
+        return save_substituted(wiki, &asked, now);
+    }
+    save_asked(wiki, &asked, now)
 }
 
 /// Makes the edit that a request asks for, whose text was transformed before by texts of revisions that the wiki has, at this

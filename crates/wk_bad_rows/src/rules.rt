@@ -1,6 +1,7 @@
-//! The rules of a good store, in words.
+//! The rules of a good store, and of a good feed, in words.
 
-/// The rule of a good store with this number, in words, and in which order its rows are counted.
+/// The rule of a good store with this number, in words, and in which order its rows are counted; and behind these rules that of a feed,
+/// whose rows are its lines.
 pub fn rule_text(rule: u8) -> &'static str {
     match rule {
         1 => "in page, by page_id: page_id is 1, 2, 3 and so on, at most 1000000",
@@ -21,6 +22,9 @@ pub fn rule_text(rule: u8) -> &'static str {
         }
         7 =>
             "in redirect, and behind it site: the version is 1 or 2, and with 1 there is no redirect",
+        8 => {
+            "in the feed, by its lines from 1 on: each line is one that serve --feed writes; the rows of a good store of version 2 come first, in the order of its tables and their keys, then the start, and then events, each possible where it stands; and the start is there"
+        }
         _ => "no rule that is known",
     }
 }

@@ -10,6 +10,8 @@ use Rattle.wk_revs.specs.declared.verdict.SaveRefusal.{SaveRefusal}
 use Rattle.wk_revs.specs.declared.verdict.SaveRefusal.TheVariants as refusal
 use Rattle.wk_commands.specs.Generated.{IsGenerated, end_of_refusal}
 use Rattle.wk_commands.specs.Generated as made
+use Rattle.wk_commands.specs.Fed.{HasFedAt, HasServedSo}
+use Rattle.wk_commands.specs.Fed as feeding
 use Rattle.wk_commands.specs.Served.{HasServedAt}
 use Rattle.wk_commands.specs.Served as serving
 use Rattle.wk_commands.specs.Worked.{IsServedOn, IsWorked, IsWorkedOn}
@@ -23,7 +25,14 @@ use Rattle.wk_cli.specs.Finished.{IsCarriedOut, IsShown}
 use Rattle.wk_cli.specs.Finished as carried
 use Rattle.std.specs.List.{list_any}
 use Rattle.wk_base.specs.Faults.{Rose}
+use Rattle.wk_wiki_rules.specs.Events.{Event}
+use Rattle.wk_wiki_rules.specs.States.{State}
 use Rattle.wk_report_rules.specs.declared.Report.{Report}
+use Rattle.wk_commands.specs.Followed.{HasFollowed}
+use Rattle.wk_commands.specs.Followed as following
+use Rattle.wk_commands.specs.declared.replicas.ReplicaEnd.{ReplicaEnd}
+use Rattle.wk_commands.specs.declared.replicas.ReplicaEnd.TheVariants as replica
+use Rattle.wk_cli.specs.Followed.{IsFollowedBy}
 use Rattle.wk_cli.specs.Reported.{IsReportedAt}
 use Rattle.wk_cli.specs.Reported as told_of
 use Rattle.wk_door.specs.Told.{DoorTold}
@@ -31,7 +40,7 @@ use Rattle.wk_cli.specs.Statuses.{status_of_work}
 use Rattle.wk_cli.specs.Works.{DoorSeen, IsServedAt, IsWorkedAt}
 use Rattle.wk_cli.specs.Works as work
 use Rattle.wk_cli.specs.declared.ends.Finish.{Finish}
-use Rattle.wk_cli.proofs.Statuses.{IsKnown, command-is-done, command-is-door-fault, known-cause, known-end, known-report, known-work, no-cause-six, no-cause-two, no-end-six, no-end-two, no-report-at, not-listed, no-work-three, no-work-two}
+use Rattle.wk_cli.proofs.Statuses.{IsKnown, command-is-done, command-is-door-fault, known-cause, known-end, known-replica, known-report, known-work, no-cause-six, no-cause-two, no-end-six, no-end-two, no-replica-two, no-report-at, not-listed, no-work-three, no-work-two}
 
 module _ {K : Type 0} {told : K → Option StoreTables} {faults : K → ℕ} {is_whole : K → Bool} {journal : ℕ} {keeper : K} {before after : Outside} {finish : Finish K} where
   over-known : IsOver told faults is_whole journal keeper before after finish → IsKnown finish.status
@@ -138,34 +147,56 @@ module _ {L : Type 0} {address : List ℕ} {most : ℕ} {door later : Option (Do
   at-done (serving.unwritten part) is = absurd (let e : WriteFault ≡ Done = is in cc)
   at-done (serving.no_memory part) is = absurd (let e : Memory ≡ Done = is in cc)
 
-module _ {K L : Type 0} {told : K → Option StoreTables} {faults : K → ℕ} {is_whole : K → Bool} {address : List ℕ} {most journal : ℕ} {keeper left : K} {door later : Option (DoorTold L)} {door_faults door_faults_later : ℕ}
+-- the same with a feed
+module _ {L : Type 0} {address : List ℕ} {most : ℕ} {door later : Option (DoorTold L)} {door_faults door_faults_later : ℕ} {before after : Option (List ℕ)} {from : State} {events : List Event} where
+  fed-at-door-fault : {end : CommandEnd} → HasFedAt address most door later door_faults door_faults_later before after from events end → end ≡ DoorFault → Rose door_faults door_faults_later
+  fed-at-door-fault (feeding.broken rose written) is = rose
+  fed-at-door-fault (feeding.fed count given all same written) is = absurd (let e : Done ≡ DoorFault = is in cc)
+  fed-at-door-fault feeding.unwritten is = absurd (let e : WriteFault ≡ DoorFault = is in cc)
+  fed-at-door-fault feeding.no_memory is = absurd (let e : Memory ≡ DoorFault = is in cc)
+
+  fed-at-done : {end : CommandEnd} → HasFedAt address most door later door_faults door_faults_later before after from events end → end ≡ Done → door_faults_later ≡ door_faults
+  fed-at-done (feeding.fed count given all same written) is = same
+  fed-at-done (feeding.broken rose written) is = absurd (let e : DoorFault ≡ Done = is in cc)
+  fed-at-done feeding.unwritten is = absurd (let e : WriteFault ≡ Done = is in cc)
+  fed-at-done feeding.no_memory is = absurd (let e : Memory ≡ Done = is in cc)
+
+  so-at-door-fault : {feed : Bool} {end : CommandEnd} → HasServedSo feed address most door later door_faults door_faults_later before after from events end → end ≡ DoorFault → Rose door_faults door_faults_later
+  so-at-door-fault (feeding.with_lines plain served) is = at-door-fault served is
+  so-at-door-fault (feeding.with_feed asked served) is = fed-at-door-fault served is
+
+  so-at-done : {feed : Bool} {end : CommandEnd} → HasServedSo feed address most door later door_faults door_faults_later before after from events end → end ≡ Done → door_faults_later ≡ door_faults
+  so-at-done (feeding.with_lines plain served) is = at-done served is
+  so-at-done (feeding.with_feed asked served) is = fed-at-done served is
+
+module _ {K L : Type 0} {told : K → Option StoreTables} {faults : K → ℕ} {is_whole : K → Bool} {feed : Bool} {address : List ℕ} {most journal : ℕ} {keeper left : K} {door later : Option (DoorTold L)} {door_faults door_faults_later : ℕ}
     {before after : Option (List ℕ)} where
-  pub served-rose : {end : Result CommandEnd LoadCause} → IsServedOn told faults is_whole address most journal keeper left door later door_faults door_faults_later before after end → status_of_work end ≡ 6 → Rose door_faults door_faults_later
+  pub served-rose : {end : Result CommandEnd LoadCause} → IsServedOn told faults is_whole feed address most journal keeper left door later door_faults door_faults_later before after end → status_of_work end ≡ 6 → Rose door_faults door_faults_later
   served-rose (worked.not_loaded why is same_door same none) six = absurd (no-cause-six why (ap status_of_work (sym is) ∙ six))
-  served-rose (worked.served_over how is over) six = at-door-fault over.served (command-is-door-fault how (ap status_of_work (sym is) ∙ six))
+  served-rose (worked.served_over how is over) six = so-at-door-fault over.served (command-is-door-fault how (ap status_of_work (sym is) ∙ six))
 
-  pub served-same : {end : Result CommandEnd LoadCause} → IsServedOn told faults is_whole address most journal keeper left door later door_faults door_faults_later before after end → status_of_work end ≡ 0 → door_faults_later ≡ door_faults
+  pub served-same : {end : Result CommandEnd LoadCause} → IsServedOn told faults is_whole feed address most journal keeper left door later door_faults door_faults_later before after end → status_of_work end ≡ 0 → door_faults_later ≡ door_faults
   served-same (worked.not_loaded why is same_door same none) nil = same
-  served-same (worked.served_over how is over) nil = at-done over.served (command-is-done how (ap status_of_work (sym is) ∙ nil))
+  served-same (worked.served_over how is over) nil = so-at-done over.served (command-is-done how (ap status_of_work (sym is) ∙ nil))
 
-module _ {K L : Type 0} {told : K → Option StoreTables} {faults : K → ℕ} {is_whole : K → Bool} {address : List ℕ} {most journal : ℕ} {kept : VaultStore} {opens later : ℕ} {door door_later : DoorSeen L} {before after : Outside}
+module _ {K L : Type 0} {told : K → Option StoreTables} {faults : K → ℕ} {is_whole : K → Bool} {feed : Bool} {address : List ℕ} {most journal : ℕ} {kept : VaultStore} {opens later : ℕ} {door door_later : DoorSeen L} {before after : Outside}
     {finish : Finish K} where
-  pub serve-known : IsServedAt told faults is_whole address most journal kept opens later door door_later before after finish → IsKnown finish.status
+  pub serve-known : IsServedAt told faults is_whole feed address most journal kept opens later door door_later before after finish → IsKnown finish.status
   serve-known (work.no_memory_to_open is none same) = subst IsKnown (sym is) refl
   serve-known (work.unopened is rose none same) = subst IsKnown (sym is) refl
   serve-known (work.over_the_store keeper had same over) = known-work finish.status over.end over.status_is
 
-  pub serve-not-two : IsServedAt told faults is_whole address most journal kept opens later door door_later before after finish → finish.status ≡ 2 → ⊥
+  pub serve-not-two : IsServedAt told faults is_whole feed address most journal kept opens later door door_later before after finish → finish.status ≡ 2 → ⊥
   serve-not-two (work.no_memory_to_open is none same) two = omega (arith, is, two)
   serve-not-two (work.unopened is rose none same) two = omega (arith, is, two)
   serve-not-two (work.over_the_store keeper had same over) two = no-work-two over.end (sym over.status_is ∙ two)
 
-  pub serve-not-three : IsServedAt told faults is_whole address most journal kept opens later door door_later before after finish → finish.status ≡ 3 → ⊥
+  pub serve-not-three : IsServedAt told faults is_whole feed address most journal kept opens later door door_later before after finish → finish.status ≡ 3 → ⊥
   serve-not-three (work.no_memory_to_open is none same) three = omega (arith, is, three)
   serve-not-three (work.unopened is rose none same) three = omega (arith, is, three)
   serve-not-three (work.over_the_store keeper had same over) three = no-work-three over.end (sym over.status_is ∙ three)
 
-  pub serve-opens : IsServedAt told faults is_whole address most journal kept opens later door door_later before after finish → finish.status ≡ 0 → later ≡ opens
+  pub serve-opens : IsServedAt told faults is_whole feed address most journal kept opens later door door_later before after finish → finish.status ≡ 0 → later ≡ opens
   serve-opens (work.no_memory_to_open is none same) nil = absurd (omega (arith, is, nil))
   serve-opens (work.unopened is rose none same) nil = absurd (omega (arith, is, nil))
   serve-opens (work.over_the_store keeper had same over) nil = same
@@ -187,24 +218,54 @@ module _ {K : Type 0} {told : K → Option StoreTables} {faults : K → ℕ} {is
   report-opens (told_of.not_opened is rose none) nil = absurd (omega (arith, is, nil))
   report-opens (told_of.over_a_store keeper had same over) nil = same
 
+-- of a replica
+module _ {L : Type 0} {address : List ℕ} {most : ℕ} {door later : Option (DoorTold L)} {door_faults door_faults_later : ℕ} {rest left before after : Option (List ℕ)} where
+  pub followed-rose : {end : ReplicaEnd} → HasFollowed address most door later door_faults door_faults_later rest left before after end → end ≡ replica.DoorFault → Rose door_faults door_faults_later
+  followed-rose (following.broken rose none) is = rose
+  followed-rose (following.followed events count given all same ended tells written) is = absurd (let e : replica.Done ≡ replica.DoorFault = is in cc)
+  followed-rose (following.bad_feed number bad none) is = absurd (let e : replica.BadFeed number ≡ replica.DoorFault = is in cc)
+  followed-rose (following.unread none) is = absurd (let e : replica.ReadFault ≡ replica.DoorFault = is in cc)
+  followed-rose (following.unwritten events ended tells part) is = absurd (let e : replica.WriteFault ≡ replica.DoorFault = is in cc)
+  followed-rose (following.too_long much none) is = absurd (let e : replica.Bound ≡ replica.DoorFault = is in cc)
+  followed-rose (following.no_memory none) is = absurd (let e : replica.Memory ≡ replica.DoorFault = is in cc)
+
+  pub followed-same : {end : ReplicaEnd} → HasFollowed address most door later door_faults door_faults_later rest left before after end → end ≡ replica.Done → door_faults_later ≡ door_faults
+  followed-same (following.followed events count given all same ended tells written) is = same
+  followed-same (following.broken rose none) is = absurd (let e : replica.DoorFault ≡ replica.Done = is in cc)
+  followed-same (following.bad_feed number bad none) is = absurd (let e : replica.BadFeed number ≡ replica.Done = is in cc)
+  followed-same (following.unread none) is = absurd (let e : replica.ReadFault ≡ replica.Done = is in cc)
+  followed-same (following.unwritten events ended tells part) is = absurd (let e : replica.WriteFault ≡ replica.Done = is in cc)
+  followed-same (following.too_long much none) is = absurd (let e : replica.Bound ≡ replica.Done = is in cc)
+  followed-same (following.no_memory none) is = absurd (let e : replica.Memory ≡ replica.Done = is in cc)
+
+module _ {K L : Type 0} {address : List ℕ} {most : ℕ} {door door_later : DoorSeen L} {before after : Outside} {finish : Finish K} where
+  replica-known : IsFollowedBy address most door door_later before after finish → IsKnown finish.status
+  replica-known done = known-replica finish.status done.end done.status_is
+
+  replica-not-two : IsFollowedBy address most door door_later before after finish → finish.status ≡ 2 → ⊥
+  replica-not-two done two = no-replica-two done.end (sym done.status_is ∙ two)
+
 module _ {K L : Type 0} {told : K → Option StoreTables} {faults : K → ℕ} {is_whole : K → Bool} {wanted : Wanted} {kept : VaultStore} {opens later : ℕ} {door door_later : DoorSeen L} {before after : Outside} {finish : Finish K} where
   pub carried-known : IsCarriedOut told faults is_whole wanted kept opens later door door_later before after finish → IsKnown finish.status
   carried-known (carried.scripted is done same) = script-known done
   carried-known (carried.worked asked is done same) = work-known done
   carried-known (carried.served is done) = serve-known done
   carried-known (carried.reported is done same) = report-known done
+  carried-known (carried.followed is same done) = replica-known done
 
   pub carried-not-two : IsCarriedOut told faults is_whole wanted kept opens later door door_later before after finish → finish.status ≡ 2 → ⊥
   carried-not-two (carried.scripted is done same) two = script-not-two done two
   carried-not-two (carried.worked asked is done same) two = work-not-two done two
   carried-not-two (carried.served is done) two = serve-not-two done two
   carried-not-two (carried.reported is done same) two = report-not 2 refl done two
+  carried-not-two (carried.followed is same done) two = replica-not-two done two
 
   pub carried-opens : IsCarriedOut told faults is_whole wanted kept opens later door door_later before after finish → finish.status ≡ 0 → later ≡ opens
   carried-opens (carried.scripted is done same) nil = script-opens done nil
   carried-opens (carried.worked asked is done same) nil = work-opens done nil
   carried-opens (carried.served is done) nil = serve-opens done nil
   carried-opens (carried.reported is done same) nil = report-opens done nil
+  carried-opens (carried.followed is same done) nil = same
 
 module _ {K : Type 0} {text : List ℕ} {before after : Outside} {finish : Finish K} where
   pub shown-known : IsShown text before after finish → IsKnown finish.status

@@ -11,7 +11,9 @@ use Rattle.wk_script.specs.declared.script.ScriptEnd.TheVariants as end
 use Rattle.wk_reports.specs.Over.{status_of_report}
 use Rattle.wk_reports.specs.declared.written.ReportEnd.{ReportEnd}
 use Rattle.wk_reports.specs.declared.written.ReportEnd.TheVariants as report
-use Rattle.wk_cli.specs.Statuses.{status_of_cause, status_of_command, status_of_end, status_of_work, statuses}
+use Rattle.wk_commands.specs.declared.replicas.ReplicaEnd.{ReplicaEnd}
+use Rattle.wk_commands.specs.declared.replicas.ReplicaEnd.TheVariants as replica
+use Rattle.wk_cli.specs.Statuses.{status_of_cause, status_of_command, status_of_end, status_of_replica, status_of_work, statuses}
 
 abbrev pub IsKnown : ℕ → Type 0
 IsKnown status = list_any (λ s. status == s) statuses ≡ true
@@ -224,3 +226,66 @@ report-is-write-fault (Err (cause.BadStore bad)) is = absurd (omega (arith, is))
 
 pub report-without-write-fault : (end : Result ReportEnd LoadCause) → status_of_report end ≡ 0 → end ≡ Ok report.WriteFault → ⊥
 report-without-write-fault end done is = let four : status_of_report end ≡ 4 = ap status_of_report is in omega (arith, done, four)
+
+-- ---- replicas
+
+pub known-replica : (status : ℕ) (how : ReplicaEnd) → status ≡ status_of_replica how → IsKnown status
+known-replica status how is = subst IsKnown (sym is) (by how)
+  where
+    by : (e : ReplicaEnd) → IsKnown (status_of_replica e)
+    by replica.Done = refl
+    by replica.Memory = refl
+    by replica.ReadFault = refl
+    by replica.WriteFault = refl
+    by replica.DoorFault = refl
+    by replica.Bound = refl
+    by (replica.BadFeed number) = refl
+
+pub no-replica-two : (how : ReplicaEnd) → status_of_replica how ≡ 2 → ⊥
+no-replica-two replica.Done is = omega (arith, is)
+no-replica-two replica.Memory is = omega (arith, is)
+no-replica-two replica.ReadFault is = omega (arith, is)
+no-replica-two replica.WriteFault is = omega (arith, is)
+no-replica-two replica.DoorFault is = omega (arith, is)
+no-replica-two replica.Bound is = omega (arith, is)
+no-replica-two (replica.BadFeed number) is = omega (arith, is)
+
+pub replica-is-done : (how : ReplicaEnd) → status_of_replica how ≡ 0 → how ≡ replica.Done
+replica-is-done replica.Done is = refl
+replica-is-done replica.Memory is = absurd (omega (arith, is))
+replica-is-done replica.ReadFault is = absurd (omega (arith, is))
+replica-is-done replica.WriteFault is = absurd (omega (arith, is))
+replica-is-done replica.DoorFault is = absurd (omega (arith, is))
+replica-is-done replica.Bound is = absurd (omega (arith, is))
+replica-is-done (replica.BadFeed number) is = absurd (omega (arith, is))
+
+pub replica-is-read-fault : (how : ReplicaEnd) → status_of_replica how ≡ 3 → how ≡ replica.ReadFault
+replica-is-read-fault replica.Done is = absurd (omega (arith, is))
+replica-is-read-fault replica.Memory is = absurd (omega (arith, is))
+replica-is-read-fault replica.ReadFault is = refl
+replica-is-read-fault replica.WriteFault is = absurd (omega (arith, is))
+replica-is-read-fault replica.DoorFault is = absurd (omega (arith, is))
+replica-is-read-fault replica.Bound is = absurd (omega (arith, is))
+replica-is-read-fault (replica.BadFeed number) is = absurd (omega (arith, is))
+
+pub replica-is-write-fault : (how : ReplicaEnd) → status_of_replica how ≡ 4 → how ≡ replica.WriteFault
+replica-is-write-fault replica.Done is = absurd (omega (arith, is))
+replica-is-write-fault replica.Memory is = absurd (omega (arith, is))
+replica-is-write-fault replica.ReadFault is = absurd (omega (arith, is))
+replica-is-write-fault replica.WriteFault is = refl
+replica-is-write-fault replica.DoorFault is = absurd (omega (arith, is))
+replica-is-write-fault replica.Bound is = absurd (omega (arith, is))
+replica-is-write-fault (replica.BadFeed number) is = absurd (omega (arith, is))
+
+pub replica-is-door-fault : (how : ReplicaEnd) → status_of_replica how ≡ 6 → how ≡ replica.DoorFault
+replica-is-door-fault replica.Done is = absurd (omega (arith, is))
+replica-is-door-fault replica.Memory is = absurd (omega (arith, is))
+replica-is-door-fault replica.ReadFault is = absurd (omega (arith, is))
+replica-is-door-fault replica.WriteFault is = absurd (omega (arith, is))
+replica-is-door-fault replica.DoorFault is = refl
+replica-is-door-fault replica.Bound is = absurd (omega (arith, is))
+replica-is-door-fault (replica.BadFeed number) is = absurd (omega (arith, is))
+
+-- at 0 it is done, and so ended by no fault
+pub replica-without : (how fault : ReplicaEnd) → status_of_replica how ≡ 0 → (status_of_replica fault ≡ 0 → ⊥) → how ≡ fault → ⊥
+replica-without how fault done not is = not (sym (ap status_of_replica is) ∙ done)

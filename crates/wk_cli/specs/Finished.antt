@@ -10,7 +10,8 @@ use Rattle.wk_words.specs.Answers.{IsWithin}
 use Rattle.wk_words.specs.Options as option
 use Rattle.wk_words.specs.Verdicts.{Verdict, Wanted, refused, runs, shows_help, shows_version}
 use Rattle.wk_words.specs.declared.commands.Command.{Command}
-use Rattle.wk_words.specs.declared.commands.Command.TheVariants.{Script, Serve, Jobs, Check, Generate, Report}
+use Rattle.wk_words.specs.declared.commands.Command.TheVariants.{Script, Serve, Jobs, Check, Generate, Report, Replica}
+use Rattle.wk_cli.specs.Followed.{IsFollowedBy}
 use Rattle.wk_cli.specs.Reported.{IsReportedAt}
 use Rattle.wk_cli.specs.Scripted.{HasNoStore, IsScripted, VaultStore}
 use Rattle.wk_cli.specs.Works.{DoorSeen, IsServedAt, IsWorkedAt}
@@ -34,7 +35,7 @@ pub record IsShown {K : Type 0} (text : List ℕ) (before after : Outside) (fini
   pub not_bad : finish.bad ≡ None
   pub no_store : finish.store ≡ None
 
--- the work that a command is, where it is neither on the lines of the input nor on connections, nor a report
+-- the work that a command is, where it is neither on the input nor on connections, nor a report
 abbrev pub work_of : Command → ℕ → ℕ → Option Work
 work_of Script pages number = None
 work_of Serve pages number = None
@@ -42,8 +43,9 @@ work_of Jobs pages number = Some work.Jobs
 work_of Check pages number = Some work.Check
 work_of Generate pages number = Some (work.Generate pages number)
 work_of Report pages number = None
+work_of Replica pages number = None
 
--- the command was carried out over the store of the name that is wanted, with a journal of at most so many events, which plays no part in a report; the door is touched by `serve` alone
+-- the command was carried out over the store of the name that is wanted, with a journal of at most so many events, which plays no part in a report; or over none, where a feed is followed. The door is touched by `serve` and `replica` alone.
 pub data IsCarriedOut {K L : Type 0} (told : K → Option StoreTables) (faults : K → ℕ) (is_whole : K → Bool) (wanted : Wanted) (kept : VaultStore)
     (opens later : ℕ) (door door_later : DoorSeen L) (before after : Outside) (finish : Finish K) : Type 0 where
   scripted : wanted.command ≡ Script → IsScripted told faults is_whole wanted.journal_limit kept opens later before after finish → door_later ≡ door →
@@ -54,7 +56,9 @@ pub data IsCarriedOut {K L : Type 0} (told : K → Option StoreTables) (faults :
   reported : wanted.command ≡ Report → IsReportedAt told faults is_whole wanted.report wanted.most kept opens later before after finish → door_later ≡ door →
       IsCarriedOut told faults is_whole wanted kept opens later door door_later before after finish
   served : wanted.command ≡ Serve →
-      IsServedAt told faults is_whole wanted.listen wanted.max_connections wanted.journal_limit kept opens later door door_later before after finish →
+      IsServedAt told faults is_whole wanted.feed wanted.listen wanted.max_connections wanted.journal_limit kept opens later door door_later before after finish →
+      IsCarriedOut told faults is_whole wanted kept opens later door door_later before after finish
+  followed : wanted.command ≡ Replica → later ≡ opens → IsFollowedBy wanted.listen wanted.max_connections door door_later before after finish →
       IsCarriedOut told faults is_whole wanted kept opens later door door_later before after finish
 
 -- Memory ran out for the words; or they were refused, and nothing was touched; or they asked for help or the version, which

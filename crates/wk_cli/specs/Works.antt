@@ -41,11 +41,11 @@ pub record DoorSeen (L : Type 0) : Type 0 where
   pub faults : ℕ
 
 -- A wiki over the store of a keeper, which is handed back, was served at an address, or it wasn't opened. Nothing was read of the input.
-pub record IsServedBy {K L : Type 0} (told : K → Option StoreTables) (faults : K → ℕ) (is_whole : K → Bool) (address : List ℕ) (most journal : ℕ) (keeper : K)
+pub record IsServedBy {K L : Type 0} (told : K → Option StoreTables) (faults : K → ℕ) (is_whole : K → Bool) (feed : Bool) (address : List ℕ) (most journal : ℕ) (keeper : K)
     (door later : DoorSeen L) (before after : Outside) (finish : Finish K) : Type 0 where
   pub left : K
   pub end : Result CommandEnd LoadCause
-  pub served : IsServedOn told faults is_whole address most journal keeper left door.told later.told door.faults later.faults before.taken after.taken end
+  pub served : IsServedOn told faults is_whole feed address most journal keeper left door.told later.told door.faults later.faults before.taken after.taken end
   pub nothing_read : after.rest ≡ before.rest
   pub status_is : finish.status ≡ status_of_work end
   pub bad_is : finish.bad ≡ bad_of_work end
@@ -54,9 +54,9 @@ pub record IsServedBy {K L : Type 0} (told : K → Option StoreTables) (faults :
 
 -- The vault opened no store, for want of memory, or at status 5 since its count of faults rose, and nothing was asked of the door; or it
 -- opened one, over which a wiki was served.
-pub data IsServedAt {K L : Type 0} (told : K → Option StoreTables) (faults : K → ℕ) (is_whole : K → Bool) (address : List ℕ) (most journal : ℕ) (kept : VaultStore) (opens later : ℕ)
+pub data IsServedAt {K L : Type 0} (told : K → Option StoreTables) (faults : K → ℕ) (is_whole : K → Bool) (feed : Bool) (address : List ℕ) (most journal : ℕ) (kept : VaultStore) (opens later : ℕ)
     (door door_later : DoorSeen L) (before after : Outside) (finish : Finish K) : Type 0 where
-  no_memory_to_open : finish.status ≡ 1 → HasNoStore before after finish → door_later ≡ door → IsServedAt told faults is_whole address most journal kept opens later door door_later before after finish
-  unopened : finish.status ≡ 5 → Rose opens later → HasNoStore before after finish → door_later ≡ door → IsServedAt told faults is_whole address most journal kept opens later door door_later before after finish
-  over_the_store : (keeper : K) → IsOpened told faults is_whole kept keeper → later ≡ opens → IsServedBy told faults is_whole address most journal keeper door door_later before after finish →
-      IsServedAt told faults is_whole address most journal kept opens later door door_later before after finish
+  no_memory_to_open : finish.status ≡ 1 → HasNoStore before after finish → door_later ≡ door → IsServedAt told faults is_whole feed address most journal kept opens later door door_later before after finish
+  unopened : finish.status ≡ 5 → Rose opens later → HasNoStore before after finish → door_later ≡ door → IsServedAt told faults is_whole feed address most journal kept opens later door door_later before after finish
+  over_the_store : (keeper : K) → IsOpened told faults is_whole kept keeper → later ≡ opens → IsServedBy told faults is_whole feed address most journal keeper door door_later before after finish →
+      IsServedAt told faults is_whole feed address most journal kept opens later door door_later before after finish

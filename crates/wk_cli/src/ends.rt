@@ -15,7 +15,8 @@ pub struct Finish<S> {
     pub status: u8,
     /// The points of the script's replies, in order.
     pub points: Vec<u64>,
-    /// The rule of a good store that the tables break, and the least row that breaks it, at status 7.
+    /// The rule of a good store that the tables break, and the least row that breaks it, at status 7; at status 11 rule 8, which is that of
+    /// a feed, and the number of its first bad line.
     pub bad: Option<BadStore>,
     /// The store, where the vault opened it.
     pub store: Option<S>,

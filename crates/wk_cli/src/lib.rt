@@ -3,6 +3,7 @@
 
 mod ends;
 mod helps;
+mod replicas;
 mod reports;
 mod scripts;
 mod serves;

@@ -15,13 +15,13 @@ use wk_door::Door;
 use wk_keeper::{OpenRefusal, Vault};
 
 /// Opens the store of a name and serves the connections that come in by the door over its wiki, whose journal takes at most so
-/// many events ([`serve_over`]). It waits.
+/// many events ([`serve_over`]), with its feed where that is asked. It waits.
 pub(crate) fn serve<
     V: Vault,
     G: Gate + Copy + Send,
     D: Door + Send,
     C: Clock + Send,
-    O: Sink,
+    O: Sink + Send,
     R: Threads + Wait + Sync,
 >(
     rt: &R,
@@ -39,7 +39,7 @@ where
     V::Store: Send,
     D::Link: Send,
     requires journal { journal ≤ max_journal }
-    ensures served { (rest : Option (List ℕ)) → IsServedAt V.Store.told V.Store.faults V.Store.is_whole asked.entry.address.now asked.entry.most journal
+    ensures served { (rest : Option (List ℕ)) → IsServedAt V.Store.told V.Store.faults V.Store.is_whole asked.entry.feed asked.entry.address.now asked.entry.most journal
         (record { tables = V.told vault.old name.now; whole = V.opens_whole vault.old name.now }) (V.faults vault.old) (V.faults vault.new)
         (record { told = D.told door.old; faults = D.faults door.old }) (record { told = D.told door.new; faults = D.faults door.new })
         (record { rest = rest; moments = C.left clock.old; taken = O.taken output.old })

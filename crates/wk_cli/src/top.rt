@@ -9,6 +9,7 @@ ghost use Rattle.wk_cli.specs.Statuses.{statuses};
 
 use crate::ends::{Finish, unopened};
 use crate::helps::show;
+use crate::replicas::replica;
 use crate::reports::report;
 use crate::scripts::script;
 use crate::serves::serve;
@@ -17,7 +18,8 @@ use std::alloc::Global;
 use std::sync::Wait;
 use std::thread::Threads;
 use wk_base::{Clock, Gate, Sink, Source};
-use wk_commands::{Hands, Serving, Work};
+use wk_commands::Work::{Check, Jobs};
+use wk_commands::{Following, Hands, Serving, Work};
 use wk_door::Door;
 use wk_keeper::Vault;
 use wk_words::{Command, CommandLine, Refusal, read};
@@ -25,8 +27,8 @@ use wk_words::{Command, CommandLine, Refusal, read};
 /// Does what a legal command line asks for, over the store of its name. It waits.
 fn carry_out<
     V: Vault,
-    I: Source,
-    O: Sink,
+    I: Source + Send,
+    O: Sink + Send,
     C: Clock + Send,
     D: Door + Send,
     G: Gate + Copy + Send,
@@ -74,33 +76,14 @@ where
                 address: line.listen,
                 workers: line.workers,
                 most: line.max_connections,
+                feed: line.feed,
             };
             serve(
                 rt, alloc, vault, name, limit, asked, gate, door, clock, output,
             )
         }
-        Command::Jobs => work(
-            rt,
-            alloc,
-            vault,
-            name,
-            limit,
-            Work::Jobs,
-            hands,
-            output,
-            clock,
-        ),
-        Command::Check => work(
-            rt,
-            alloc,
-            vault,
-            name,
-            limit,
-            Work::Check,
-            hands,
-            output,
-            clock,
-        ),
+        Command::Jobs => work(rt, alloc, vault, name, limit, Jobs, hands, output, clock),
+        Command::Check => work(rt, alloc, vault, name, limit, Check, hands, output, clock),
         Command::Generate => {
             let pages = Work::Generate {
                 pages: line.pages,
@@ -109,6 +92,15 @@ where
             work(rt, alloc, vault, name, limit, pages, hands, output, clock)
         }
         Command::Report => report(alloc, vault, name, line.report, line.most as usize, output),
+        Command::Replica => {
+            let (address, workers, most) = (line.listen, line.workers, line.max_connections);
+            let asked = Following {
+                address,
+                workers,
+                most,
+            };
+            replica(rt, alloc, asked, input, output, door)
+        }
     }
 }
 
@@ -116,15 +108,19 @@ where
 /// `script` runs the lines of the input over the wiki of the store that is named ([`run_script`](wk_script::run_script)),
 /// and `jobs`, `check` and `gen` do their work over it ([`work_over`](wk_commands::work_over)), each with a journal of at most
 /// as many events as the line says; `jobs` and `gen` do the jobs by as many workers as `--procs` says. `serve` serves the connections
-/// that come in by the door, by as many workers as `--workers` says ([`serve_over`](wk_commands::serve_over)). `report` writes a report
-/// of the store with at most as many lines as `--most` says ([`report_over`](wk_reports::report_over)), and makes no event.
+/// that come in by the door, by as many workers as `--workers` says ([`serve_over`](wk_commands::serve_over)), and with `--feed` it
+/// writes the wiki's feed in the place of its lines. `report` writes a report of the store with at most as many lines as `--most` says
+/// ([`report_over`](wk_reports::report_over)), and makes no event. `replica` opens no store: it takes the lines of the input, which are
+/// such a feed, and serves the connections that come in by the door from what these tell, by as many workers as `--workers` says
+/// ([`follow_feed`](wk_commands::follow_feed)).
 ///
-/// Its commands but `script`, `check` and `report` wait for each other's threads, and `serve` for its peers: it isn't promised that
-/// it returns.
+/// Its commands but `script`, `check` and `report` wait for each other's threads, and `serve` and `replica` for their peers too: it isn't
+/// promised that it returns.
 ///
 /// The status is
-/// - 0: all was done: all lines of the input were answered, to its end, or no job is left and no page differs, where pages
-///   were compared; or as many connections were served as were asked for, or none was left;
+/// - 0: all was done: all lines of the input were answered, to its end; or no job is left and no page differs, where pages
+///   were compared; or the report was written; or as many connections were served as were asked for, or none was left, and a feed
+///   that is written tells all that was done, one that is taken was taken to the input's end;
 /// - 1: memory ran out;
 /// - 2: the words aren't a legal command line ([`read`]), and nothing was touched;
 /// - 3: a read of the input failed;
@@ -134,15 +130,16 @@ where
 /// - 6: the door couldn't listen, or an accept failed;
 /// - 7: the tables that were loaded break a rule of a good store;
 /// - 8: `check` or `gen` found a page that differs;
-/// - 9: 2^40 bytes were read;
-/// - 10: a save of `gen` met a full journal or a limit of the wiki, or a drain met a full journal in a life without events.
+/// - 9: 2^40 bytes of the input were read, by `script` or `replica`;
+/// - 10: a save of `gen` met a full journal or a limit of the wiki, or a drain met a full journal in a life without events;
+/// - 11: a line of the feed that `replica` takes is bad, or the input ended before the line of the start; `bad` has its number.
 ///
 /// At 0 and 8 all is written, at every other status a prefix of it: in `script` of the replies to the whole lines that were
-/// read, at 3 and 9 all of them.
+/// read, at 3 and 9 all of them; of a feed at 6 all or nothing, at the others a part that isn't told; in `replica` nothing but at 4.
 pub fn wiki_main<
     V: Vault,
-    I: Source,
-    O: Sink,
+    I: Source + Send,
+    O: Sink + Send,
     C: Clock + Send,
     D: Door + Send,
     G: Gate + Copy + Send,

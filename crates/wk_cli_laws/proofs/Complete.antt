@@ -4,6 +4,7 @@ use Rattle.wk_base.specs.Faults.{Rose}
 use Rattle.wk_table_rules.specs.GoodStore.{first_broken}
 use Rattle.wk_table_rules.specs.Rows.{StoreTables}
 use Rattle.wk_page_rules.specs.Verdict.{EditAsked}
+use Rattle.wk_wiki_rules.specs.Events.{Event}
 use Rattle.wk_wiki_rules.specs.States.{State}
 use Rattle.wk_answer_rules.specs.Values.{ApiReply}
 use Rattle.wk_revs.specs.declared.verdict.SaveRefusal.{SaveRefusal}
@@ -16,6 +17,11 @@ use Rattle.wk_commands.specs.Checked.{IsCompared}
 use Rattle.wk_commands.specs.Drained.{IsDrained}
 use Rattle.wk_commands.specs.Generated.{IsGenerated, end_of_refusal}
 use Rattle.wk_commands.specs.Generated as made
+use Rattle.wk_commands.specs.Fed.{HasFedAt, HasServedSo}
+use Rattle.wk_commands.specs.Fed as feeding
+use Rattle.wk_commands.specs.Followed.{HasFollowed}
+use Rattle.wk_commands.specs.Followed as following
+use Rattle.wk_commands.specs.declared.replicas.ReplicaEnd.{ReplicaEnd}
 use Rattle.wk_commands.specs.Served.{HasServedAt}
 use Rattle.wk_commands.specs.Served as served
 use Rattle.wk_commands.specs.Worked.{IsServedOn, IsWorked, IsWorkedOn}
@@ -36,12 +42,13 @@ use Rattle.wk_script.specs.declared.script.ScriptEnd.{ScriptEnd}
 use Rattle.wk_script.specs.declared.script.ScriptEnd.TheVariants as end
 use Rattle.wk_words.specs.Verdicts.{Wanted, refused, runs, shows_help, shows_version}
 use Rattle.wk_words.specs.declared.commands.Command.{Command}
-use Rattle.wk_words.specs.declared.commands.Command.TheVariants.{Script, Serve, Jobs, Check, Generate, Report}
-use Rattle.wk_cli.specs.Statuses.{status_of_cause, status_of_command, status_of_end, status_of_work}
+use Rattle.wk_words.specs.declared.commands.Command.TheVariants.{Script, Serve, Jobs, Check, Generate, Report, Replica}
+use Rattle.wk_cli.specs.Statuses.{status_of_cause, status_of_command, status_of_end, status_of_replica, status_of_work}
 use Rattle.wk_cli.specs.Scripted.{IsOpened, IsOver, IsScripted, VaultStore}
 use Rattle.wk_cli.specs.Scripted as script
 use Rattle.wk_cli.specs.Works.{DoorSeen, IsServedAt, IsWorkedAt}
 use Rattle.wk_cli.specs.Works as work
+use Rattle.wk_cli.specs.Followed.{IsFollowedBy}
 use Rattle.wk_cli.specs.Reported.{IsReportedAt}
 use Rattle.wk_cli.specs.Reported as reports
 use Rattle.wk_cli.specs.Finished.{IsCarriedOut, IsFinished, VaultTold, store_named, work_of}
@@ -73,6 +80,7 @@ memory-ends Jobs = refl
 memory-ends Check = refl
 memory-ends Generate = refl
 memory-ends Report = refl
+memory-ends Replica = refl
 
 at-status : (asked : Command) (status other : ℕ) → status ≡ other → EndsWithoutFault asked other → EndsWithoutFault asked status
 at-status asked status other is ends = subst (EndsWithoutFault asked) (sym is) ends
@@ -87,6 +95,7 @@ named : (c : Command) (pages number : ℕ) (asked : Work) → work_of c pages nu
 named Script pages number asked is = absurd (let e : None ≡ Some asked = is in cc)
 named Serve pages number asked is = absurd (let e : None ≡ Some asked = is in cc)
 named Report pages number asked is = absurd (let e : None ≡ Some asked = is in cc)
+named Replica pages number asked is = absurd (let e : None ≡ Some asked = is in cc)
 named Jobs pages number asked is = let same : asks.Jobs ≡ asked = (let e : Some asks.Jobs ≡ Some asked = is in cc) in ap command_of (sym same)
 named Check pages number asked is = let same : asks.Check ≡ asked = (let e : Some asks.Check ≡ Some asked = is in cc) in ap command_of (sym same)
 named Generate pages number asked is =
@@ -229,6 +238,31 @@ module _ {L : Type 0} (door later : DoorSeen L) {address : List ℕ} {most : ℕ
   served-ends status (served.unwritten part) not_risen written is = absurd (written is)
   served-ends status (served.no_memory part) not_risen written is = at-status Serve status 1 is refl
 
+  fed-ends : {from : State} {events : List Event} {how : CommandEnd} (status : ℕ) → HasFedAt address most door.told later.told door.faults later.faults before after from events how → (Rose door.faults later.faults → ⊥) → status ≢ 4
+      → status ≡ status_of_command how → EndsWithoutFault Serve status
+  fed-ends status (feeding.fed count given all same text) not_risen written is = at-status Serve status 0 is refl
+  fed-ends status (feeding.broken rose text) not_risen written is = absurd (not_risen rose)
+  fed-ends status feeding.unwritten not_risen written is = absurd (written is)
+  fed-ends status feeding.no_memory not_risen written is = at-status Serve status 1 is refl
+
+  so-ends : {feed : Bool} {from : State} {events : List Event} {how : CommandEnd} (status : ℕ) → HasServedSo feed address most door.told later.told door.faults later.faults before after from events how → (Rose door.faults later.faults → ⊥) → status ≢ 4
+      → status ≡ status_of_command how → EndsWithoutFault Serve status
+  so-ends status (feeding.with_lines plain done) not_risen written is = served-ends status done not_risen written is
+  so-ends status (feeding.with_feed asked done) not_risen written is = fed-ends status done not_risen written is
+
+-- ---- replicas
+
+module _ {L : Type 0} (door later : DoorSeen L) {address : List ℕ} {most : ℕ} {rest left before after : Option (List ℕ)} where
+  followed-ends : {how : ReplicaEnd} (status : ℕ) → HasFollowed address most door.told later.told door.faults later.faults rest left before after how → (Rose door.faults later.faults → ⊥) → status ≢ 3 → status ≢ 4
+      → status ≡ status_of_replica how → EndsWithoutFault Replica status
+  followed-ends status (following.followed events count given all same ended tells text) not_risen read written is = at-status Replica status 0 is refl
+  followed-ends status (following.bad_feed number bad none) not_risen read written is = at-status Replica status 11 is refl
+  followed-ends status (following.unread none) not_risen read written is = absurd (read is)
+  followed-ends status (following.unwritten events ended tells part) not_risen read written is = absurd (written is)
+  followed-ends status (following.broken rose none) not_risen read written is = absurd (not_risen rose)
+  followed-ends status (following.too_long much none) not_risen read written is = at-status Replica status 9 is refl
+  followed-ends status (following.no_memory none) not_risen read written is = at-status Replica status 1 is refl
+
 -- ---- reports
 
 cause-of-report : (why : LoadCause) → status_of_report (Err why) ≡ status_of_cause why
@@ -352,9 +386,17 @@ module _ {K L : Type 0} (told : K → Option StoreTables) (faults : K → ℕ) (
     reported-whole (reports.not_opened is rose none) whole = held-none faults finish.store none.no_store
     reported-whole (reports.over_a_store keeper had same over) whole = held-by faults finish.store over.left over.store_is (report-whole keeper over.left over.end had over.reported whole)
 
+  -- no store is opened for a replica
   module _ (address : List ℕ) (most : ℕ) where
+    replica-ends : IsFollowedBy address most door door_later before after finish → Fine → EndsWithoutFault Replica finish.status
+    replica-ends done fine = followed-ends door door_later finish.status done.followed fine.no_door_fault fine.no_read_fault fine.no_write_fault done.status_is
+
+    replica-whole : IsFollowedBy address most door door_later before after finish → IfSome finish.store (λ left. faults left ≡ 0)
+    replica-whole done = held-none faults finish.store done.no_store
+
+  module _ (feed : Bool) (address : List ℕ) (most : ℕ) where
     serving-ends : (keeper left : K) (end : Result CommandEnd LoadCause) → IsOpened told faults is_whole kept keeper
-        → IsServedOn told faults is_whole address most journal keeper left door.told door_later.told door.faults door_later.faults before.taken after.taken end
+        → IsServedOn told faults is_whole feed address most journal keeper left door.told door_later.told door.faults door_later.faults before.taken after.taken end
         → finish.status ≡ status_of_work end → finish.store ≡ Some left → Fine → EndsWithoutFault Serve finish.status
     serving-ends keeper left end had (worked.not_loaded why is same_door same_faults o) status_is store_is fine =
         let held = held-of faults finish.store left store_is fine.no_store_fault in
@@ -362,19 +404,19 @@ module _ {K L : Type 0} (told : K → Option StoreTables) (faults : K → ℕ) (
         at-status Serve finish.status 1
         (status ∙ load-ends told faults keeper left fine.tables why (told-of keeper had fine) fine.good o.broken o.fault held) (memory-ends Serve)
     serving-ends keeper left end had (worked.served_over how is o) status_is store_is fine =
-        served-ends door door_later finish.status o.served fine.no_door_fault fine.no_write_fault (status_is ∙ ap status_of_work is)
+        so-ends door door_later finish.status o.served fine.no_door_fault fine.no_write_fault (status_is ∙ ap status_of_work is)
 
-    serve-ends : IsServedAt told faults is_whole address most journal kept opens later door door_later before after finish → Fine → EndsWithoutFault Serve finish.status
+    serve-ends : IsServedAt told faults is_whole feed address most journal kept opens later door door_later before after finish → Fine → EndsWithoutFault Serve finish.status
     serve-ends (work.no_memory_to_open is none same) fine = at-status Serve finish.status 1 is (memory-ends Serve)
     serve-ends (work.unopened is rose none same) fine = absurd (fine.no_open_fault rose)
     serve-ends (work.over_the_store keeper had same over) fine = serving-ends keeper over.left over.end had over.served over.status_is over.store_is fine
 
     served-whole : (keeper left : K) (end : Result CommandEnd LoadCause) → IsOpened told faults is_whole kept keeper
-        → IsServedOn told faults is_whole address most journal keeper left door.told door_later.told door.faults door_later.faults before.taken after.taken end → kept.whole ≡ true → faults left ≡ 0
+        → IsServedOn told faults is_whole feed address most journal keeper left door.told door_later.told door.faults door_later.faults before.taken after.taken end → kept.whole ≡ true → faults left ≡ 0
     served-whole keeper left end had (worked.not_loaded why is same_door same_faults o) whole = o.whole (had.whole whole) ∙ had.no_fault
     served-whole keeper left end had (worked.served_over how is o) whole = o.whole_count (had.whole whole) ∙ had.no_fault
 
-    serve-whole : IsServedAt told faults is_whole address most journal kept opens later door door_later before after finish → kept.whole ≡ true → IfSome finish.store (λ left. faults left ≡ 0)
+    serve-whole : IsServedAt told faults is_whole feed address most journal kept opens later door door_later before after finish → kept.whole ≡ true → IfSome finish.store (λ left. faults left ≡ 0)
     serve-whole (work.no_memory_to_open is none same) whole = held-none faults finish.store none.no_store
     serve-whole (work.unopened is rose none same) whole = held-none faults finish.store none.no_store
     serve-whole (work.over_the_store keeper had same over) whole = held-by faults finish.store over.left over.store_is (served-whole keeper over.left over.end had over.served whole)
@@ -393,7 +435,10 @@ module _ {K L : Type 0} (told : K → Option StoreTables) (faults : K → ℕ) (
       (reported-ends told faults is_whole wanted.journal_limit kept opens later door door_later before after finish wanted.report wanted.most done fine)
   carried-ends wanted kept (finished.served is done) fine =
       subst (λ (c : Command). EndsWithoutFault c finish.status) (sym is)
-      (serve-ends told faults is_whole wanted.journal_limit kept opens later door door_later before after finish wanted.listen wanted.max_connections done fine)
+      (serve-ends told faults is_whole wanted.journal_limit kept opens later door door_later before after finish wanted.feed wanted.listen wanted.max_connections done fine)
+  carried-ends wanted kept (finished.followed is same done) fine =
+      subst (λ (c : Command). EndsWithoutFault c finish.status) (sym is)
+      (replica-ends told faults is_whole wanted.journal_limit kept opens later door door_later before after finish wanted.listen wanted.max_connections done fine)
 
   carried-whole : (wanted : Wanted) (kept : VaultStore) → IsCarriedOut told faults is_whole wanted kept opens later door door_later before after finish
       → kept.whole ≡ true → IfSome finish.store (λ left. faults left ≡ 0)
@@ -404,7 +449,9 @@ module _ {K L : Type 0} (told : K → Option StoreTables) (faults : K → ℕ) (
   carried-whole wanted kept (finished.reported is done same) whole =
       reported-whole told faults is_whole wanted.journal_limit kept opens later door door_later before after finish wanted.report wanted.most done whole
   carried-whole wanted kept (finished.served is done) whole =
-      serve-whole told faults is_whole wanted.journal_limit kept opens later door door_later before after finish wanted.listen wanted.max_connections done whole
+      serve-whole told faults is_whole wanted.journal_limit kept opens later door door_later before after finish wanted.feed wanted.listen wanted.max_connections done whole
+  carried-whole wanted kept (finished.followed is same done) whole =
+      replica-whole told faults is_whole wanted.journal_limit kept opens later door door_later before after finish wanted.listen wanted.max_connections done
 
   same-wanted : (wanted other : Wanted) → runs wanted ≡ runs other → other ≡ wanted
   same-wanted wanted other is = let same : wanted ≡ other = cc in sym same

@@ -25,6 +25,10 @@ use Rattle.wk_cli_laws.proofs.Ahead.{pages-ahead}
 use Rattle.wk_cli_laws.proofs.Fits.{edit-refused}
 use Rattle.wk_commands.specs.Generated.{IsGenerated, end_of_refusal}
 use Rattle.wk_commands.specs.Generated as made
+use Rattle.wk_commands.specs.Fed.{HasFedAt, HasServedSo}
+use Rattle.wk_commands.specs.Fed as feeding
+use Rattle.wk_commands.specs.declared.replicas.ReplicaEnd.{ReplicaEnd}
+use Rattle.wk_commands.specs.declared.replicas.ReplicaEnd.TheVariants as replica
 use Rattle.wk_commands.specs.Served.{HasServedAt}
 use Rattle.wk_commands.specs.Served as served
 use Rattle.wk_commands.specs.Worked.{IsServedOn, IsWorked, IsWorkedOn, limits_with_journal}
@@ -38,8 +42,8 @@ use Rattle.wk_script.specs.declared.script.ScriptEnd.TheVariants as end
 use Rattle.wk_script_runs.specs.Outside.{Outside}
 use Rattle.wk_words.specs.Verdicts.{Wanted, runs}
 use Rattle.wk_words.specs.declared.commands.Command.{Command}
-use Rattle.wk_words.specs.declared.commands.Command.TheVariants.{Script, Serve, Jobs, Check, Generate, Report}
-use Rattle.wk_cli.specs.Statuses.{status_of_cause, status_of_command, status_of_end, status_of_work}
+use Rattle.wk_words.specs.declared.commands.Command.TheVariants.{Script, Serve, Jobs, Check, Generate, Report, Replica}
+use Rattle.wk_cli.specs.Statuses.{status_of_cause, status_of_command, status_of_end, status_of_replica, status_of_work}
 use Rattle.wk_cli.specs.Scripted.{IsOpened, IsOver, IsScripted, VaultStore}
 use Rattle.wk_cli.specs.Scripted as script
 use Rattle.wk_cli.specs.Works.{DoorSeen, IsServedAt, IsWorkedAt}
@@ -176,6 +180,7 @@ few-asked : (c : Command) (count number : ℕ) (asked : Work) → work_of c coun
 few-asked Script count number asked is few = absurd (let e : None ≡ Some asked = is in cc)
 few-asked Serve count number asked is few = absurd (let e : None ≡ Some asked = is in cc)
 few-asked Report count number asked is few = absurd (let e : None ≡ Some asked = is in cc)
+few-asked Replica count number asked is few = absurd (let e : None ≡ Some asked = is in cc)
 few-asked Jobs count number asked is few = let same : asks.Jobs ≡ asked = (let e : Some asks.Jobs ≡ Some asked = is in cc) in subst IsFew same tt
 few-asked Check count number asked is few = let same : asks.Check ≡ asked = (let e : Some asks.Check ≡ Some asked = is in cc) in subst IsFew same tt
 few-asked Generate count number asked is few =
@@ -236,6 +241,16 @@ module _ {K : Type 0} {text : List ℕ} {before after : Outside} {finish : Finis
   shown-not-ten : IsShown text before after finish → finish.status ≡ 10 → ⊥
   shown-not-ten shown ten = elim shown.written [ inl whole ↦ omega (arith, whole.0, ten) | inr cut ↦ omega (arith, cut.0, ten) ]
 
+-- a replica makes room for nothing
+no-replica-ten : (how : ReplicaEnd) → status_of_replica how ≡ 10 → ⊥
+no-replica-ten replica.Done is = omega (arith, is)
+no-replica-ten replica.Memory is = omega (arith, is)
+no-replica-ten replica.ReadFault is = omega (arith, is)
+no-replica-ten replica.WriteFault is = omega (arith, is)
+no-replica-ten replica.DoorFault is = omega (arith, is)
+no-replica-ten replica.Bound is = omega (arith, is)
+no-replica-ten (replica.BadFeed number) is = omega (arith, is)
+
 -- serving makes room for nothing
 module _ {L : Type 0} (door later : DoorSeen L) {address : List ℕ} {most : ℕ} {before after : Option (List ℕ)} where
   serving-not-full : {how : CommandEnd} → HasServedAt address most door.told later.told door.faults later.faults before after how → how ≡ command.Full → ⊥
@@ -244,13 +259,23 @@ module _ {L : Type 0} (door later : DoorSeen L) {address : List ℕ} {most : ℕ
   serving-not-full (served.unwritten part) is = let e : command.WriteFault ≡ command.Full = is in cc
   serving-not-full (served.no_memory part) is = let e : command.Memory ≡ command.Full = is in cc
 
-module _ {K L : Type 0} (told : K → Option StoreTables) (faults : K → ℕ) (is_whole : K → Bool) (address : List ℕ) (most journal : ℕ) (door door_later : DoorSeen L) (before after : Outside) where
-  served-on-not-ten : (keeper left : K) (end : Result CommandEnd LoadCause)
-      → IsServedOn told faults is_whole address most journal keeper left door.told door_later.told door.faults door_later.faults before.taken after.taken end → status_of_work end ≡ 10 → ⊥
-  served-on-not-ten keeper left end (worked.not_loaded why is same_door same_faults o) ten = no-cause-ten why (ap status_of_work (sym is) ∙ ten)
-  served-on-not-ten keeper left end (worked.served_over how is o) ten = serving-not-full door door_later o.served (command-is-full how (ap status_of_work (sym is) ∙ ten))
+  feeding-not-full : {from : State} {events : List Event} {how : CommandEnd} → HasFedAt address most door.told later.told door.faults later.faults before after from events how → how ≡ command.Full → ⊥
+  feeding-not-full (feeding.fed count given all same written) is = let e : command.Done ≡ command.Full = is in cc
+  feeding-not-full (feeding.broken rose text) is = let e : command.DoorFault ≡ command.Full = is in cc
+  feeding-not-full feeding.unwritten is = let e : command.WriteFault ≡ command.Full = is in cc
+  feeding-not-full feeding.no_memory is = let e : command.Memory ≡ command.Full = is in cc
 
-  served-not-ten : (kept : VaultStore) (opens later : ℕ) (finish : Finish K) → IsServedAt told faults is_whole address most journal kept opens later door door_later before after finish → finish.status ≡ 10 → ⊥
+  so-not-full : {feed : Bool} {from : State} {events : List Event} {how : CommandEnd} → HasServedSo feed address most door.told later.told door.faults later.faults before after from events how → how ≡ command.Full → ⊥
+  so-not-full (feeding.with_lines plain done) is = serving-not-full done is
+  so-not-full (feeding.with_feed asked done) is = feeding-not-full done is
+
+module _ {K L : Type 0} (told : K → Option StoreTables) (faults : K → ℕ) (is_whole : K → Bool) (feed : Bool) (address : List ℕ) (most journal : ℕ) (door door_later : DoorSeen L) (before after : Outside) where
+  served-on-not-ten : (keeper left : K) (end : Result CommandEnd LoadCause)
+      → IsServedOn told faults is_whole feed address most journal keeper left door.told door_later.told door.faults door_later.faults before.taken after.taken end → status_of_work end ≡ 10 → ⊥
+  served-on-not-ten keeper left end (worked.not_loaded why is same_door same_faults o) ten = no-cause-ten why (ap status_of_work (sym is) ∙ ten)
+  served-on-not-ten keeper left end (worked.served_over how is o) ten = so-not-full door door_later o.served (command-is-full how (ap status_of_work (sym is) ∙ ten))
+
+  served-not-ten : (kept : VaultStore) (opens later : ℕ) (finish : Finish K) → IsServedAt told faults is_whole feed address most journal kept opens later door door_later before after finish → finish.status ≡ 10 → ⊥
   served-not-ten kept opens later finish (work.no_memory_to_open is none same) ten = omega (arith, is, ten)
   served-not-ten kept opens later finish (work.unopened is rose none same) ten = omega (arith, is, ten)
   served-not-ten kept opens later finish (work.over_the_store keeper had same over) ten = served-on-not-ten keeper over.left over.end over.served (sym over.status_is ∙ ten)
@@ -259,8 +284,9 @@ module _ {K L : Type 0} (told : K → Option StoreTables) (faults : K → ℕ) (
   carried-full : (wanted : Wanted) (kept : VaultStore) → wanted.pages ≤ 10000 → IsCarriedOut told faults is_whole wanted kept opens later door door_later before after finish
       → finish.status ≡ 10 → FindsNoRoom wanted kept
   carried-full wanted kept few (finished.scripted is done same) ten = absurd (scripted-not-ten done ten)
-  carried-full wanted kept few (finished.served is done) ten = absurd (served-not-ten told faults is_whole wanted.listen wanted.max_connections wanted.journal_limit door door_later before after kept opens later finish done ten)
+  carried-full wanted kept few (finished.served is done) ten = absurd (served-not-ten told faults is_whole wanted.feed wanted.listen wanted.max_connections wanted.journal_limit door door_later before after kept opens later finish done ten)
   carried-full wanted kept few (finished.reported is done same) ten = absurd (report-not 10 refl done ten)
+  carried-full wanted kept few (finished.followed is same done) ten = absurd (no-replica-ten done.end (sym done.status_is ∙ ten))
   carried-full wanted kept few (finished.worked asked is done same) ten =
       let none = worked-full told faults is_whole wanted.journal_limit kept before after opens later finish asked (few-asked wanted.command wanted.pages wanted.number asked is few) done ten in
       record { state = none.0; asked = asked; asked_is = is; opened_is = none.1; no_room = none.2 }

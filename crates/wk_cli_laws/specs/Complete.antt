@@ -5,7 +5,7 @@ use Rattle.wk_base.specs.Faults.{Rose}
 use Rattle.wk_table_rules.specs.GoodStore.{first_broken}
 use Rattle.wk_table_rules.specs.Rows.{StoreTables}
 use Rattle.wk_words.specs.declared.commands.Command.{Command}
-use Rattle.wk_words.specs.declared.commands.Command.TheVariants.{Script, Serve, Jobs, Check, Generate, Report}
+use Rattle.wk_words.specs.declared.commands.Command.TheVariants.{Script, Serve, Jobs, Check, Generate, Report, Replica}
 use Rattle.wk_cli.specs.Scripted.{VaultStore}
 use Rattle.wk_cli.specs.Works.{DoorSeen}
 use Rattle.wk_cli.specs.declared.ends.Finish.{Finish}
@@ -18,6 +18,7 @@ ends_without_fault Jobs = 0 ∷ 1 ∷ 10 ∷ []
 ends_without_fault Check = 0 ∷ 1 ∷ 8 ∷ []
 ends_without_fault Generate = 0 ∷ 1 ∷ 8 ∷ 10 ∷ []
 ends_without_fault Report = 0 ∷ 1 ∷ []
+ends_without_fault Replica = 0 ∷ 1 ∷ 9 ∷ 11 ∷ []
 
 -- the command ended at one of them
 abbrev pub EndsWithoutFault : Command → ℕ → Type 0

@@ -1,5 +1,5 @@
 -- The command `check` over an empty store that is whole, where nothing fails (own).
-use Rattle.std.specs.Prelude.{◌≡◌, ℕ, Bool, true, List, [], codes, Option, Some, None}
+use Rattle.std.specs.Prelude.{◌≡◌, ℕ, Bool, true, false, List, [], codes, Option, Some, None}
 use Rattle.wk_report_rules.specs.declared.Report.TheVariants.{Wanted as WantedTitles}
 use Rattle.wk_table_rules.specs.Rows.{StoreTables, no_tables}
 use Rattle.wk_words.specs.Verdicts.{Wanted}
@@ -37,6 +37,7 @@ wanted_check = record {
   journal_limit = 33554432;
   most = 50;
   report = WantedTitles;
+  feed = false;
 }
 
 -- a door that tells nothing and has never failed

@@ -26,9 +26,9 @@ ghost use Rattle.wk_cli_laws.specs.Room.{IsForRoom};
 pub use examples::a_check_of_an_empty_store;
 
 /// With legal words, over tables that break no rule, and where no count of faults rose, of the vault, the input, the output and the
-/// door, and that of the store that is handed back stands at 0, the status is 0, or 8 in `check` and `gen` alone, or 9 in `script` alone,
-/// or 10 in `jobs` and `gen` alone, or 1 for want of memory; so in `report` and in `serve` it is 0 or 1. What was done by each of
-/// these ends is told by how the program finished.
+/// door, and that of the store that is handed back stands at 0, the status is 0, or 8 in `check` and `gen` alone, or 9 in `script` and
+/// `replica` alone, or 10 in `jobs` and `gen` alone, or 11 in `replica` alone, or 1 for want of memory; so in `report`, and in `serve`
+/// with a feed or without, it is 0 or 1. What was done by each of these ends is told by how the program finished.
 pub fn a_run_without_faults_is_complete<K, L>()
     ensures { (told : K → Option StoreTables) (faults : K → ℕ) (is_whole : K → Bool) (wanted : Wanted) (vault : VaultTold) (opens later reads reads_later writes writes_later : ℕ) (door door_later : DoorSeen L) (before after : Outside) (finish : Finish K)
         → IsFinished told faults is_whole (runs wanted) vault opens later door door_later before after finish
@@ -58,7 +58,8 @@ pub fn a_command_without_room_has_its_cause<K, L>()
 
 /// Over a store that the vault opens whole, with legal words and tables that break no rule, and where no count of faults rose, of the
 /// vault, the input, the output and the door, the work is done, at status 0; or pages differ, at 8, in `check` and `gen`; or memory ran
-/// out, at 1; or 2^40 bytes or more were read, at 9, in `script`; or there was no room for the work, at 10, with its cause.
+/// out, at 1; or 2^40 bytes or more were read, at 9, in `script` and `replica`; or there was no room for the work, at 10, with its cause;
+/// or a line of the feed that was read is bad, or its start isn't there, at 11, in `replica`.
 pub fn a_run_over_a_whole_store_is_complete<K, L>()
     ensures { (told : K → Option StoreTables) (faults : K → ℕ) (is_whole : K → Bool) (wanted : Wanted) (vault : VaultTold) (opens later reads reads_later writes writes_later : ℕ) (door door_later : DoorSeen L) (before after : Outside) (finish : Finish K)
         → IsFinished told faults is_whole (runs wanted) vault opens later door door_later before after finish

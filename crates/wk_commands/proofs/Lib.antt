@@ -4,3 +4,5 @@ pub mod Drained
 pub mod Generated
 pub mod Opening
 pub mod Served
+pub mod Fed
+pub mod Followed

@@ -62,7 +62,7 @@ module _ {L : Type 0} (address : List ℕ) (told later : Option (DoorTold L)) (f
   ended-by before after (Err end) listens line = λ most. not-begun before after most end listens line.0 line.1
 
 -- no link more
-none-given : (counts : Option DoorCounts) → after_giving counts 0 ≡ counts
+pub none-given : (counts : Option DoorCounts) → after_giving counts 0 ≡ counts
 none-given None = refl
 none-given (Some (address, (given, left))) =
     let more : given + 0 ≡ given = omega arith in
@@ -166,6 +166,7 @@ module _ {K : Type 0} (old new : WikiSeen K) (opening : HasOpened old old.start.
       let lived : HasLivedOn old.state new.state = record { journals = new.journal ∷ []; lives = (new.state, replayed, refl) } in record {
         start = back.start;
         lived = lived;
+        replayed = replayed;
         revisions = subst (λ (s : State). IsPrefix s.history.revisions new.state.history.revisions) same (prefix-of new.start.state.history.revisions new.state.history.revisions continues.first);
         sound = sound-on old opening new.state run lived;
       }
@@ -175,6 +176,7 @@ module _ {K : Type 0} (old new : WikiSeen K) (opening : HasOpened old old.start.
   not-served = record {
     start = refl;
     lived = record { journals = []; lives = refl };
+    replayed = ap (replay old.state) opening.journal;
     revisions = ([], append-nil old.state.history.revisions);
     sound = λ sound. sound;
   }

@@ -5,4 +5,6 @@ pub mod Checked
 pub mod Drained
 pub mod Generated
 pub mod Served
+pub mod Fed
+pub mod Followed
 pub mod Worked

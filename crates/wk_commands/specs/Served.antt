@@ -4,6 +4,7 @@ use Rattle.std.specs.Io.KnownBytes.{Appends}
 use mathlib.Core.List.{IsPrefix}
 use Rattle.wk_base.specs.Faults.{Rose}
 use Rattle.wk_base.specs.Writing.{AppendsPrefix}
+use Rattle.wk_wiki_rules.specs.Lives.{replay}
 use Rattle.wk_wiki_rules.specs.Soundness.{IsSound}
 use Rattle.wk_core.specs.Seen.{WikiSeen}
 use Rattle.wk_door.specs.Entrances.{after_giving, is_emptied}
@@ -79,5 +80,7 @@ pub data HasServedAt {L : Type 0} (address : List ℕ) (most : ℕ) (told later 
 pub record IsServedFrom {K : Type 0} (old new : WikiSeen K) : Type 0 where
   pub start : new.start ≡ old.start
   pub lived : HasLivedOn old.state new.state
+  -- by the events of its journal alone
+  pub replayed : replay old.state new.journal ≡ Some new.state
   pub revisions : IsPrefix old.state.history.revisions new.state.history.revisions
   pub sound : IsSound old.state → IsSound new.state

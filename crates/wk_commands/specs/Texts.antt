@@ -19,6 +19,10 @@ listening_line address = codes "listening on " ++ (address ++ 10 ∷ [])
 abbrev pub served_line : ℕ → List ℕ
 served_line count = codes "served " ++ (decimal count ++ 10 ∷ [])
 
+-- so many events were taken of a feed
+abbrev pub replica_line : ℕ → List ℕ
+replica_line events = codes "replica " ++ (decimal events ++ 10 ∷ [])
+
 -- what `serve` prints at this address, where it serves so many connections
 abbrev pub serve_text : List ℕ → ℕ → List ℕ
 serve_text address count = listening_line address ++ served_line count

@@ -18,7 +18,8 @@ use Rattle.wk_commands.specs.Drained.{IsDrained}
 use Rattle.wk_commands.specs.Generated.{IsGenerated}
 use Rattle.wk_door.specs.Told.{DoorTold}
 use Rattle.wk_commands.specs.Lived.{HasLivedOn}
-use Rattle.wk_commands.specs.Served.{GivesAtMost, HasServedAt, IsServedFrom}
+use Rattle.wk_commands.specs.Fed.{HasServedSo}
+use Rattle.wk_commands.specs.Served.{GivesAtMost, IsServedFrom}
 use Rattle.wk_commands.specs.declared.ends.CommandEnd.{CommandEnd}
 use Rattle.wk_commands.specs.declared.works.Work.{Work}
 use Rattle.wk_commands.specs.declared.works.Work.TheVariants.{Check, Jobs, Generate}
@@ -75,14 +76,14 @@ pub data IsWorkedOn {K : Type 0} (told : K → Option StoreTables) (faults : K �
 
 -- A wiki was opened over the keeper's tables, and served at an address, of whose door at most so many links were taken. The keeper
 -- has the tables of its last state, tells them where it did, is whole where it was, and then its count of faults stays.
-pub record IsServedOver {K L : Type 0} (told : K → Option StoreTables) (faults : K → ℕ) (is_whole : K → Bool) (address : List ℕ) (most journal : ℕ) (keeper left : K)
+pub record IsServedOver {K L : Type 0} (told : K → Option StoreTables) (faults : K → ℕ) (is_whole : K → Bool) (feed : Bool) (address : List ℕ) (most journal : ℕ) (keeper left : K)
     (door door_later : Option (DoorTold L)) (door_faults door_faults_later : ℕ) (before after : Option (List ℕ)) (end : CommandEnd) : Type 0 where
   pub first : WikiSeen K
   pub last : WikiSeen K
   pub opened_is : HasOpened first (limits_with_journal journal)
   pub state : IfSome (told keeper) (λ tables. (first_broken tables ≡ None) × (first.state ≡ opened tables))
   pub whole : first.start.whole ≡ is_whole keeper
-  pub served : HasServedAt address most door door_later door_faults door_faults_later before after end
+  pub served : HasServedSo feed address most door door_later door_faults door_faults_later before after first.state last.journal end
   pub links : GivesAtMost address most door door_later
   pub from : IsServedFrom first last
   pub keeper_is : left ≡ last.keeper
@@ -91,12 +92,12 @@ pub record IsServedOver {K L : Type 0} (told : K → Option StoreTables) (faults
   pub stays_whole : is_whole left ≡ is_whole keeper
   pub whole_count : is_whole keeper ≡ true → faults left ≡ faults keeper
 
-pub data IsServedOn {K L : Type 0} (told : K → Option StoreTables) (faults : K → ℕ) (is_whole : K → Bool) (address : List ℕ) (most journal : ℕ) (keeper left : K)
+pub data IsServedOn {K L : Type 0} (told : K → Option StoreTables) (faults : K → ℕ) (is_whole : K → Bool) (feed : Bool) (address : List ℕ) (most journal : ℕ) (keeper left : K)
     (door door_later : Option (DoorTold L)) (door_faults door_faults_later : ℕ) (before after : Option (List ℕ)) (end : Result CommandEnd LoadCause) : Type 0 where
   -- nothing was asked of the door
   not_loaded : (why : LoadCause) → end ≡ Err why → door_later ≡ door → door_faults_later ≡ door_faults →
       IsNotOpened told faults is_whole keeper left None None before after why →
-      IsServedOn told faults is_whole address most journal keeper left door door_later door_faults door_faults_later before after end
+      IsServedOn told faults is_whole feed address most journal keeper left door door_later door_faults door_faults_later before after end
   served_over : (how : CommandEnd) → end ≡ Ok how →
-      IsServedOver told faults is_whole address most journal keeper left door door_later door_faults door_faults_later before after how →
-      IsServedOn told faults is_whole address most journal keeper left door door_later door_faults door_faults_later before after end
+      IsServedOver told faults is_whole feed address most journal keeper left door door_later door_faults door_faults_later before after how →
+      IsServedOn told faults is_whole feed address most journal keeper left door door_later door_faults door_faults_later before after end

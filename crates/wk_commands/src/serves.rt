@@ -3,10 +3,12 @@ ghost use Rattle.std.specs.Prelude.{◌≡◌, ◌≢◌, ◌⊎◌, ◌≤◌, 
 ghost use Rattle.wk_base.specs.Faults.{Rose};
 ghost use Rattle.wk_core.specs.Loads.{HasOpened};
 ghost use Rattle.wk_door.specs.Told.{listening};
+ghost use Rattle.wk_commands.specs.Fed.{HasServedSo};
 ghost use Rattle.wk_commands.specs.Served.{EndsAsLine, EndsServing, GivesAtMost, HasBegun, HasServedAt, IsServedFrom, WritesLine};
 ghost use Rattle.wk_commands.specs.Texts.{listening_line, served_line};
 
 use crate::ends::CommandEnd;
+use crate::feeds::serve_feeding;
 use std::alloc::Global;
 use std::sync::Wait;
 use std::thread::Threads;
@@ -25,6 +27,8 @@ pub struct Serving<'a> {
     pub workers: u64,
     /// After how many connections serving ends.
     pub most: u64,
+    /// Whether the feed is written in the place of the lines.
+    pub feed: bool,
 }
 
 /// The line that tells where the door listens.
@@ -115,7 +119,7 @@ fn end_serving<O: Sink>(alloc: Global, end: Result<Taken, Memory>, output: &mut 
 ///
 /// `Done` only where so many were accepted or none is left. `DoorFault` only where a call of the door failed, `WriteFault` only
 /// where a write did; `Memory` may come. It waits.
-pub fn serve_links<
+fn serve_plain<
     K: Keeper + Send,
     G: Gate + Copy + Send,
     D: Door + Send,
@@ -160,5 +164,46 @@ where
             (wiki, end)
         }
         Err(end) => (wiki, end),
+    }
+}
+
+/// Serves the connections that come in at an address over a wiki that was just opened, and writes `listening on ADDRESS` before and
+/// `served N` behind, or the wiki's feed in the place of both where that is asked. No more are accepted than is asked for, whatever the
+/// end.
+///
+/// `Done` only where so many were accepted or none is left, and all was written. `DoorFault` only where a call of the door failed,
+/// `WriteFault` only where a write did; `Memory` may come. It waits.
+pub fn serve_links<
+    K: Keeper + Send,
+    G: Gate + Copy + Send,
+    D: Door + Send,
+    C: Clock + Send,
+    O: Sink + Send,
+    R: Threads + Wait + Sync,
+>(
+    rt: &R,
+    wiki: Wiki<K>,
+    gate: G,
+    asked: Serving<'_>,
+    door: &mut D,
+    clock: &mut C,
+    output: &mut O,
+) -> (Wiki<K>, CommandEnd)
+where
+    D::Link: Send,
+    requires opened { HasOpened wiki wiki.start.limits }
+    ensures served { HasServedSo asked.entry.feed asked.entry.address.now asked.entry.most (D.told door.old) (D.told door.new) (D.faults door.old) (D.faults door.new)
+        (O.taken output.old) (O.taken output.new) wiki.state result.0.journal result.1 }
+    ensures links { GivesAtMost asked.entry.address.now asked.entry.most (D.told door.old) (D.told door.new) }
+    ensures wiki { IsServedFrom wiki result.0 }
+    ensures never_falls { O.faults output.old ≤ O.faults output.new }
+    ensures no_write_fault { result.1 ≢ CommandEnd.WriteFault → O.faults output.new ≡ O.faults output.old }
+    ensures write_fault { result.1 ≡ CommandEnd.WriteFault → Rose (O.faults output.old) (O.faults output.new) }
+    ensures door_never_falls { D.faults door.old ≤ D.faults door.new }
+{
+    if asked.feed {
+        serve_feeding(rt, wiki, gate, asked, door, clock, output)
+    } else {
+        serve_plain(rt, wiki, gate, asked, door, clock, output)
     }
 }

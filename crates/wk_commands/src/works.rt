@@ -169,15 +169,15 @@ pub fn work_over<
 }
 
 /// Opens a wiki over the tables of a keeper, with a journal of at most so many events, and serves the connections that come in at
-/// an address (`serve_links`). The keeper comes back: at a refusal of the load with the tables that it had, and nothing was asked of
-/// the door; else with those of the state in which serving ended. It tells its tables where it did, is whole where it was, and then
-/// its count of faults stays. It waits.
+/// an address (`serve_links`), with its feed where that is asked. The keeper comes back: at a refusal of the load with the tables
+/// that it had, and nothing was asked of the door; else with those of the state in which serving ended. It tells its tables where
+/// it did, is whole where it was, and then its count of faults stays. It waits.
 pub fn serve_over<
     K: Keeper + Send,
     G: Gate + Copy + Send,
     D: Door + Send,
     C: Clock + Send,
-    O: Sink,
+    O: Sink + Send,
     R: Threads + Wait + Sync,
 >(
     rt: &R,
@@ -193,7 +193,7 @@ pub fn serve_over<
 where
     D::Link: Send,
     requires journal { journal ≤ max_journal }
-    ensures served { IsServedOn K.told K.faults K.is_whole asked.entry.address.now asked.entry.most journal keeper result.keeper
+    ensures served { IsServedOn K.told K.faults K.is_whole asked.entry.feed asked.entry.address.now asked.entry.most journal keeper result.keeper
         (D.told door.old) (D.told door.new) (D.faults door.old) (D.faults door.new) (O.taken output.old) (O.taken output.new) result.end }
     ensures never_falls { O.faults output.old ≤ O.faults output.new }
     ensures no_write_fault { result.end ≢ Ok CommandEnd.WriteFault → O.faults output.new ≡ O.faults output.old }

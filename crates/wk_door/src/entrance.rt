@@ -9,7 +9,6 @@ ghost use Rattle.wk_door.specs.declared.entrance.Shut.TheVariants.{Broken, Empty
 
 use crate::Door;
 use std::marker::{Brand, PhantomData};
-use std::sync::{Mutex, Wait};
 
 /// What a door told before links were taken, and how many are taken at most: for proofs alone.
 pub trait Entry {
@@ -151,12 +150,4 @@ impl<'a, D: Door, E: Entry> Entrance<'a, D, E> {
             taken: Taken { count, shut },
         }
     }
-}
-
-/// Takes the next link, if more are taken. It waits while another thread takes one.
-pub fn take_link<D: Door, E: Entry, R: Wait>(
-    rt: &R,
-    entrance: &Mutex<Entrance<'_, D, E>>,
-) -> Option<D::Link> {
-    entrance.lock(rt).next_link()
 }

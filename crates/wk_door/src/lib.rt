@@ -9,7 +9,7 @@ mod locked_clock;
 mod mem_door;
 
 pub use door::Door;
-pub use entrance::{Closed, Entrance, Entry, Shut, Taken, take_link};
+pub use entrance::{Closed, Entrance, Entry, Shut, Taken};
 pub use locked_clock::LockedClock;
 pub use mem_door::MemDoor;
 pub use wk_base::{Clock, Failed, Memory};

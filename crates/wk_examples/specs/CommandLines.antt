@@ -1,5 +1,5 @@
 -- A command line without options.
-use Rattle.std.specs.Prelude.{[], codes}
+use Rattle.std.specs.Prelude.{false, [], codes}
 use Rattle.wk_report_rules.specs.declared.Report.TheVariants.{Wanted as WantedTitles}
 use Rattle.wk_words.specs.Verdicts.{Wanted}
 use Rattle.wk_words.specs.declared.commands.Command.{Command}
@@ -18,4 +18,5 @@ bare command = record {
   journal_limit = 33554432;
   most = 50;
   report = WantedTitles;
+  feed = false;
 }

@@ -30,7 +30,7 @@ finish 5
 ";
 
 /// A message that asks for the first of them, and one that asks for the second.
-const PARSE_BOTH: [&str; 2] = [
+pub const PARSE_BOTH: [&str; 2] = [
     "GET /api.php?action=parse&page=A HTTP/1.1\r\nHost: localhost\r\n\r\n",
     "GET /api.php?action=parse&page=B HTTP/1.1\r\nHost: localhost\r\n\r\n",
 ];
@@ -64,7 +64,7 @@ pub const SAVED: &str =
 {\"edit\":{\"new\":true,\"newrevid\":1,\"oldrevid\":0,\"pageid\":1,\"result\":\"Success\",\"title\":\"A\"},\"point\":1}";
 
 /// The answer to the one that asks for it: its job was done in between, which took two points.
-const PARSED: &str =
+pub const PARSED: &str =
     "HTTP/1.1 200 OK\r\nContent-Type: application/json; charset=utf-8\r\nContent-Length: 111\r\n\r\n\
 {\"parse\":{\"categories\":[],\"expanded\":\"x\",\"links\":[],\"pageid\":1,\"revid\":1,\"templates\":[],\"title\":\"A\"},\"point\":3}";
 
@@ -109,7 +109,7 @@ fn gen_at_once(rt: HostRuntime) -> Result<(), Fail> {
 }
 
 /// Whether one who asked was answered so.
-fn is_answered(heard: &[u8], shown: &str) -> bool {
+pub fn is_answered(heard: &[u8], shown: &str) -> bool {
     let text = text_of(heard);
     text.starts_with("HTTP/1.1 200 OK\r\n") && text.contains(shown)
 }

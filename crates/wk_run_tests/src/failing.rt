@@ -1,6 +1,6 @@
 //! Runs in which calls of the outside fail.
 
-use crate::at_once::{SAVE_AND_PARSE, SAVED};
+use crate::at_once::{PARSED, SAVE_AND_PARSE, SAVED};
 use crate::gates::Meeting;
 use crate::given::{Given, NOTHING, case_of, parts};
 use crate::runs::{Ran, text_of};
@@ -33,6 +33,11 @@ wiki jobs | store 2 3 => 5 2 2 2 ""
 wiki jobs | store 3 4 => 5 2 2 1 ""
 wiki jobs --procs 4 | store 2 => 0 2 2 0 "jobs 0\n"
 wiki jobs --procs 4 | store 2 3 4 5 6 7 8 9 => 5 none ""
+wiki report | vault 1 => 5 none ""
+wiki report | store 1 => 5 2 2 2 ""
+wiki report | write 1 => 4 2 2 2 ""
+wiki report | room 4 => 4 2 2 2 "line"
+wiki report | read 1 | door 1 => 0 2 2 2 "lines 0\n"
 wiki gen --pages 1 | store 3 => 5 2 3 3 ""
 wiki gen --pages 1 --procs 4 | store 5 => 0 2 5 0 "pages 5 revisions 5 jobs 0 differ 0\n"
 wiki gen --pages 1 | store 5 6 => 5 2 5 5 """#;
@@ -60,23 +65,28 @@ fn a_call_that_fails_ends_a_command(rt: HostRuntime) -> Result<(), Fail> {
 
 /// Accepts that fail: the first one, and the one behind a link that was served.
 const ACCEPTS: &str =
-    r#"wiki serve --workers 1 | door 2 => 6 2 0 0 "listening on 127.0.0.1:8080\n" and
-wiki serve --workers 1 | door 3 => 6 2 1 0 "listening on 127.0.0.1:8080\n" and SAVED"#;
+    r#"wiki serve --workers 1 | door 2 => 6 2 0 0 "listening on 127.0.0.1:8080\n" nothing nothing
+wiki serve --workers 1 | door 3 => 6 2 1 0 "listening on 127.0.0.1:8080\n" SAVED nothing"#;
 
 /// What a peer heard.
-fn heard_as(heard: &str) -> &'static str {
+fn heard_as(heard: &[u8]) -> &'static str {
+    let heard = text_of(heard);
     if heard.is_empty() {
-        return "";
+        return "nothing";
     }
     if heard == SAVED {
-        " SAVED"
+        return "SAVED";
+    }
+    if heard == PARSED {
+        "PARSED"
     } else {
-        " another answer"
+        "another answer"
     }
 }
 
-/// What comes of a case over an empty store, of whose two links the first saves a page; and what its peer heard.
-fn told_and_heard<R: Threads + Wait + Sync>(
+/// What comes of a case over an empty store, of whose two links the first saves a page and the second asks for it; and what their
+/// peers heard.
+pub fn told_and_heard<R: Threads + Wait + Sync>(
     rt: &R,
     alloc: Global,
     case: &str,
@@ -87,8 +97,8 @@ fn told_and_heard<R: Threads + Wait + Sync>(
     };
     let ran = run_on(rt, alloc, Tables::new(alloc), &given)?;
     let told = ran.told(alloc)?;
-    let heard = heard_as(text_of(&ran.first));
-    Ok(format!(in alloc; "{told} and{heard}")?)
+    let (first, second) = (heard_as(&ran.first), heard_as(&ran.second));
+    Ok(format!(in alloc; "{told} {first} {second}")?)
 }
 
 #[test]

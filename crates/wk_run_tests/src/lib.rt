@@ -9,6 +9,8 @@ mod doors;
 #[cfg(test)]
 mod failing;
 #[cfg(test)]
+mod feeds;
+#[cfg(test)]
 mod gates;
 #[cfg(test)]
 mod given;

@@ -14,12 +14,14 @@ use wk_door::Door;
 use wk_keeper::{Keeper, Vault};
 use wk_link::Link;
 use wk_memory::Memory;
-use wk_tables::Tables;
+use wk_tables::{BadStore, Tables};
 
 /// What came of a run.
 #[derive(Drop)]
 pub struct Ran {
     pub status: u8,
+    /// The bad row of the store, or the bad line of the feed.
+    pub bad: Option<BadStore>,
     pub points: Vec<u64>,
     /// The output.
     pub written: Vec<u8>,
@@ -36,11 +38,20 @@ pub fn text_of(bytes: &[u8]) -> &str {
     str::from_utf8(bytes).unwrap_or("no text")
 }
 
+/// A bad row or line as the program tells it behind the status.
+fn bad_text(alloc: Global, bad: Option<BadStore>) -> Result<String, Memory> {
+    match bad {
+        Some(BadStore { rule, row }) => Ok(format!(in alloc; " rule {rule} row {row}")?),
+        None => Ok(String::new(alloc)),
+    }
+}
+
 impl Ran {
-    /// What came of the run, in a line: the status, what is left in the store, and the output.
+    /// What came of the run, in a line: the status, with a bad row or line, what is left in the store, and the output.
     pub fn told(&self, alloc: Global) -> Result<String, Memory> {
+        let bad = bad_text(alloc, self.bad)?;
         let (status, left, written) = (self.status, self.left.as_str(), text_of(&self.written));
-        Ok(format!(in alloc; "{status} {left} {written:?}")?)
+        Ok(format!(in alloc; "{status}{bad} {left} {written:?}")?)
     }
 }
 
@@ -121,11 +132,12 @@ where
     let Finish {
         status,
         points,
-        bad: _,
+        bad,
         store,
     } = wiki_main(rt, alloc, words, vault, source, sink, clock, door, gate);
     let ran = Ran {
         status,
+        bad,
         points,
         written: Vec::new(alloc),
         left: String::new(alloc),

@@ -31,18 +31,6 @@ pub enum SaveKind {
     Deletion,
 }
 
-/// The numbers of the save that is planned.
-fn next_numbers(plan: &Plan) -> SavedNumbers
-    ensures { numbers_of result ≡ record { page = plan.now.standing.to_save; old = plan.now.standing.current; new = plan.now.standing.next } }
-{
-    let standing = plan.standing();
-    SavedNumbers {
-        page: standing.to_save,
-        old: standing.current,
-        new: standing.next,
-    }
-}
-
 /// What is told of an edit that changed something.
 fn edited(alloc: Global, title: &Title, numbers: SavedNumbers, point: u64) -> Result<Value, Memory>
     ensures { IfOk result (λ v. view v ≡ (reply_beside (edit_entries (told_of_save title.now (numbers_of numbers))) point).value) }
@@ -63,7 +51,12 @@ pub fn ready(alloc: Global, kind: SaveKind, plan: &Plan, before: u64) -> Result<
     let Some(point) = before.checked_add(1) else {
         return Err(Memory);
     };
-    let numbers = next_numbers(plan);
+    let standing = plan.standing();
+    let numbers = SavedNumbers {
+        page: standing.to_save,
+        old: standing.current,
+        new: standing.next,
+    };
     match kind {
         SaveKind::Edit => edited(alloc, plan.title(), numbers, point),
         SaveKind::Deletion => deleted(alloc, plan.title(), numbers, point),

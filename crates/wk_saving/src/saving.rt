@@ -8,7 +8,7 @@ ghost use Rattle.wk_core.specs.Plans.{HasPlanned};
 ghost use Rattle.wk_core.specs.Seen.{verdict_now};
 ghost use Rattle.wk_core.specs.Steps.{GoesOn, HasMadeNothing};
 ghost use Rattle.wk_answer_rules.specs.Answers.{answer_to_ask};
-ghost use Rattle.wk_answer_rules.specs.Saves.{delete_answer, edit_answer, save_answer};
+ghost use Rattle.wk_answer_rules.specs.Saves.{delete_answer, save_answer};
 ghost use Rattle.wk_answer_rules.specs.Values.{ApiReply};
 ghost use Rattle.wk_saving.specs.Saved.{IsActed, told_by};
 
@@ -45,7 +45,7 @@ fn save_ready<K: Keeper>(
 
 /// Makes a save, and tells what came of it. A refusal, and that nothing changes, are told by what is planned. The replies to a
 /// save that changes something, and to a fault of the store, are made before it.
-fn save_told<K: Keeper>(
+pub fn save_told<K: Keeper>(
     wiki: &mut Wiki<K>,
     edit: &Edit,
     kind: SaveKind,
@@ -69,19 +69,6 @@ fn save_told<K: Keeper>(
             save_ready(wiki, plan, ready, now)
         }
     }
-}
-
-/// Makes an edit, and tells what came of it. The replies to an edit that changes something, and to a fault of the store, are made
-/// before the save.
-pub fn edit_page<K: Keeper>(wiki: &mut Wiki<K>, edit: &Edit, now: u64) -> Result<Value, Memory>
-    requires unsealed { wiki.old.start.sealed ≡ None }
-    ensures acted { IfOk result (λ v. IsActed K.told K.faults wiki.old wiki.new
-        (edit_answer wiki.old.start.limits wiki.old.state (length wiki.old.journal) now (edit_asked edit.now)) (view v)) }
-    ensures memory { OnErr result (HasMadeNothing K.told wiki.old wiki.new) }
-    ensures no_fault { OnErr result (K.faults wiki.new.keeper ≡ K.faults wiki.old.keeper) }
-    ensures keeper { GoesOn K.told K.faults wiki.old wiki.new }
-{
-    save_told(wiki, edit, SaveKind::Edit, now)
 }
 
 /// Deletes a page, and tells what came of it. The replies to a deletion, and to a fault of the store, are made before it.
@@ -128,7 +115,7 @@ pub fn save_asked<K: Keeper>(
     ensures keeper { GoesOn K.told K.faults wiki.old wiki.new }
 {
     match *asked {
-        SaveAsked::Edit(edit) => edit_page(wiki, edit, now),
+        SaveAsked::Edit(edit) => save_told(wiki, edit, SaveKind::Edit, now),
         SaveAsked::Delete { title, base } => delete_page(wiki, title, base, now),
     }
 }

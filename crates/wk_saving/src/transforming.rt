@@ -19,7 +19,8 @@ ghost use Rattle.wk_saving.specs.Saved.{IsActed};
 ghost use Rattle.wk_saving.specs.Transforming.{error_before};
 
 use crate::errors::content_too_big;
-use crate::saving::{delete_page, edit_page};
+use crate::saved_replies::SaveKind;
+use crate::saving::{delete_page, save_told};
 use crate::substituting::substituted_now;
 use serde_json::Value;
 use std::alloc::Global;
@@ -91,7 +92,7 @@ fn edit_made<K: Keeper>(
     ensures keeper { GoesOn K.told K.faults wiki.old wiki.new }
 {
     let edit = with_text(wiki.allocator(), edit, made.text())?;
-    edit_page(wiki, &edit, now)
+    save_told(wiki, &edit, SaveKind::Edit, now)
 }
 
 /// Makes an edit whose text is transformed in the present state, and tells what came of it: the text that is judged, and saved,
@@ -110,7 +111,7 @@ fn edit_substituted<K: Keeper>(wiki: &mut Wiki<K>, edit: &Edit, now: u64) -> Res
         return Ok(refused);
     }
     let Some(body) = &edit.body else {
-        return edit_page(wiki, edit, now);
+        return save_told(wiki, edit, SaveKind::Edit, now);
     };
     let text = Text::new(alloc, body.as_str())?;
     let made = substituted_now(alloc, wiki.live(), &text)?;

@@ -1,3 +1,4 @@
 mod DrainedBy
 mod Hired
+mod Sent
 mod Sharing

@@ -11,68 +11,55 @@ use crate::hands::{gather, hired};
 use std::alloc::Global;
 use std::marker::Brand;
 use std::sync::{Mutex, Wait};
-use std::thread::{Threads, for_each_mut};
+use std::thread::Threads;
 use wk_base::{Clock, Gate};
 use wk_core::{Keeper, Wiki};
-use wk_door::{Closed, Door, Entrance, Entry, LockedClock, Taken, take_link};
+use wk_crew::{Closed, Crew, Entrance, Entry, Link, serve_rounds};
+use wk_door::{Door, LockedClock, Taken};
 use wk_memory::Memory;
 use wk_refresh::Worker;
 use wk_session::serve_session;
 use wk_shared::{Pass, Shared};
 
-/// Takes one link after the other and serves each to its end, until no more are taken. It waits.
-fn serve_links<K: Keeper, G: Gate, D: Door, E: Entry, C: Clock, R: Wait>(
-    shared: &Shared<K>,
+/// Workers that serve sessions on a shared wiki, with a clock that they share.
+#[derive(Drop)]
+pub(crate) struct WikiCrew<'a, 'c, K: Keeper, C: Clock> {
+    pub(crate) shared: &'a Shared<K>,
+    pub(crate) clock: &'a Mutex<&'c mut C>,
+}
+
+/// Serves a session on a link, by a clock that workers share. It waits.
+pub(crate) fn serve_link<K: Keeper, G: Gate, C: Clock, L: Link, R: Wait>(
+    crew: &WikiCrew<'_, '_, K, C>,
     rt: &R,
     worker: &mut Worker<K, G>,
-    entrance: &Mutex<Entrance<'_, D, E>>,
-    clock: &Mutex<&mut C>,
+    link: &mut L,
 )
-    requires free { IsFree shared.now worker.old.reader.pass }
-    requires unsealed { shared.now.start.sealed ≡ None }
-    ensures { IsFree shared.now worker.new.reader.pass }
+    requires free { IsFree crew.now.shared.now worker.old.reader.pass }
+    requires unsealed { crew.now.shared.now.start.sealed ≡ None }
+    ensures { IsFree crew.now.shared.now worker.new.reader.pass }
 {
-    let mut clock = LockedClock::new(rt, clock);
-    'links: for _ in rt.forever() {
-        let Some(link) = take_link(rt, entrance) else {
-            return;
-        };
-        let mut link = link;
-        let _report = serve_session(shared, rt, worker, &mut link, &mut clock);
+    let mut clock = LockedClock::new(rt, crew.clock);
+    let _report = serve_session(crew.shared, rt, worker, link, &mut clock);
+}
+
+impl<K: Keeper, C: Clock, G: Gate, R: Wait> Crew<R, Worker<K, G>> for WikiCrew<'_, '_, K, C> {
+    ghost use Rattle.std.specs.Prelude.{◌≡◌, None};
+    ghost use Rattle.wk_refresh.specs.Drained.{IsFree};
+
+    ghost ready = { λ crew worker. IsFree crew.shared.now worker.reader.pass × (crew.shared.now.start.sealed ≡ None) };
+
+    fn goes_on(&self, _rt: &R) -> bool {
+        true
+    }
+
+    /// Serves a session on the link. It waits.
+    fn serve<L: Link>(&self, rt: &R, worker: &mut Worker<K, G>, link: &mut L) {
+        serve_link(self, rt, worker, link);
     }
 }
 
-/// Each worker serves links, on a thread of its own. It waits.
-fn serve_all<
-    K: Keeper + Send,
-    G: Gate + Send,
-    D: Door + Send,
-    E: Entry + Send + Sync,
-    C: Clock + Send,
-    R: Threads + Wait + Sync,
->(
-    shared: &Shared<K>,
-    rt: &R,
-    workers: &mut [Worker<K, G>],
-    entrance: &Mutex<Entrance<'_, D, E>>,
-    clock: &Mutex<&mut C>,
-)
-where
-    D::Link: Send,
-    requires free { All (λ w. IsFree shared.now w.reader.pass) workers.old }
-    requires unsealed { shared.now.start.sealed ≡ None }
-    ensures { All (λ w. IsFree shared.now w.reader.pass) workers.new }
-{
-    let threads = workers.len().max(1);
-    for_each_mut(
-        rt,
-        workers,
-        threads,
-        &|_, worker: &mut Worker<K, G>| { serve_links(shared, rt, worker, entrance, clock) },
-    );
-}
-
-/// Serves in rounds, each of which ends when every worker has seen that no more links are taken. It waits.
+/// Serves the links of a door, at most so many, until no more are taken. It waits.
 fn serve_door<
     'a,
     K: Keeper + Send,
@@ -102,16 +89,9 @@ where
     ensures entered { IsEntered E.told (counts_of (D.told result.door.now)) E.faults (D.faults result.door.now) E.most result.taken.count result.taken.shut }
     ensures over { IsOver E.most result.taken.count result.taken.shut }
 {
-    let mut entrance = Entrance::<D, E>::new(door, most);
-    'rounds: for _ in rt.forever() {
-        let lock = Mutex::new(entrance);
-        serve_all(shared, rt, workers, &lock, clock);
-        entrance = lock.into_inner();
-        if entrance.is_over() {
-            return entrance.close();
-        }
-    }
-    unreachable!()
+    let crew = WikiCrew { shared, clock };
+    let entrance = Entrance::<D, E>::new(door, most);
+    serve_rounds(rt, &crew, entrance, workers)
 }
 
 /// Serves a shared wiki by so many workers, and joins their passes. It waits.

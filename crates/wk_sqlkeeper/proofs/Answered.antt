@@ -4,7 +4,7 @@ use Rattle.sqlite.specs.declared.error.Error.{Error}
 use Rattle.wk_keeper.specs.declared.keeper.KeeperRefusal.{KeeperRefusal}
 use Rattle.wk_keeper.specs.declared.keeper.KeeperRefusal.TheVariants.{Failed, Memory as NoMemory}
 use Rattle.wk_sqlkeeper.specs.declared.cause.SqlCause.{SqlCause}
-use Rattle.wk_sqlkeeper.specs.declared.cause.SqlCause.TheVariants.{Memory, Statement}
+use Rattle.wk_sqlkeeper.specs.declared.cause.SqlCause.TheVariants.{Memory, Statement, Value}
 use Rattle.wk_sqlkeeper.specs.Causes.{cause_of}
 
 module _ {A E F : Type 0} (P : Type 0) where
@@ -17,14 +17,20 @@ module _ {A E F : Type 0} (P : Type 0) where
   err_through (Err f) (Err e) same p = p
   err_through (Ok value) (Err e) same p = absurd (true≢false (sym same))
 
--- a statement that the database refused is a fault, and its cause is kept
-pub statement_refused : {A : Type 0} (answer : Result A Error) (result : Result A KeeperRefusal) (cause : Option SqlCause) → IsErr answer → IfErr answer (λ error. cause_of error ≡ Statement) → IfErr answer (λ error. cause ≡ Some (cause_of error))
-    → IfErr answer (λ _. IsErr result) → (result ≡ Err NoMemory → cause ≡ Some Memory) → (result ≡ Err Failed) × (cause ≡ Some Statement)
-statement_refused (Ok value) result cause refused of_statement kept told memory = absurd (true≢false (sym refused))
-statement_refused (Err error) (Ok value) cause refused of_statement kept told memory = absurd (true≢false (sym told))
-statement_refused (Err error) (Err Failed) cause refused of_statement kept told memory = (refl, kept ∙ ap Some of_statement)
-statement_refused (Err error) (Err NoMemory) cause refused of_statement kept told memory =
-    absurd (let first = memory refl in let then = kept ∙ ap Some of_statement in cc)
+-- what is refused for another cause than want of memory is a fault, and its cause is kept
+pub refused_for : {A : Type 0} (why : SqlCause) → why ≢ Memory → (answer : Result A Error) (result : Result A KeeperRefusal) (cause : Option SqlCause) → IsErr answer → IfErr answer (λ error. cause_of error ≡ why) → IfErr answer (λ error. cause ≡ Some (cause_of error))
+    → IfErr answer (λ _. IsErr result) → (result ≡ Err NoMemory → cause ≡ Some Memory) → (result ≡ Err Failed) × (cause ≡ Some why)
+refused_for why other (Ok value) result cause refused of_why kept told memory = absurd (true≢false (sym refused))
+refused_for why other (Err error) (Ok value) cause refused of_why kept told memory = absurd (true≢false (sym told))
+refused_for why other (Err error) (Err Failed) cause refused of_why kept told memory = (refl, kept ∙ ap Some of_why)
+refused_for why other (Err error) (Err NoMemory) cause refused of_why kept told memory =
+    absurd (other (let first = memory refl in let then = kept ∙ ap Some of_why in cc))
+
+pub statement_is_other : Statement ≢ Memory
+statement_is_other same = cc
+
+pub value_is_other : Value ≢ Memory
+value_is_other same = cc
 
 -- what is counted is as it was, but where the answer is a fault
 pub uncounted : {A C : Type 0} (faults : C → ℕ) (result : Result A KeeperRefusal) (old new at_ok at_memory : C) → OnOk result (new ≡ at_ok) → (result ≡ Err NoMemory → new ≡ at_memory)

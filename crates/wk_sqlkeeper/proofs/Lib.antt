@@ -1,9 +1,11 @@
+pub mod Adopted
 pub mod Answered
 pub mod Decoding
 pub mod KeptReads
 pub mod ListQueries
 pub mod Makings
 pub mod Objects
+pub mod Olders
 pub mod Queries
 pub mod QueryMeanings
 pub mod Rests

@@ -2,6 +2,8 @@ pub mod Causes
 pub mod Decoded
 pub mod Kept
 pub mod Making
+pub mod Numbers
+pub mod Older
 pub mod Queries
 pub mod Reading
 pub mod Rising

@@ -1,10 +1,11 @@
 -- How the tables of a new store are made in a database that has none, one after the other.
-use Rattle.std.specs.Prelude.{◌≡◌, ℕ, List, [], codes, IsTrue}
+use Rattle.std.specs.Prelude.{◌≡◌, ℕ, List, [], codes, Result, Ok, Err, IsTrue}
 use Rattle.std.specs.List.{AllByRecursion}
 use Rattle.sqlite_trees.specs.Objects.{catalog_tree}
 use Rattle.sqlite.specs.Schema.{Schema}
+use Rattle.sqlite.specs.declared.error.Error.{Error}
 use Rattle.sqlite_catalog.specs.Change.{created}
-use Rattle.sqlite.specs.State.{State}
+use Rattle.sqlite.specs.State.{State, ExecutesInside}
 use Rattle.wk_sqltables.specs.StoreSchema.{no_schema, page_table, revision_table, pagelinks_table, templatelinks_table, existlinks_table, categorylinks_table, job_table, site_table, redirect_table}
 
 -- ---- the schemas in between
@@ -73,6 +74,11 @@ redirect_made = codes "CREATE TABLE redirect (rd_from INTEGER PRIMARY KEY, rd_na
 
 abbrev pub version_made : List ℕ
 version_made = codes "INSERT INTO site (site_key, site_value) VALUES ('version', '2')"
+
+-- a statement with this text was run within a transaction, or refused
+abbrev pub Ran : {A : Type 0} → List ℕ → State → State → Result A Error → Type 0
+Ran text old new (Ok a) = (count : ℕ) × ExecutesInside 0 text [] old new (Ok count)
+Ran text old new (Err e) = ExecutesInside 0 text [] old new (Err e)
 
 -- ---- a database without a table
 

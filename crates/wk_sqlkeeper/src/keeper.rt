@@ -10,6 +10,8 @@ ghost use Rattle.wk_keeper.specs.CallCounts.{CountsOne};
 ghost use Rattle.wk_sqltables.specs.Edits.{Keeps};
 ghost use Rattle.wk_sqlkeeper.specs.Causes.{cause_of};
 ghost use Rattle.wk_sqlkeeper.specs.Kept.{IsInRange, StillKeeps};
+ghost use Rattle.wk_sqlkeeper.specs.Numbers.{change_fits_columns};
+ghost use Rattle.wk_sqlkeeper.specs.Older.{IsAsBefore, IsKnown, KeepsOlder};
 ghost use Rattle.wk_sqlkeeper.specs.Rising.{change_rises};
 ghost use Rattle.wk_sqlkeeper.specs.SqlKeeper.{connection_of, sql_calls, sql_cause, sql_faults, sql_told, sql_whole};
 
@@ -71,6 +73,8 @@ impl<S: Alter + Drop> SqlKeeper<S> {
     ///
     /// `Failed` comes where the database refuses, where it has other tables, or these in another shape, and where a
     /// transaction is open; `Memory` may come. At a refusal the connection is handed back, and the tables are as before.
+    ///
+    /// Whatever tables the database keeps that were made in their own order, with redirect or without, the keeper has them.
     pub fn adopt(
         alloc: Global,
         connection: Connection<S>,
@@ -78,6 +82,9 @@ impl<S: Alter + Drop> SqlKeeper<S> {
         ensures no_faults { IfOk result (λ keeper. sql_faults keeper ≡ 0) }
         ensures in_transaction { connection.in_transaction ≡ true → result ≡ Err (connection, KeeperRefusal.Failed) }
         ensures blank { IfOk result (λ keeper. HasCleanDisk (state S.Store (connection_of keeper)) → IsEmpty (state S.Store connection) → Keeps (state S.Store (connection_of keeper)) no_tables) }
+        ensures older { IfOk result (λ keeper. HasCleanDisk (state S.Store (connection_of keeper)) → (tables : StoreTables) → KeepsOlder (state S.Store connection) tables → Keeps (state S.Store (connection_of keeper)) tables) }
+        ensures kept { IfOk result (λ keeper. HasCleanDisk (state S.Store (connection_of keeper)) → StillKeeps (state S.Store connection) (state S.Store (connection_of keeper))) }
+        ensures stays { IfErr result (λ e. HasCleanDisk (state S.Store e.0) → IsTrue (state S.Store e.0).is_open → IsKnown (state S.Store connection).now.schema → (state S.Store connection).now ≡ (state S.Store connection).committed → IsAsBefore (state S.Store connection) (state S.Store e.0)) }
     {
         match SqlKeeper::adopt_or_cause(alloc, connection) {
             Ok(keeper) => Ok(keeper),
@@ -96,6 +103,9 @@ impl<S: Alter + Drop> SqlKeeper<S> {
         ensures no_cause { IfOk result (λ keeper. sql_cause keeper ≡ None) }
         ensures in_transaction { connection.in_transaction ≡ true → result ≡ Err (connection, SqlCause.Statement) }
         ensures blank { IfOk result (λ keeper. HasCleanDisk (state S.Store (connection_of keeper)) → IsEmpty (state S.Store connection) → Keeps (state S.Store (connection_of keeper)) no_tables) }
+        ensures older { IfOk result (λ keeper. HasCleanDisk (state S.Store (connection_of keeper)) → (tables : StoreTables) → KeepsOlder (state S.Store connection) tables → Keeps (state S.Store (connection_of keeper)) tables) }
+        ensures kept { IfOk result (λ keeper. HasCleanDisk (state S.Store (connection_of keeper)) → StillKeeps (state S.Store connection) (state S.Store (connection_of keeper))) }
+        ensures stays { IfErr result (λ e. HasCleanDisk (state S.Store e.0) → IsTrue (state S.Store e.0).is_open → IsKnown (state S.Store connection).now.schema → (state S.Store connection).now ≡ (state S.Store connection).committed → IsAsBefore (state S.Store connection) (state S.Store e.0)) }
     {
         let made = make_tables(&mut connection);
         kept(alloc, connection, made)
@@ -166,9 +176,10 @@ impl<S: Alter + Drop> Keeper for SqlKeeper<S> {
         self.calls.answered(made, answer)
     }
 
-    /// Makes the change in one transaction, which is on the disk before the answer is given. `Failed` also comes where a
-    /// number of a row is 2^63 or more, but for moments, and where a page's link rows aren't in the order of their titles or
-    /// have one twice, which is found before a statement; `cause` tells why.
+    /// Makes the change in one transaction, which is on the disk before the answer is given. `Failed` comes of two kinds of
+    /// change before a statement: where a page's link rows aren't in the order of their titles or have one twice, and where a
+    /// number of a row is 2^63 or more, but for moments. Otherwise it comes where the database refuses for another cause than
+    /// memory; `cause` tells why.
     ///
     /// Whatever tables the database keeps that were made in their own order, at `Ok` it keeps what the change makes of them,
     /// and after a refusal the same ones, where the disk gives back what was written.
@@ -192,6 +203,7 @@ impl<S: Alter + Drop> Keeper for SqlKeeper<S> {
         ensures kept { HasCleanDisk (state S.Store (connection_of self.new)) → OnOk result ((tables : StoreTables) → Keeps (state S.Store (connection_of self.old)) tables → fits tables change.now ≡ true → Keeps (state S.Store (connection_of self.new)) (applied tables change.now)) }
         ensures undone { HasCleanDisk (state S.Store (connection_of self.new)) → IsTrue (state S.Store (connection_of self.new)).is_open → OnErr result ((tables : StoreTables) → Keeps (state S.Store (connection_of self.old)) tables → Keeps (state S.Store (connection_of self.new)) tables) }
         ensures out_of_order { change_rises change.now ≡ false → (result ≡ Err KeeperRefusal.Failed) × (connection_of self.new ≡ connection_of self.old) × (sql_cause self.new ≡ Some SqlCause.Statement) }
+        ensures out_of_range { change_rises change.now ≡ true → change_fits_columns change.now ≡ false → (result ≡ Err KeeperRefusal.Failed) × (connection_of self.new ≡ connection_of self.old) × (sql_cause self.new ≡ Some SqlCause.Value) }
     {
         let made = self.calls.made();
         let permit = self.calls.permit();

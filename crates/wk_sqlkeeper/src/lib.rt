@@ -11,6 +11,7 @@ mod changes;
 mod columns;
 mod keeper;
 mod loading;
+mod numbers;
 mod order;
 mod rising;
 mod rows;

@@ -1,5 +1,5 @@
 -- What a store in memory tells is what it keeps.
-use Rattle.std.proofs.Common.{◌≡◌, ◌<◌, ◌^◌, ℕ, true, List, [], ◌∷◌, ◌++◌, map, drop, Some, Ok, Err, Result, IfOk, OnOk, OnErr, refl, sym, ap, ◌∙◌, arith, Ordering}
+use Rattle.std.proofs.Common.{◌≡◌, ◌<◌, ◌^◌, inl, inr, ℕ, true, List, [], ◌∷◌, ◌++◌, map, drop, Some, Ok, Err, Result, IfOk, OnOk, OnErr, refl, sym, ap, ◌∙◌, arith, Ordering}
 use Rattle.std.proofs.Math.Logic.{∥∥₁_elim}
 use Rattle.std.proofs.Props.{props}
 use Rattle.std.specs.List.{AllByRecursion}
@@ -7,6 +7,7 @@ use Rattle.sqlite_value.specs.Order.{Row}
 use Rattle.sqlite_trees.specs.Tree.{Trees}
 use Rattle.sqlite_keyed.specs.Lists.{sort_by}
 use Rattle.sqlite.specs.State.{State}
+use Rattle.sqlite.specs.Steps.{IsEmpty}
 use Rattle.wk_table_rules.specs.Rows.{StoreTables, no_tables}
 use Rattle.wk_table_rules.specs.Changes.{TableEdit, add_revision, set_page, set_rows, add_job, set_job, drop_job, set_version, edited, applied, fits}
 use Rattle.wk_sqltables.specs.Entries.{entry, page_values, revision_values, link_values, member_values, redirect_values, job_values}
@@ -14,9 +15,10 @@ use Rattle.wk_sqltables.specs.Held.{AreKeyed, AreListed, IsVersion, HoldTables, 
 use Rattle.wk_sqlkeeper.specs.Decoded.{page_in, revision_in, link_in, member_in, redirect_in, job_in}
 use Rattle.wk_sqltables.specs.Edits.{Keeps}
 use Rattle.wk_sqlkeeper.specs.Kept.{IsInRange, StillKeeps}
+use Rattle.wk_sqlkeeper.specs.Older.{IsAsBefore, IsKnown, KeepsOlder}
 use Rattle.wk_sqlkeeper.proofs.Decoding.{all_fit, revision_again}
 use Rattle.wk_sqlkeeper.proofs.KeptReads.{value_back}
-use Rattle.wk_sqlmemory.specs.Told.{columns_of, version_in, tables_in, IsEditInRange, AreEditsInRange, KeepsTables}
+use Rattle.wk_sqlmemory.specs.Told.{columns_of, version_in, tables_in, IsEditInRange, AreEditsInRange, IsTold, KeepsOlderTables, KeepsTables}
 
 map_back : {X Y : Type 0} (f : X → Y) (back : Y → X) (fits : X → Type 0) → ((x : X) → fits x → back (f x) ≡ x) → (xs : List X) → AllByRecursion fits xs → map back (map f xs) ≡ xs
 map_back f back fits again [] all = refl
@@ -113,6 +115,25 @@ module _ (old new : State) (change : List TableEdit) (low : AreEditsInRange chan
   pub change_told : ∥ KeepsTables old ∥₁ → tables_in new.now.trees ≡ applied (tables_in old.now.trees) change
   unfolding after_change
   change_told had = ∥∥₁_elim had (tables_set _ _) (λ k. told_is new (after_change k) ∙ sym (ap (λ tables. applied tables change) (told_is old k)))
+
+-- ---- a database that is taken over
+
+older_is_told : (old new : State) → ((tables : StoreTables) → KeepsOlder old tables → Keeps new tables) → ∥ KeepsOlderTables old ∥₁ → ∥ KeepsTables new ∥₁
+older_is_told old new whole had = ∥∥₁_elim had (hlevel props) (λ k. ∣ record { tables = k.tables; keeps = whole k.tables k.keeps; range = k.range } ∣₁)
+
+pub taken_over : (old new : State) → (IsEmpty old → Keeps new no_tables) → ((tables : StoreTables) → KeepsOlder old tables → Keeps new tables) → StillKeeps old new → IsTold old → ∥ KeepsTables new ∥₁
+taken_over old new blank whole still (inl empty) = ∣ record { tables = no_tables; keeps = blank empty; range = none_in_range } ∣₁
+taken_over old new blank whole still (inr (inl had)) = still_kept old new still had
+taken_over old new blank whole still (inr (inr had)) = older_is_told old new whole had
+
+pub older_told : (new : State) (tables : StoreTables) → Keeps new tables → IsInRange tables → tables_in new.now.trees ≡ tables
+older_told new tables keeps range = tables_back new.now.trees tables keeps.tables_are range
+
+-- a refusal, of which this is known wherever it is known which tables there are
+pub stays_told : (old new : State) → (IsKnown old.now.schema → old.now ≡ old.committed → IsAsBefore old new) → IsTold old → ∥ IsAsBefore old new ∥₁
+stays_told old new stays (inl empty) = ∣ stays (inl empty.2) empty.0.clean ∣₁
+stays_told old new stays (inr (inl had)) = ∥∥₁_elim had (hlevel props) (λ k. ∣ stays (inr (inr k.keeps.schema)) k.keeps.settled ∣₁)
+stays_told old new stays (inr (inr had)) = ∥∥₁_elim had (hlevel props) (λ k. ∣ stays (inr (inl k.keeps.schema)) k.keeps.settled ∣₁)
 
 -- at an answer, what was said of either kind
 pub at_either : {A E P Q X : Type 0} (r : Result A E) → OnOk r P → OnErr r Q → (P → X) → (Q → X) → X

@@ -1,16 +1,18 @@
 -- The tables that a database in memory keeps, out of its trees.
-use Rattle.std.specs.Prelude.{◌<◌, ◌^◌, ℕ, List, [], ◌∷◌, map, drop, slice_index_or}
+use Rattle.std.specs.Prelude.{◌<◌, ◌^◌, ◌⊎◌, ℕ, List, [], ◌∷◌, map, drop, slice_index_or}
 use Rattle.std.specs.List.{AllByRecursion}
 use Rattle.sqlite_value.specs.Order.{Row, column}
 use Rattle.sqlite_trees.specs.Tree.{Trees}
 use Rattle.sqlite_keyed.specs.Lists.{sort_by}
 use Rattle.sqlite.specs.State.{State}
+use Rattle.sqlite.specs.Steps.{IsEmpty}
 use Rattle.wk_text_rules.specs.Decimal.{digits_value}
 use Rattle.wk_table_rules.specs.Rows.{StoreTables}
 use Rattle.wk_table_rules.specs.Changes.{TableEdit, add_revision, set_version}
 use Rattle.wk_sqltables.specs.Held.{link_cmp, member_cmp}
 use Rattle.wk_sqltables.specs.Edits.{Keeps}
 use Rattle.wk_sqlkeeper.specs.Kept.{IsInRange}
+use Rattle.wk_sqlkeeper.specs.Older.{KeepsOlder}
 use Rattle.wk_sqlkeeper.specs.Decoded.{words_in, page_in, revision_in, link_in, member_in, redirect_in, job_in}
 
 -- the columns of a row whose first one is its row number
@@ -50,3 +52,13 @@ pub record KeepsTables (s : State) : Type 0 where
   pub tables : StoreTables
   pub keeps : Keeps s tables
   pub range : IsInRange tables
+
+-- it keeps such tables but for redirect
+pub record KeepsOlderTables (s : State) : Type 0 where
+  pub tables : StoreTables
+  pub keeps : KeepsOlder s tables
+  pub range : IsInRange tables
+
+-- it is empty, or it is known which tables it keeps
+abbrev pub IsTold : State → Type 0
+IsTold s = IsEmpty s ⊎ (∥ KeepsTables s ∥₁ ⊎ ∥ KeepsOlderTables s ∥₁)

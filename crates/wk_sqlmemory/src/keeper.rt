@@ -1,10 +1,12 @@
 //! The keeper.
-ghost use Rattle.std.specs.Prelude.{◌≡◌, false, Some, IfOk};
+ghost use Rattle.std.specs.Prelude.{◌≡◌, false, Some, IfErr, IfOk};
 ghost use Rattle.sqlite.specs.Held.{state};
 ghost use Rattle.sqlite.specs.Steps.{IsEmpty, over_memory};
-ghost use Rattle.wk_table_rules.specs.Rows.{no_tables};
+ghost use Rattle.wk_table_rules.specs.Rows.{StoreTables, no_tables};
+ghost use Rattle.wk_sqlkeeper.specs.Kept.{IsInRange};
+ghost use Rattle.wk_sqlkeeper.specs.Older.{IsAsBefore, KeepsOlder};
 ghost use Rattle.wk_sqlkeeper.specs.SqlKeeper.{connection_of, sql_calls, sql_faults};
-ghost use Rattle.wk_sqlmemory.specs.Told.{KeepsTables, tables_in};
+ghost use Rattle.wk_sqlmemory.specs.Told.{IsTold, KeepsTables, tables_in};
 
 use crate::ranges::change_is_in_range;
 use sqlite::{Connection, MemStore};
@@ -30,23 +32,29 @@ impl Drop for SqlMemory {
 
 /// What tells its tables, out of a keeper that keeps them.
 fn telling(keeper: SqlKeeper<MemStore>) -> SqlMemory
-    requires { KeepsTables (state over_memory (connection_of keeper)) }
+    requires { ∥ KeepsTables (state over_memory (connection_of keeper)) ∥₁ }
     ensures { result.keeper ≡ keeper }
 {
     SqlMemory { keeper }
 }
 
 impl SqlMemory {
-    /// The keeper of the tables of a new store, of version 2, which it makes in the connection's database, with no faults.
+    /// The keeper of the tables in the connection's database, with no faults: those of a new store, of version 2, where the
+    /// database is empty; those that it keeps, where a keeper was released; and those of an older store, which has no table
+    /// redirect, where that one is made. It takes over no other database, since nobody can say which tables it keeps.
     ///
-    /// `Failed` comes where the database refuses; `Memory` may come. At a refusal the connection is handed back.
+    /// `Failed` comes where the database refuses; `Memory` may come. At a refusal the connection is handed back, and its
+    /// tables are as before.
     pub fn adopt(
         alloc: Global,
         connection: Connection<MemStore>,
     ) -> Result<SqlMemory, (Connection<MemStore>, KeeperRefusal)>
-        requires { IsEmpty (state over_memory connection) }
-        ensures told { IfOk result (λ keeper. tables_in (state over_memory (connection_of keeper.keeper)).now.trees ≡ no_tables) }
+        requires { IsTold (state over_memory connection) }
+        ensures told { IfOk result (λ keeper. IsEmpty (state over_memory connection) → tables_in (state over_memory (connection_of keeper.keeper)).now.trees ≡ no_tables) }
+        ensures kept { IfOk result (λ keeper. ∥ KeepsTables (state over_memory connection) ∥₁ → tables_in (state over_memory (connection_of keeper.keeper)).now.trees ≡ tables_in (state over_memory connection).now.trees) }
+        ensures older { IfOk result (λ keeper. (tables : StoreTables) → KeepsOlder (state over_memory connection) tables → IsInRange tables → tables_in (state over_memory (connection_of keeper.keeper)).now.trees ≡ tables) }
         ensures no_faults { IfOk result (λ keeper. sql_faults keeper.keeper ≡ 0) }
+        ensures stays { IfErr result (λ e. ∥ IsAsBefore (state over_memory connection) (state over_memory e.0) ∥₁) }
     {
         match SqlKeeper::adopt(alloc, connection) {
             Ok(keeper) => Ok(telling(keeper)),
@@ -54,9 +62,10 @@ impl SqlMemory {
         }
     }
 
-    /// Gives the connection back. Takes no memory.
+    /// Gives the connection back, whose database keeps the tables, so that it can be taken over again. Takes no memory.
     pub fn release(self) -> Connection<MemStore>
-        ensures { result ≡ connection_of self.keeper }
+        ensures same { result ≡ connection_of self.keeper }
+        ensures keeps { ∥ KeepsTables (state over_memory result) ∥₁ }
     {
         let SqlMemory { keeper } = self;
         keeper.release()

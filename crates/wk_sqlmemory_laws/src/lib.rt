@@ -5,12 +5,14 @@
 ghost use Rattle.std.specs.Prelude.{◌≡◌, IfOk, None};
 ghost use Rattle.sqlite.specs.Held.{state};
 ghost use Rattle.sqlite.specs.Steps.{IsEmpty, over_memory};
-ghost use Rattle.wk_table_rules.specs.Rows.{no_tables};
+ghost use Rattle.wk_table_rules.specs.Rows.{StoreTables, no_tables};
 ghost use Rattle.wk_wiki_rules.specs.Tables.{tables_of};
 ghost use Rattle.wk_wiki_rules.specs.Lives.{opened};
 ghost use Rattle.wk_revs.specs.Edit.{most_held};
 ghost use Rattle.wk_core.specs.Limits.{AreWithinFull};
-ghost use Rattle.wk_sqlmemory.specs.Told.{tables_in};
+ghost use Rattle.wk_sqlkeeper.specs.Kept.{IsInRange};
+ghost use Rattle.wk_sqlkeeper.specs.Older.{KeepsOlder};
+ghost use Rattle.wk_sqlmemory.specs.Told.{KeepsOlderTables, tables_in};
 
 use sqlite::{Connection, MemStore};
 use std::alloc::Global;
@@ -29,6 +31,45 @@ pub fn a_new_database_has_a_new_wiki(
     ensures state { IfOk result (λ wiki. wiki.state ≡ opened no_tables) }
     ensures unsealed { IfOk result (λ wiki. wiki.start.sealed ≡ None) }
 {
+    match SqlMemory::adopt(alloc, connection) {
+        Ok(keeper) => match Wiki::load(alloc, keeper, limits) {
+            Ok(wiki) => Ok(wiki),
+            Err(LoadRefusal { keeper, cause: _ }) => Err(keeper.release()),
+        },
+        Err((connection, _)) => Err(connection),
+    }
+}
+
+/// A wiki over the database of an older store, which has no table redirect, is that of the store's tables, each page of which is
+/// queued where they are of version 1.
+pub fn an_older_database_has_its_wiki(
+    alloc: Global,
+    connection: Connection<MemStore>,
+    limits: Limits,
+) -> Result<Wiki<SqlMemory>, Connection<MemStore>>
+    requires older { ∥ KeepsOlderTables (state over_memory connection) ∥₁ }
+    requires within { AreWithinFull (most_held limits) }
+    ensures { IfOk result (λ wiki. (tables : StoreTables) → KeepsOlder (state over_memory connection) tables → IsInRange tables → wiki.state ≡ opened tables) }
+{
+    match SqlMemory::adopt(alloc, connection) {
+        Ok(keeper) => match Wiki::load(alloc, keeper, limits) {
+            Ok(wiki) => Ok(wiki),
+            Err(LoadRefusal { keeper, cause: _ }) => Err(keeper.release()),
+        },
+        Err((connection, _)) => Err(connection),
+    }
+}
+
+/// A wiki that is given up, and opened again over its database, begins a life of its state.
+pub fn a_wiki_is_opened_again(
+    alloc: Global,
+    wiki: Wiki<SqlMemory>,
+    limits: Limits,
+) -> Result<Wiki<SqlMemory>, Connection<MemStore>>
+    requires { AreWithinFull (most_held limits) }
+    ensures { IfOk result (λ again. again.state ≡ opened (tables_of wiki.state)) }
+{
+    let connection = wiki.release().release();
     match SqlMemory::adopt(alloc, connection) {
         Ok(keeper) => match Wiki::load(alloc, keeper, limits) {
             Ok(wiki) => Ok(wiki),

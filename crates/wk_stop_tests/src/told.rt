@@ -1,5 +1,9 @@
-//! A wiki over a database in memory, whose keeper gives the tables of the wiki behind each call. All but the test is generic in
+//! A wiki over a database in memory, whose keeper gives the tables of the wiki behind each call. What a wiki does is generic in
 //! the keeper, so that nothing is proved of a wiki over one.
+ghost use Rattle.std.specs.Prelude.{◌≡◌, ◌∷◌, [], IfOk};
+ghost use Rattle.wk_table_rules.specs.Changes.{set_version};
+
+use crate::older::make_older;
 use crate::opened::rows_of;
 use crate::same::are_both;
 use sqlite::Connection;
@@ -10,6 +14,7 @@ use wk_expand::Trees;
 use wk_keeper::Keeper;
 use wk_memory::Memory;
 use wk_sqlmemory::SqlMemory;
+use wk_tables::{Change, RowEdit, TableRows};
 use wk_tools::refresh_here;
 
 /// A call of a wiki.
@@ -110,21 +115,92 @@ fn loaded<K: Keeper>(alloc: Global, keeper: K) -> Result<Wiki<K>, Memory> {
     }
 }
 
+/// Whether the keeper of the wiki, given up, gives the rows of the wiki's tables.
+pub fn is_given<K: Keeper>(wiki: Wiki<K>) -> Result<bool, Memory> {
+    let tables = wiki.tables()?;
+    let rows = tables.rows().ok();
+    let mut keeper = wiki.release();
+    Ok(are_both(&rows, &rows_of(&mut keeper)))
+}
+
 /// Whether so many of the calls are made in a wiki over the keeper, which, given up, then gives the rows of the wiki's tables.
 fn gives_its_tables<K: Keeper>(alloc: Global, keeper: K, count: usize) -> Result<bool, Memory> {
     let mut wiki = loaded(alloc, keeper)?;
     let made = make_all(alloc, &mut wiki, count)?;
-    let tables = wiki.tables()?;
-    let rows = tables.rows().ok();
-    let mut keeper = wiki.release();
-    Ok(made && are_both(&rows, &rows_of(&mut keeper)))
+    Ok(is_given(wiki)? && made)
 }
 
 /// A keeper over a new database in memory.
-fn new_store(alloc: Global) -> Result<SqlMemory, Fail> {
+pub fn new_store(alloc: Global) -> Result<SqlMemory, Fail> {
     match SqlMemory::adopt(alloc, Connection::open_in_memory(alloc)?) {
         Ok(keeper) => Ok(keeper),
         Err((_, _)) => Err(Fail::from("a new database is refused")),
+    }
+}
+
+/// A change to version 1.
+fn version_1(alloc: Global) -> Result<Change, Memory>
+    ensures { IfOk result (λ change. change ≡ set_version 1 ∷ []) }
+{
+    let mut edits = Vec::new(alloc);
+    edits.push(RowEdit::SetVersion(1))?;
+    Ok(Change { edits })
+}
+
+/// Sets the version to 1. Whether it is set.
+fn is_set<K: Keeper>(keeper: &mut K, change: &Change) -> bool
+    requires { change.now ≡ set_version 1 ∷ [] }
+{
+    keeper.apply(change).is_ok()
+}
+
+/// Saves a page that redirects, in a wiki over the keeper.
+fn with_redirect<K: Keeper>(alloc: Global, keeper: K) -> Result<K, Memory> {
+    let mut wiki = loaded(alloc, keeper)?;
+    let _ = save(&mut wiki, &edit(alloc, "A", "#REDIRECT [[B]]")?);
+    Ok(wiki.release())
+}
+
+/// Does the first refresh job of a wiki over the keeper.
+fn refreshed<K: Keeper>(alloc: Global, keeper: K) -> Result<K, Memory> {
+    let mut wiki = loaded(alloc, keeper)?;
+    let mut trees = Trees::new(alloc, 8)?;
+    let _ = refresh_here(&mut wiki, &mut trees);
+    Ok(wiki.release())
+}
+
+/// A keeper over a store of version 1 in memory, which had no table redirect: a page that redirects, its link, and no job.
+pub fn older_store(alloc: Global) -> Result<SqlMemory, Fail> {
+    let saved = with_redirect(alloc, new_store(alloc)?)?;
+    let mut keeper = refreshed(alloc, saved)?;
+    let change = version_1(alloc)?;
+    if !is_set(&mut keeper, &change) {
+        return Err(Fail::from("the version isn't set"));
+    }
+    let mut connection = keeper.release();
+    make_older(&mut connection)?;
+    match SqlMemory::adopt(alloc, connection) {
+        Ok(keeper) => Ok(keeper),
+        Err((_, _)) => Err(Fail::from("an older database is refused")),
+    }
+}
+
+/// Whether these are the rows of that store as one of version 2: its page is queued.
+fn are_migrated(rows: &TableRows) -> bool {
+    rows.version == 2
+        && rows.pages.len() == 1
+        && rows.pagelinks.len() == 1
+        && rows.redirects.is_empty()
+        && rows.jobs.len() == 1
+}
+
+/// Whether a wiki over the keeper of that store makes of it one of version 2.
+fn is_migrated<K: Keeper>(alloc: Global, keeper: K) -> Result<bool, Memory> {
+    let wiki = loaded(alloc, keeper)?;
+    let mut keeper = wiki.release();
+    match rows_of(&mut keeper) {
+        Some(rows) => Ok(are_migrated(&rows)),
+        None => Ok(false),
     }
 }
 
@@ -133,6 +209,21 @@ fn a_database_in_memory_gives_what_it_tells(rt: HostRuntime) -> Result<(), Fail>
     let alloc = rt.alloc();
     for count in 0..=CALLS.len() {
         let keeper = new_store(alloc)?;
+        assert!(rt;
+            gives_its_tables(alloc, keeper, count)?,
+            "behind {count} calls"
+        );
+    }
+    Ok(())
+}
+
+#[test]
+fn an_older_database_in_memory_gives_what_it_tells(rt: HostRuntime) -> Result<(), Fail> {
+    let alloc = rt.alloc();
+    let keeper = older_store(alloc)?;
+    assert!(rt; is_migrated(alloc, keeper)?);
+    for count in 0..=CALLS.len() {
+        let keeper = refreshed(alloc, older_store(alloc)?)?;
         assert!(rt;
             gives_its_tables(alloc, keeper, count)?,
             "behind {count} calls"

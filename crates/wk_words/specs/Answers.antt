@@ -29,6 +29,7 @@ wanted_of line = record {
   journal_limit = line.journal_limit;
   most = line.most;
   report = line.report;
+  feed = line.feed;
 }
 
 abbrev pub IsWithin : NumberOption → ℕ → Type 0

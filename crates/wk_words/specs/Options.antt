@@ -1,8 +1,9 @@
--- The command line (own): one word for the command, and ten options, of which each is given at most once and has one
--- value. `clap` reads it, as a command without subcommands, groups or rules between arguments.
+-- The command line (own): one word for the command, ten options of one value each, and a flag that has none. Each is
+-- given at most once. `clap` reads it, as a command without subcommands, groups or rules between arguments.
 use Rattle.std.specs.Prelude.{ℕ, true, List, [], ◌∷◌, ◌++◌, map, fold, Some, codes}
 use Rattle.clap.specs.Words.{App, Rule, Text, new_app, new_rule, with_rule}
 use Rattle.clap.specs.Simple.{on_top}
+use Rattle.clap.specs.declared.builder.action.ArgAction.TheVariants.{SetTrue}
 use Rattle.clap.specs.declared.builder.value_parser.ValueParser.TheVariants.{Unsigned}
 
 -- an option whose value is a number: its name, its range, and the number where it isn't given
@@ -56,10 +57,14 @@ abbrev pub number_rule : NumberOption → Rule
 number_rule option =
     record (new_rule option.name) { long = Some option.name; value_names = 1; parser = Some (Unsigned option.least option.most) }
 
+-- an option that has no value
+abbrev pub flag_rule : Text → Rule
+flag_rule name = record (new_rule name) { long = Some name; action = Some SetTrue }
+
 abbrev pub rules : List Rule
 rules =
     command_rule ∷ text_rule (codes "store") ∷ text_rule (codes "listen")
-    ∷ (map number_rule numbers ++ (text_rule (codes "report") ∷ []))
+    ∷ (map number_rule numbers ++ (text_rule (codes "report") ∷ flag_rule (codes "feed") ∷ []))
 
 -- the program's name, with a version and no argument yet
 abbrev pub bare_app : App

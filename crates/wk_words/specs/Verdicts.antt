@@ -1,5 +1,5 @@
 -- What words come to (own): what they ask for, help, the version, or a refusal.
-use Rattle.std.specs.Prelude.{ℕ, Bool, true, false, List, [], ◌∷◌, Option, Some, None, unwrap_or, option_and_then, if◌then◌else◌, codes}
+use Rattle.std.specs.Prelude.{ℕ, Bool, true, false, List, [], ◌∷◌, Option, Some, None, bytes_eq, unwrap_or, option_and_then, if◌then◌else◌, codes}
 use Rattle.std.specs.Option.{option_map_or}
 use Rattle.clap.specs.Words.{Row, Text, fault_of, first_of, matches_of}
 use Rattle.clap.specs.Kinds.{Kinds}
@@ -24,6 +24,7 @@ pub record Wanted : Type 0 where
   pub journal_limit : ℕ
   pub most : ℕ
   pub report : Report
+  pub feed : Bool
 
 -- the text that is given, or what stands for it
 abbrev pub text_in : Text → Text → List Row → Text
@@ -33,6 +34,10 @@ text_in name default rows = unwrap_or (first_of name rows) default
 abbrev pub number_in : NumberOption → List Row → Option ℕ
 number_in option rows =
     option_map_or (λ text. if is_decimal text then Some (digits_value text) else None) (first_of option.name rows) (Some option.default)
+
+-- a flag is given: `clap` finds this text for it then, and another where it isn't
+abbrev pub flag_in : Text → List Row → Bool
+flag_in name rows = bytes_eq (text_in name (codes "false") rows) (codes "true")
 
 infixl 10 ◌>>=◌
 abbrev ◌>>=◌ : {X Y : Type 0} → Option X → (X → Option Y) → Option Y
@@ -63,6 +68,7 @@ wanted_in rows = do
     journal_limit = j;
     most = l;
     report = r;
+    feed = flag_in (codes "feed") rows;
   })
 
 pub data Verdict : Type 0 where

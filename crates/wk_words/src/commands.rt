@@ -17,6 +17,8 @@ pub enum Command {
     Generate,
     /// `report`: the lines of a report over the store are written.
     Report,
+    /// `replica`: the feed of a wiki is read from the input, and what is read of that wiki is answered on connections meanwhile.
+    Replica,
 }
 
 /// Whether the word is this name. Takes no memory.
@@ -42,6 +44,8 @@ pub(crate) fn command_named(word: &str) -> Option<Command>
         Some(Command::Generate)
     } else if is_name("report", word) {
         Some(Command::Report)
+    } else if is_name("replica", word) {
+        Some(Command::Replica)
     } else {
         None
     }

@@ -2,10 +2,10 @@
 ghost use Rattle.std.specs.Prelude.{◌≡◌, false, IfOk, codes};
 ghost use Rattle.clap.specs.Words.{app_of, rule_of, with_rule};
 ghost use Rattle.wk_words.specs.Answers.{option_of};
-ghost use Rattle.wk_words.specs.Options.{bare_app, command_rule, journal_limit, max_connections, most_lines, number, number_rule, pages, procs, text_rule, wiki_app, workers};
+ghost use Rattle.wk_words.specs.Options.{bare_app, command_rule, flag_rule, journal_limit, max_connections, most_lines, number, number_rule, pages, procs, text_rule, wiki_app, workers};
 
-use clap::Arg;
 use clap::builder::ValueParser;
+use clap::{Arg, ArgAction};
 use std::alloc::{AllocError, Global};
 
 /// An option whose value is a number.
@@ -92,13 +92,16 @@ const ABOUT: &str = "A MediaWiki engine: pages with transclusion, link tables an
 Commands:
   script  answers the lines of standard input, one line of JSON for each that isn't empty
   serve   serves the connections that come in at an address, as the API of a wiki, and
-          prints `listening on ADDRESS`, and at its end `served N`
+          prints `listening on ADDRESS`, and at its end `served N`; with --feed it prints
+          the wiki as lines, its tables and then each event
   jobs    does the jobs of the store until none is left, and prints `jobs 0`
   check   compares the link rows of each page with a new expansion of it, and prints
           `differ TITLE` for each page that differs, then `pages N differ M`
   gen     generates pages, does their jobs and checks them, and prints
           `pages N revisions R jobs 0 differ M`
-  report  prints the lines of a report, each a count and titles, and then `lines N`";
+  report  prints the lines of a report, each a count and titles, and then `lines N`
+  replica reads what serve --feed prints from standard input, answers what is read of
+          that wiki at an address meanwhile, and prints `replica N`, its events, at its end";
 
 const EXAMPLES: &str = "Examples:
   wiki gen --pages 1000
@@ -115,7 +118,7 @@ fn command_arg<'a>(alloc: Global) -> Arg<'a>
     Arg::new(alloc, "command")
         .value_name("COMMAND")
         .required(true)
-        .help("What to do: script, serve, jobs, check, gen or report")
+        .help("What to do: script, serve, jobs, check, gen, report or replica")
 }
 
 /// An option whose value is any text.
@@ -144,6 +147,17 @@ fn number_arg<'a>(alloc: Global, option: &NumberOption) -> Arg<'a>
         .value_name("N")
         .value_parser(ValueParser::unsigned(option.least, option.most))
         .help(option.help)
+}
+
+/// An option that has no value.
+fn flag_arg<'a>(alloc: Global, name: &'static str, help: &'static str) -> Arg<'a>
+    ensures rule { rule_of result ≡ flag_rule name.entry.now }
+    ensures local { result.global ≡ false }
+{
+    Arg::new(alloc, name)
+        .long(name)
+        .action(ArgAction::SetTrue)
+        .help(help)
 }
 
 /// The program, which has a version, and no argument yet.
@@ -204,10 +218,10 @@ fn with_more_numbers<'a>(
     app.arg(pages)?.arg(number)?.arg(journal_limit)
 }
 
-/// What a report is, and how long.
+/// What a report is, and the flag.
 fn with_report<'a>(alloc: Global, app: clap::Command<'a>) -> Result<clap::Command<'a>, AllocError>
     ensures { IfOk result (λ with. app_of with
-        ≡ with_rule (with_rule (app_of app.entry) (number_rule most_lines)) (text_rule (codes "report"))) }
+        ≡ with_rule (with_rule (with_rule (app_of app.entry) (number_rule most_lines)) (text_rule (codes "report"))) (flag_rule (codes "feed"))) }
 {
     let most = number_arg(alloc, &MOST);
     let report = text_arg(
@@ -216,7 +230,12 @@ fn with_report<'a>(alloc: Global, app: clap::Command<'a>) -> Result<clap::Comman
         "REPORT",
         "What is reported: wanted, orphaned, uncategorized, doubleredirects or mosttemplates [default: wanted]",
     );
-    app.arg(most)?.arg(report)
+    let feed = flag_arg(
+        alloc,
+        "feed",
+        "Whether serve prints its feed in the place of its lines",
+    );
+    app.arg(most)?.arg(report)?.arg(feed)
 }
 
 /// The command line as `clap` reads it.

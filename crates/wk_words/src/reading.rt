@@ -7,7 +7,7 @@ ghost use Rattle.wk_words.specs.Answers.{IsInRange, IsWithin, KeepsRange, Shows,
 ghost use Rattle.wk_words.specs.Commands.{command_named};
 ghost use Rattle.wk_words.specs.Options.{numbers, wiki_app};
 ghost use Rattle.wk_words.specs.Reports.{report_named};
-ghost use Rattle.wk_words.specs.Verdicts.{number_in, is_refused, refused, runs, text_in, verdict, wanted_in};
+ghost use Rattle.wk_words.specs.Verdicts.{flag_in, number_in, is_refused, refused, runs, text_in, verdict, wanted_in};
 
 use crate::commands::{Command, command_named};
 use crate::options::{
@@ -48,6 +48,8 @@ pub struct CommandLine<'a> {
     pub most: u64,
     /// What is reported, by default wanted titles.
     pub report: Report,
+    /// Whether `serve` writes its feed; by default it doesn't.
+    pub feed: bool,
 }
 
 /// What `clap` takes, and the rules of this program don't.
@@ -120,6 +122,14 @@ fn read_report<'a>(matches: &ArgMatches<'a>) -> Result<Report, Misuse<'a>>
     }
 }
 
+/// Whether the flag is given.
+fn read_flag<'a>(matches: &ArgMatches<'a>, name: &str) -> bool
+    ensures { result ≡ flag_in name.now (rows_of (found_of matches.now)) }
+{
+    let text = read_text(matches, name, "false");
+    text == "true"
+}
+
 /// What matches ask for.
 fn command_line<'a>(matches: &ArgMatches<'a>) -> Result<CommandLine<'a>, Misuse<'a>>
     requires { All (KeepsRange (rows_of (found_of matches.now))) numbers }
@@ -148,6 +158,7 @@ fn command_line<'a>(matches: &ArgMatches<'a>) -> Result<CommandLine<'a>, Misuse<
         journal_limit,
         most,
         report,
+        feed: read_flag(matches, "feed"),
     })
 }
 
@@ -181,7 +192,7 @@ fn misuse_error(
         }
         Misuse::Command(word) => {
             let message = format!(in alloc;
-                "unrecognized command '{word}'\n  [commands: script, serve, jobs, check, gen, report]"
+                "unrecognized command '{word}'\n  [commands: script, serve, jobs, check, gen, report, replica]"
             )?;
             app.error(ErrorKind::InvalidValue, message.as_str())
         }

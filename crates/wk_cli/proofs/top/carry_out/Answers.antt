@@ -1,7 +1,7 @@
 use Rattle.std.proofs.Common.{refl, ap, arith}
 use Rattle.wk_commands.specs.declared.works.Work.TheVariants as work
 use Rattle.wk_words.specs.declared.commands.Command.{Command}
-use Rattle.wk_cli.specs.Finished.{reported, scripted, served, work_of, worked}
+use Rattle.wk_cli.specs.Finished.{followed, reported, scripted, served, work_of, worked}
 use Rattle.wk_cli.proofs.Ended.{report-not, script-not-six, serve-not-three, work-not-six, work-not-three}
 use Rattle.wk_cli.proofs.top.carry_out.Goals as goal
 
@@ -94,4 +94,20 @@ returns-in-Report g c =
       doors_never_fall = omega arith;
       no_door_fault = λ _. refl;
       door_fault = λ is. absurd (report-not 6 refl done is);
+    }
+
+pub returns-in-Replica : goal.returns-in-Replica
+returns-in-Replica g c =
+    let done = c.replica.ensures in record {
+      carried_out = followed c.in-Replica.is refl (done.followed (g.C.Clock.left c.args.clock.now));
+      reads_never_fall = done.reads_never_fall;
+      no_read_fault = done.no_read_fault;
+      read_fault = done.read_fault;
+      writes_never_fall = done.writes_never_fall;
+      no_write_fault = done.no_write_fault;
+      write_fault = done.write_fault;
+      opens_never_fall = omega arith;
+      doors_never_fall = done.doors_never_fall;
+      no_door_fault = done.no_door_fault;
+      door_fault = done.door_fault;
     }

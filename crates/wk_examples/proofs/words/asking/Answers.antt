@@ -30,3 +30,15 @@ returns-clause-serving c = refl
 pub returns-clause-reporting : goal.returns-clause-reporting
 unfolding verdict clap_on_literals
 returns-clause-reporting c = refl
+
+pub returns-clause-flag : goal.returns-clause-flag
+unfolding verdict clap_on_literals
+returns-clause-flag c = refl
+
+pub returns-clause-following : goal.returns-clause-following
+unfolding verdict clap_on_literals
+returns-clause-following c = refl
+
+pub returns-clause-flag_elsewhere : goal.returns-clause-flag_elsewhere
+unfolding verdict clap_on_literals
+returns-clause-flag_elsewhere c = refl

@@ -11,6 +11,10 @@ pub returns-clause-no_such_command : goal.returns-clause-no_such_command
 unfolding verdict clap_on_literals
 returns-clause-no_such_command c = refl
 
+pub returns-clause-no_such_replica : goal.returns-clause-no_such_replica
+unfolding verdict clap_on_literals
+returns-clause-no_such_replica c = refl
+
 pub returns-clause-two_commands : goal.returns-clause-two_commands
 unfolding verdict clap_on_literals
 returns-clause-two_commands c = refl
@@ -46,3 +50,11 @@ returns-clause-unknown_option c = refl
 pub returns-clause-unknown_report : goal.returns-clause-unknown_report
 unfolding verdict clap_on_literals
 returns-clause-unknown_report c = refl
+
+pub returns-clause-flag_twice : goal.returns-clause-flag_twice
+unfolding verdict clap_on_literals
+returns-clause-flag_twice c = refl
+
+pub returns-clause-flag_with_a_value : goal.returns-clause-flag_with_a_value
+unfolding verdict clap_on_literals
+returns-clause-flag_with_a_value c = refl

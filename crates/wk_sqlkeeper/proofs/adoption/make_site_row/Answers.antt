@@ -1,16 +1,12 @@
-use Rattle.std.proofs.Common.{Ok, [], arith}
 use Rattle.sqlite.specs.Held.{state}
-use Rattle.sqlite.specs.State.{ExecutesInside}
-use Rattle.wk_sqlkeeper.specs.Making.{version_made}
-use Rattle.wk_sqlkeeper.proofs.Makings.{holds_none}
+use Rattle.wk_sqlkeeper.proofs.Makings.{ran_inside, ran_kept, ran_none}
 use Rattle.wk_sqlkeeper.proofs.adoption.make_site_row.Goals as goal
 
 pub returns-clause-made : goal.returns-clause-made
-returns-clause-made g c clean was =
-    let old = state g.S.Store c.args.transaction.now.conn.now in
-    let new = state g.S.Store c.execute.new.self.conn.now in
-    let ran : ExecutesInside 0 version_made [] old new (Ok c.in_ok-execute.field-0) = rw c.in_ok-execute.was at (c.execute.ensures.runs clean was.inside) in
-    holds_none old new c.in_ok-execute.field-0 ran was
+returns-clause-made g c clean = ran_none (state g.S.Store c.args.transaction.now.conn.now) (state g.S.Store c.run.new.transaction.conn.now) c.run.result (c.run.ensures.ran clean)
 
-pub returns-clause-clean : goal.returns-clause-clean
-returns-clause-clean g c clean = omega (arith, c.execute.ensures.survives.clean, clean)
+pub returns-clause-inside : goal.returns-clause-inside
+returns-clause-inside g c clean = ran_inside _ _ _ c.run.result (c.run.ensures.ran clean)
+
+pub returns-clause-kept : goal.returns-clause-kept
+returns-clause-kept g c clean inside = ran_kept _ _ _ c.run.result (c.run.ensures.ran clean inside)

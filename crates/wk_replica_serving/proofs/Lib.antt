@@ -1,0 +1,4 @@
+pub mod FeedLaws
+pub mod LineLaws
+pub mod Lists
+pub mod SharedLaws

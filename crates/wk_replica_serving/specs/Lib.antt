@@ -1,0 +1,4 @@
+pub mod Feeds
+pub mod Reads
+pub mod Served
+pub mod Taken
