@@ -85,7 +85,7 @@ class Stack:
         if name in REPLICAS:
             return [f"{SCRIPTS}/follow", self.address(name), *source]
         return {
-            "primary": [f"{SCRIPTS}/primary", feeds, self.address(name), self.store],
+            "primary": [f"{SCRIPTS}/primary", feeds, self.address("primary"), self.store],
             "nginx": [shutil.which("nginx", path="/usr/sbin:/usr/bin"), "-e", "stderr", "-p", f"{self.folder}/nginx", "-c", f"{self.folder}/nginx.conf"],
             "redis": ["redis-server", "--port", str(self.port["redis"]), "--dir", f"{self.folder}/redis", "--appendonly", "yes", "--save", ""],
             "to_redis": [f"{SCRIPTS}/to_redis", feeds, "--redis", redis],
@@ -121,14 +121,26 @@ class Stack:
         os.kill(pid, number)
         return pid
 
-    def kill(self, name):
-        """Ends a part by SIGKILL, and begins it again as a supervisor does; `follow` is one of a replica itself."""
+    def end(self, name):
+        """Ends a part by SIGKILL. A replica is begun again by `follow`."""
         pid = self.signal(name, signal.SIGKILL)
         if name in REPLICAS:
             wait_for(lambda: None if os.path.exists(f"/proc/{pid}") else pid, 60, f"{name} isn't ended")
         else:
             self.running[name].wait()
+
+    def kill(self, name):
+        """Ends a part by SIGKILL, and begins it again as a supervisor does."""
+        self.end(name)
+        if name not in REPLICAS:
             self.begin(name)
+
+    def empty(self, name):
+        """Ends a part by SIGKILL, takes all that it had written, and begins it again."""
+        self.end(name)
+        shutil.rmtree(f"{self.folder}/{name}")
+        os.mkdir(f"{self.folder}/{name}")
+        self.begin(name)
 
     def settle(self, seconds=600):
         """Waits until the primary answers, and each replica has taken what it had then."""
@@ -173,9 +185,14 @@ def send(link, query, body=None):
     return reply.status, reply.read()
 
 
+def linked(port, seconds=60):
+    """A connection to a wiki, or to nginx."""
+    return http.client.HTTPConnection("127.0.0.1", port, timeout=seconds)
+
+
 def asked(port, query, body=None, seconds=30):
     """The same over a connection of its own."""
-    link = http.client.HTTPConnection("127.0.0.1", port, timeout=seconds)
+    link = linked(port, seconds)
     try:
         return send(link, query, body)
     finally:
@@ -200,14 +217,15 @@ Noted = collections.namedtuple("Noted", "began ended how what point revision")
 
 
 class Client(threading.Thread):
-    """Asks one thing after the other over a kept connection, until it is told to stop, and notes what came of each."""
+    """Asks one thing after the other over a kept connection, so many seconds behind the reply to the last one, until it is told to
+    stop, and notes what came of each."""
 
     # The codes of errors that are what was asked for.
     FINE = ()
 
-    def __init__(self, port, number):
+    def __init__(self, port, number, pause=0):
         super().__init__(daemon=True)
-        self.port, self.number, self.noted, self.stopped, self.count = port, number, [], False, 0
+        self.port, self.number, self.pause, self.noted, self.stopped, self.count = port, number, pause, [], False, 0
 
     def next(self):
         """What is asked next: a query, a body, and what it is about."""
@@ -227,15 +245,14 @@ class Client(threading.Thread):
         return "well" if code is None or code in self.FINE else code, reply.get("point"), reply.get("edit", {}).get("newrevid")
 
     def run(self):
-        link = http.client.HTTPConnection("127.0.0.1", self.port, timeout=60)
+        link = linked(self.port)
         while not self.stopped:
             self.count += 1
             query, body, what = self.next()
             began = time.monotonic()
             how, point, revision = self.came(link, query, body)
             self.noted.append(Noted(began, time.monotonic(), how, what, point, revision))
-            if how != "well":
-                time.sleep(0.02)
+            time.sleep(self.pause if how == "well" else 0.02)
         link.close()
 
     def end(self):
@@ -280,7 +297,7 @@ def queries(titles):
     """What is asked of each of these pages, and of the wiki."""
     for title in map(urllib.parse.quote_plus, titles):
         yield f"action=parse&page={title}"
-        yield f"action=query&prop=revisions&titles={title}&rvprop=content&rvlimit=500"
+        yield f"action=query&prop=revisions&titles={title}&rvprop=content"
         yield f"action=query&list=backlinks&bltitle={title}&bllimit=500"
         yield f"action=query&list=embeddedin&eititle={title}&eilimit=500"
     for number in range(5):
@@ -295,7 +312,7 @@ NEXT = {"prop=revisions": "rvcontinue", "list=backlinks": "blcontinue", "list=em
 def unlike(stack, titles, point):
     """How many replies of these pages were compared, of three wikis that are at this point, and the queries whose replies differ."""
     count, wrong = 0, []
-    links = [http.client.HTTPConnection("127.0.0.1", stack.port[name], timeout=60) for name in WIKIS]
+    links = [linked(stack.port[name]) for name in WIKIS]
     for query in queries(titles):
         more = ""
         while more is not None:
@@ -310,12 +327,11 @@ def unlike(stack, titles, point):
     return count, wrong
 
 
-def history(port, title):
-    """The texts of a page, by the numbers of its revisions."""
+def history(link, title):
+    """The texts of a page, by the numbers of its revisions, each of which comes in a reply of its own."""
     found, more = {}, ""
     while True:
-        query = f"action=query&prop=revisions&titles={urllib.parse.quote_plus(title)}&rvprop=content&rvlimit=500{more}"
-        reply = json.loads(asked(port, query)[1])
+        reply = json.loads(send(link, f"action=query&prop=revisions&titles={urllib.parse.quote_plus(title)}&rvprop=content{more}")[1])
         found |= {it["revid"]: it.get("content") for it in reply.get("query", {}).get("revisions", ())}
         if "continue" not in reply:
             return found
