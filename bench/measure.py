@@ -171,12 +171,12 @@ class Running:
 class Server(Running):
     """`wiki serve` with so many workers, at a port of its own."""
 
-    def __init__(self, workers, *words, counts=None, from_start=False):
+    def __init__(self, workers, *words, counts=None, from_start=False, settings=None):
         with socket.socket() as s:
             s.bind(("127.0.0.1", 0))
             self.port = s.getsockname()[1]
         words = ("serve", "--listen", f"127.0.0.1:{self.port}", "--workers", workers, *words)
-        super().__init__("wiki", *words, counts=counts, from_start=from_start)
+        super().__init__("wiki", *words, counts=counts, from_start=from_start, settings=settings)
         self.process.stdout.readline()
 
     def connected(self):
