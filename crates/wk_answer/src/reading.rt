@@ -45,7 +45,7 @@ pub fn list_answer(
     ensures { (most : MostHeld) (moment : ℕ)
         → IfOk result (λ v. view v ≡ (answer_to_ask most live.now.state point moment (list_of asked.now)).reply.value) }
 {
-    let (revs, index) = (live.revs(), live.index());
+    let (index, revs) = (live.index(), live.revs());
     match *asked {
         ListAsked::Backlinks(listing) => backlinks(alloc, revs, index, listing, point),
         ListAsked::Embedded(listing) => embedded(alloc, revs, index, listing, point),

@@ -45,7 +45,7 @@ fn serve_links<D: Door, E: Entry, W, S: Crew<R, W>, R: Wait>(
     }
 }
 
-/// Each worker serves links, on a thread of its own, until no more are taken. It waits.
+/// Each worker serves links, on a thread of its own, until no more are taken or the crew goes on no more. It waits.
 pub fn serve_all<
     D: Door + Send,
     E: Entry + Send + Sync,
@@ -67,8 +67,8 @@ where
     );
 }
 
-/// Serves in rounds, each of which ends when every worker has seen that no more links are taken, until that is so of the door; the
-/// crew goes on as long as there are links. It waits.
+/// Serves in rounds, each of which ends when every worker has seen that no more links are taken, until that is so of the door. It
+/// waits. With a crew that goes on no more while the door has links it doesn't end, since it begins round behind round.
 pub fn serve_rounds<
     'a,
     D: Door + Send,

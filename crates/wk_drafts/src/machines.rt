@@ -21,6 +21,8 @@ impl Drafting for Machine {
 
     ghost reads_of = { λ made. made.reads };
 
+    // A machine is large, and is moved once less where this is no call.
+    #[inline(always)]
     fn run(self, seen: &Seen, kept: &mut Trees) -> Result<Run<Machine, Draft>, Memory> {
         match Machine::run(self, seen, kept) {
             Ok(Ran::Done(draft)) => Ok(Run::Done(draft)),

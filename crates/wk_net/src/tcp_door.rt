@@ -4,6 +4,7 @@ ghost use Rattle.wk_base.specs.Faults.{one_more};
 ghost use Rattle.wk_net.specs.Doors.{door_faults_of};
 
 use crate::TcpLink;
+use crate::tcp_link::WAITS;
 use std::io::{ErrorKind, Read, Write};
 use std::net::{Net, OpenListener, OpenStream, TcpListener};
 use std::rt::Clock;
@@ -12,8 +13,11 @@ use std::{io, thread};
 use wk_base::Failed;
 use wk_door::Door;
 
-/// How long a read or a write of a connection waits for the peer before it fails, in seconds.
-const PATIENCE: u64 = 60;
+/// How long a read of a connection waits for a peer that may be done, in seconds: behind a reply.
+const PAUSE: u64 = 5;
+
+/// How long a read waits for a peer that is expected to send, and a write for one that is to take, in seconds.
+const PATIENCE: u64 = PAUSE * WAITS as u64;
 
 /// How many times an accept waits for descriptors to come free before it fails.
 const MOST_WAITS: u32 = 700;
@@ -82,12 +86,11 @@ fn trouble_of(error: &io::Error) -> Trouble {
     }
 }
 
-/// Sets what each connection has: no small reply is held back, and reads and writes wait for so long at most.
+/// Sets what each connection has: no small reply is held back, and each wait of a read, and a write, lasts for so long at most.
 pub(crate) fn prepare<S: OpenStream>(stream: &S) -> io::Result<()> {
-    let patience = Some(Duration::from_secs(PATIENCE));
     stream.set_nodelay(true)?;
-    stream.set_read_timeout(patience)?;
-    stream.set_write_timeout(patience)
+    stream.set_read_timeout(Some(Duration::from_secs(PAUSE)))?;
+    stream.set_write_timeout(Some(Duration::from_secs(PATIENCE)))
 }
 
 /// Accepts until a connection comes that isn't gone. Where descriptors are wanting it waits a little, so many times at most.

@@ -4,9 +4,14 @@ ghost use Rattle.std.specs.Io.KnownBytes.{ReadConsumes, WriteAppends};
 ghost use Rattle.wk_base.specs.Faults.{Rose, one_more};
 ghost use Rattle.wk_net.specs.Links.{read_faults_of, write_faults_of};
 
-use std::io::{Read, Write};
+use std::io;
+use std::io::{ErrorKind, Read, Write};
 use wk_base::{Failed, Sink, Source};
 use wk_link::Link;
+
+/// How many waits of a read, each as long as the stream lets a read wait, make up the patience with a peer that is expected to
+/// send: before the first reply, and within a message.
+pub(crate) const WAITS: u32 = 12;
 
 /// A connection over a stream of std. It tells nothing of its bytes.
 #[derive(Drop)]
@@ -14,6 +19,8 @@ pub struct TcpLink<S> {
     stream: S,
     read_faults: u64,
     write_faults: u64,
+    // Whether what it did last was to send: then the peer has had its reply, and may be done.
+    has_sent: bool,
 }
 
 impl<S> TcpLink<S> {
@@ -26,6 +33,7 @@ impl<S> TcpLink<S> {
             stream,
             read_faults: 0,
             write_faults: 0,
+            has_sent: false,
         }
     }
 
@@ -49,7 +57,8 @@ impl<S: Read + Write + Drop> Source for TcpLink<S> {
 
     ghost faults = { read_faults_of };
 
-    /// Reads once. Each error of the stream is a fault, one for a read that waited too long too.
+    /// Reads once, and again where the stream waited in vain, 12 waits in all; where what the connection did last was to send,
+    /// one wait is all. Each error of the stream is a fault, one for a last wait in vain too.
     fn read(&mut self, room: &mut [u8]) -> Result<usize, Failed>
         requires { 0 < length room.old }
 
@@ -62,8 +71,12 @@ impl<S: Read + Write + Drop> Source for TcpLink<S> {
         ensures counted { OnErr result (read_faults_of self.new ≡ one_more (read_faults_of self.old)) }
         ensures writes { write_faults_of self.new ≡ write_faults_of self.old }
     {
-        match self.stream.read(room) {
-            Ok(n) => Ok(n),
+        let waits = if self.has_sent { 1 } else { WAITS };
+        match read_within(&mut self.stream, room, waits) {
+            Ok(n) => {
+                self.has_sent = false;
+                Ok(n)
+            }
             Err(_) => {
                 self.read_faults = self.read_faults.saturating_add(1);
                 Err(Failed)
@@ -96,9 +109,31 @@ impl<S: Read + Write + Drop> Sink for TcpLink<S> {
                 self.write_faults = self.write_faults.saturating_add(1);
                 Err(Failed)
             }
-            Ok(n) => Ok(n),
+            Ok(n) => {
+                self.has_sent = true;
+                Ok(n)
+            }
         }
     }
+}
+
+/// Whether a read ended because the peer sent nothing as long as the stream lets it wait.
+fn has_waited(error: &io::Error) -> bool {
+    matches!(error.kind(), ErrorKind::WouldBlock | ErrorKind::TimedOut)
+}
+
+/// Reads once, and again behind a wait in vain, so many waits in all.
+fn read_within<S: Read>(stream: &mut S, room: &mut [u8], waits: u32) -> io::Result<usize>
+    ensures count { IfOk result (λ n. n ≤ length room.old) }
+    ensures room { length room.new ≡ length room.old }
+{
+    for _ in 1..waits {
+        match stream.read(room) {
+            Err(error) if has_waited(&error) => {}
+            done => return done,
+        }
+    }
+    stream.read(room)
 }
 
 impl<S: Read + Write + Drop> Link for TcpLink<S> {

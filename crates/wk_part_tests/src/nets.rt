@@ -1,4 +1,4 @@
-//! A door over a network whose accepts fail.
+//! A door over a network whose accepts fail, and a connection whose peer says nothing for a while.
 
 use std::io;
 use std::io::{ErrorKind, Read, Write};
@@ -7,8 +7,8 @@ use std::os::fd::{AsRawFd, RawFd};
 use std::rt::Clock;
 use std::sync::atomic::{AtomicU64, Ordering};
 use std::time::Duration;
-use wk_base::Failed;
-use wk_net::{Door, TcpDoor};
+use wk_base::{Failed, Sink, Source};
+use wk_net::{Door, TcpDoor, TcpLink};
 
 /// The numbers with which accepts fail, one after the other, before one succeeds; how many accepts were tried, and how often
 /// it was waited for 100 ms.
@@ -60,7 +60,7 @@ impl OpenStream for Quiet {
     }
 
     fn set_read_timeout(&self, dur: Option<Duration>) -> io::Result<()> {
-        ok_where(dur == Some(Duration::from_secs(60)))
+        ok_where(dur == Some(Duration::from_secs(5)))
     }
 
     fn set_write_timeout(&self, dur: Option<Duration>) -> io::Result<()> {
@@ -167,4 +167,53 @@ fn some_errors_of_an_accept_are_passed_over(rt: HostRuntime) {
     ] {
         assert_eq!(rt; accepted(numbers), wanted);
     }
+}
+
+/// A stream that takes a byte of each write, and gives one at each read behind so many that waited in vain.
+#[derive(Drop)]
+struct Slow<'a> {
+    waits: &'a AtomicU64,
+}
+
+impl Read for Slow<'_> {
+    fn read(&mut self, buf: &mut [u8]) -> io::Result<usize> {
+        if self.waits.load(Ordering::SeqCst) > 0 {
+            self.waits.fetch_sub(1, Ordering::SeqCst);
+            return Err(ErrorKind::WouldBlock.into());
+        }
+        Ok(buf.len().min(1))
+    }
+}
+
+impl Write for Slow<'_> {
+    fn write(&mut self, buf: &[u8]) -> io::Result<usize> {
+        Ok(buf.len().min(1))
+    }
+
+    fn flush(&mut self) -> io::Result<()> {
+        Ok(())
+    }
+}
+
+/// Whether a read gives a byte that comes behind so many waits.
+fn hears(link: &mut TcpLink<Slow<'_>>, waits: &AtomicU64, count: u64) -> bool {
+    waits.store(count, Ordering::SeqCst);
+    let mut room = [0; 1];
+    link.read(&mut room).is_ok()
+}
+
+#[test]
+fn a_silent_peer_is_waited_for_less_behind_a_reply(rt: HostRuntime) {
+    let waits = AtomicU64::new(0);
+    let mut link = TcpLink::new(Slow { waits: &waits });
+    // Before the first reply.
+    assert!(rt; hears(&mut link, &waits, 11));
+    assert!(rt; !hears(&mut link, &waits, 12));
+    // Behind a reply.
+    assert!(rt; link.write(b"x").is_ok());
+    assert!(rt; !hears(&mut link, &waits, 1));
+    assert!(rt; hears(&mut link, &waits, 0));
+    // Within the next message.
+    assert!(rt; hears(&mut link, &waits, 11));
+    assert!(rt; !hears(&mut link, &waits, 12));
 }
