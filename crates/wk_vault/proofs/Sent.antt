@@ -2,6 +2,7 @@
 use denote.Enum.Declared.{shape}
 use denote.RattleType.{RattleType}
 use denote.Param.Send.{IsSend, sendable, enum_send, recorded_send}
+use Rattle.std.proofs.Crossing.{Box-send}
 use Rattle.sqlite.below.sqlite_std_file.specs.contracts.host.Host as Host
 use Rattle.sqlite.below.sqlite_std_file.specs.contracts.host.HostCalls.TheImpl as calls
 use Rattle.sqlite.specs.contracts.Unknown as Unknown
@@ -26,7 +27,7 @@ file_send : IsSend file
 file_send = modelled.the_send Host.the_row Unknown.the_row _ _ host
 
 field : IsSend Stored.the_field.row
-field = enum_send (shape Stored.the_type) ((memory.the_send, tt), ((database.the_field_send _ (store.ghosts file _ store.no_dict) (files.the_send file _ file_send), (voice.the_field_send, tt)), tt))
+field = enum_send (shape Stored.the_type) ((memory.the_send, tt), ((Box-send _ (database.the_send _ (store.ghosts file _ store.no_dict) (files.the_send file _ file_send)), (voice.the_field_send, tt)), tt))
 
 pub stored_send : IsSend Stored.the_row
 stored_send = recorded_send Stored.the_field.row _ _ Stored.the_type.to_one field

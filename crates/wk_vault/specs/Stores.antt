@@ -22,7 +22,7 @@ stored_told (File keeper voice) = None
 -- how many of its calls have failed
 abbrev pub stored_faults : Stored → ℕ
 stored_faults (Memory tables) = 0
-stored_faults (File keeper voice) = sql_faults keeper
+stored_faults (File keeper voice) = sql_faults keeper.value
 
 -- whether it tells that no call of it can fail
 abbrev pub stored_whole : Stored → Bool
@@ -32,12 +32,12 @@ stored_whole (File keeper voice) = false
 -- how many calls were made, where it tells that
 abbrev pub stored_calls : Stored → Option ℕ
 stored_calls (Memory tables) = None
-stored_calls (File keeper voice) = sql_calls keeper
+stored_calls (File keeper voice) = sql_calls keeper.value
 
 -- why the last call was refused, and none where it wasn't or the store is in memory
 abbrev pub stored_cause : Stored → Option SqlCause
 stored_cause (Memory tables) = None
-stored_cause (File keeper voice) = sql_cause keeper
+stored_cause (File keeper voice) = sql_cause keeper.value
 
 -- why changes can't be stored, as it was told since the last one that was stored
 abbrev pub stored_news : Stored → Option SqlCause
@@ -53,7 +53,7 @@ IsEnded {D} {g} connection files = AreClean g files.log files.db → IsCopied co
 abbrev pub IsClosed : Stored → Closed → Type 0
 IsClosed (Memory tables) left = ⊤
 IsClosed (File keeper voice) closed.Memory = ⊥
-IsClosed (File keeper voice) (closed.Files files) = IsEnded (connection_of keeper) files
+IsClosed (File keeper voice) (closed.Files files) = IsEnded (connection_of keeper.value) files
 
 -- what is left of one that may not have been opened
 abbrev pub IsClosedIfOpened : Option Stored → Option Closed → Type 0

@@ -39,15 +39,25 @@ fn connected(
     Connection::open(rt, name).map_err(refusal_of)
 }
 
+/// The keeper in memory of its own.
+fn boxed<S: Alter + Drop>(alloc: Global, keeper: SqlKeeper<S>) -> Result<Box<SqlKeeper<S>>, Refusal>
+    ensures { IfOk result (λ kept. kept.value ≡ keeper) }
+{
+    match Box::new(alloc, keeper) {
+        Ok(kept) => Ok(kept),
+        Err(_) => Err(Refusal::Memory),
+    }
+}
+
 /// The keeper of the database. A connection that is refused is let go, and its log isn't copied.
 fn adopted<S: Alter + Drop>(
     alloc: Global,
     connection: Connection<S>,
-) -> Result<SqlKeeper<S>, Refusal>
-    ensures { IfOk result (λ keeper. sql_faults keeper ≡ 0) }
+) -> Result<Box<SqlKeeper<S>>, Refusal>
+    ensures { IfOk result (λ keeper. sql_faults keeper.value ≡ 0) }
 {
     match SqlKeeper::adopt_or_cause(alloc, connection) {
-        Ok(keeper) => Ok(keeper),
+        Ok(keeper) => boxed(alloc, keeper),
         Err((_, cause)) => Err(refusal_of_cause(cause)),
     }
 }
@@ -58,8 +68,8 @@ pub fn opened(
     rt: &HostRuntime,
     name: &str,
     makes: bool,
-) -> Result<SqlKeeper<FileStore<File>>, Refusal>
-    ensures { IfOk result (λ keeper. sql_faults keeper ≡ 0) }
+) -> Result<Box<SqlKeeper<FileStore<File>>>, Refusal>
+    ensures { IfOk result (λ keeper. sql_faults keeper.value ≡ 0) }
 {
     let found = found_at(rt, name).map_err(refusal_of_look)?;
     let new = judged(found.file, found.log, makes).map_err(Refusal::Because)?;

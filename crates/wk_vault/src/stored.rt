@@ -13,10 +13,11 @@ use wk_sqlkeeper::{SqlCause, SqlKeeper, cause_of};
 use wk_tables::{Change, Tables};
 
 /// A store of the program: in memory, where it tells its tables and is whole, or in a file, where it tells none and isn't.
-/// One in a file says on the standard error why it can't be read, why changes can't be stored, and when they are again.
+/// One in a file says on the standard error why it can't be read, why changes can't be stored, and when they are again. Its
+/// keeper is in memory of its own, since a wiki is moved at each turn and a connection is the larger part of it.
 pub enum Stored {
     Memory(MemKeeper),
-    File(SqlKeeper<FileStore<File>>, Voice),
+    File(Box<SqlKeeper<FileStore<File>>>, Voice),
 }
 
 // It is written out, so that a caller does not prove again how a database in a file is dropped.
@@ -116,7 +117,7 @@ impl Stored {
     {
         match self {
             Stored::Memory(_) => Ok(Closed::Memory),
-            Stored::File(keeper, _) => match ended(keeper.release()) {
+            Stored::File(keeper, _) => match ended(Box::into_inner(keeper).release()) {
                 Ok(files) => Ok(Closed::Files(files)),
                 Err(cause) => Err(cause),
             },
