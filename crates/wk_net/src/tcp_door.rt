@@ -13,16 +13,16 @@ use std::{io, thread};
 use wk_base::Failed;
 use wk_door::Door;
 
-/// How long a read of a connection waits for a peer that may be done, in seconds: behind a reply.
-const PAUSE: u64 = 5;
+/// How long a read of a connection waits for a peer that may be done, in seconds: behind a reply (Apache's KeepAliveTimeout).
+const KEEP_ALIVE_TIMEOUT: u64 = 5;
 
-/// How long a read waits for a peer that is expected to send, and a write for one that is to take, in seconds.
-const PATIENCE: u64 = PAUSE * WAITS as u64;
+/// How long a read waits for a peer that is expected to send, and a write for one that is to take, in seconds (Apache's TimeOut).
+const TIMEOUT: u64 = KEEP_ALIVE_TIMEOUT * WAITS as u64;
 
 /// How many times an accept waits for descriptors to come free before it fails.
 const MOST_WAITS: u32 = 700;
 
-/// How long it waits each time, in milliseconds. All waits together are longer than the patience of a connection.
+/// How long it waits each time, in milliseconds. All waits together are longer than the timeout of a connection.
 const WAIT: u64 = 100;
 
 /// What connections over TCP come in by, over a network. It tells nothing.
@@ -89,8 +89,8 @@ fn trouble_of(error: &io::Error) -> Trouble {
 /// Sets what each connection has: no small reply is held back, and each wait of a read, and a write, lasts for so long at most.
 pub(crate) fn prepare<S: OpenStream>(stream: &S) -> io::Result<()> {
     stream.set_nodelay(true)?;
-    stream.set_read_timeout(Some(Duration::from_secs(PAUSE)))?;
-    stream.set_write_timeout(Some(Duration::from_secs(PATIENCE)))
+    stream.set_read_timeout(Some(Duration::from_secs(KEEP_ALIVE_TIMEOUT)))?;
+    stream.set_write_timeout(Some(Duration::from_secs(TIMEOUT)))
 }
 
 /// Accepts until a connection comes that isn't gone. Where descriptors are wanting it waits a little, so many times at most.

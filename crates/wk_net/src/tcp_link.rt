@@ -9,8 +9,8 @@ use std::io::{ErrorKind, Read, Write};
 use wk_base::{Failed, Sink, Source};
 use wk_link::Link;
 
-/// How many waits of a read, each as long as the stream lets a read wait, make up the patience with a peer that is expected to
-/// send: before the first reply, and within a message.
+/// How many waits of a read, each as long as the stream lets a read wait, make up the timeout of a peer that is expected to send:
+/// before the first reply, and within a message.
 pub(crate) const WAITS: u32 = 12;
 
 /// A connection over a stream of std. It tells nothing of its bytes.
@@ -58,7 +58,7 @@ impl<S: Read + Write + Drop> Source for TcpLink<S> {
     ghost faults = { read_faults_of };
 
     /// Reads once, and again where the stream waited in vain, 12 waits in all; where what the connection did last was to send,
-    /// one wait is all. Each error of the stream is a fault, one for a last wait in vain too.
+    /// one wait is all. A last wait in vain is a fault, and so is each other error of the stream.
     fn read(&mut self, room: &mut [u8]) -> Result<usize, Failed>
         requires { 0 < length room.old }
 
