@@ -1,5 +1,5 @@
 -- What a reader keeps, and what is answered of it.
-use Rattle.std.proofs.Common.{◌≡◌, ◌⊎◌, ℕ, ◌+◌, ◌≤◌, ◌<◌, true, List, [], ◌∷◌, length, Contains, Option, Some, None, inl, inr, refl, sym, ap, ◌∙◌, subst, arith}
+use Rattle.std.proofs.Common.{◌≡◌, ◌⊎◌, ℕ, ◌+◌, ◌≤◌, ◌<◌, Bool, true, false, List, [], ◌∷◌, length, Contains, Option, Some, None, inl, inr, refl, sym, ap, ◌∙◌, subst, arith}
 use Rattle.std.specs.Prelude.{All, Result, Ok, Err, OnErr, OnOk}
 use Rattle.std.specs.Option.{option_map_or}
 use mathlib.Core.List.{IsPrefix}
@@ -10,6 +10,8 @@ use Rattle.wk_wiki_rules.specs.Events.{Event}
 use Rattle.wk_wiki_rules.specs.Passes.{IsKeptRead, IsReadAt, max_uses}
 use Rattle.wk_wiki_rules.specs.Staleness.{first_stale}
 use Rattle.wk_wiki_rules.specs.Starts.{Start}
+use Rattle.wk_life_laws.specs.Runs.{IsRun}
+use Rattle.wk_life_laws.proofs.RunFacts.{run_present}
 use Rattle.wk_core.specs.declared.outcomes.PageRead.{PageRead}
 use Rattle.wk_core.specs.declared.outcomes.ReadRefusal.{ReadRefusal}
 use Rattle.wk_expand.specs.Drafts.{DraftShown}
@@ -20,11 +22,11 @@ use Rattle.wk_cache.specs.Entries.{CacheShown, entry_kept, entry_of, is_of, kept
 use Rattle.wk_cache.specs.declared.kept.Kept.{Kept}
 use Rattle.wk_cache.proofs.Lists.{found-among, found-passes, front-among, front-found, marked-among, put-among}
 use Rattle.wk_read_laws.proofs.PageLaws.{kept-current, kept-longer}
-use Rattle.wk_shared.specs.Looks.{HasLooked, HasRead, IsPresentRead, reading_of}
+use Rattle.wk_shared.specs.Looks.{HasLooked, HasRead, IsPresentRead, is_idle, reading_of}
 use Rattle.wk_shared.proofs.LookLaws.{read-both, read-none}
 use Rattle.wk_shared.specs.Sought.{kept_read}
 use Rattle.wk_readers.specs.Worked.{HasWorked}
-use Rattle.wk_readers.specs.Readers.{AreRight, ReaderSeen}
+use Rattle.wk_readers.specs.Readers.{AreRight, IsIdleAt, KnowsIdle, ReaderSeen}
 use Rattle.wk_readers.specs.declared.reader.Checked.TheVariants.{Current}
 use Rattle.wk_readers.specs.Reads.{IsAnswered, IsCheck, IsDraftedAnew, IsLate, IsPageRead, IsServed, KeepsCount, KeepsOrAdds, OnlyKeeps, answer_of_kept, fresh_entry}
 
@@ -33,6 +35,18 @@ Pass = Story Start Event
 
 same-start : (pass : Pass) (a b : Start) → pass.start ≡ Some a → pass.start ≡ Some b → a ≡ b
 same-start pass a b one two = let e : Some a ≡ Some b = sym one ∙ two in cc
+
+-- ---- whether a job is to be done
+
+knows-idle : (shared : Begun Start) (new : Pass) (state : State) (idle : Bool) → IsOf shared new → IsRun shared.start new.seen state → idle ≡ is_idle state → KnowsIdle new idle
+knows-idle shared new state true of run is = λ start begun.
+    subst (λ (s : Start). IsIdleAt s new) (same-start new shared.start start of.1 begun)
+    (record { state = state; stands = run_present shared.start new.seen state run; idle = sym is })
+knows-idle shared new state false of run is = tt
+
+-- a look has told
+pub knows-looked : (shared : Begun Start) (pass new : Pass) (state : State) (idle : Bool) → HasLooked shared pass new state → idle ≡ is_idle state → KnowsIdle new idle
+knows-looked shared pass new state idle looked is = knows-idle shared new state idle looked.read.turn looked.run is
 
 -- ---- each entry is right
 
@@ -251,6 +265,14 @@ right-none pass entries none = subst (λ (l : List Kept). AreRight pass l) (sym 
 module _ (pass : Pass) (cache : CacheShown) (now : ReaderSeen) (view : shown pass cache ≡ now) where
   pub turn-inside : (shared : Begun Start) → IsOf shared now.pass → IsOf shared pass
   turn-inside shared of = subst (λ (r : ReaderSeen). IsOf shared r.pass) (sym view) of
+
+  -- the wiki tells as it is given back
+  pub knows-left : (shared : Begun Start) → IsOf shared now.pass → (new : Pass) (start : Start) (journal : List Event) (own : List ℕ) (state : State) (idle : Bool) → new ≡ record pass { seen = journal; own = own; held = None }
+      → start ≡ shared.start → IsRun start journal state → idle ≡ is_idle state → KnowsIdle new idle
+  knows-left shared of new start journal own state idle back same run is =
+      let inside = turn-inside shared of in
+      knows-idle shared new state idle (ap (λ (p : Pass). p.turn) back ∙ inside.0, ap (λ (p : Pass). p.start) back ∙ inside.1)
+      (subst (λ (z : Start × List Event). IsRun z.0 z.1 state) (λ i. (same i, sym (ap (λ (p : Pass). p.seen) back) i)) run) is
 
   pub free-inside : now.pass.held ≡ None → pass.held ≡ None
   free-inside free = ap (λ (r : ReaderSeen). r.pass.held) view ∙ free

@@ -1,5 +1,5 @@
 //! A reader: a pass, with what it has read last.
-ghost use Rattle.std.specs.Prelude.{◌≡◌, ℕ, ◌+◌, ◌<◌, ◌≤◌, ◌++◌, [], IfErr, IfOk, OnOk, length, None, Some};
+ghost use Rattle.std.specs.Prelude.{◌≡◌, ℕ, ◌+◌, ◌<◌, ◌≤◌, ◌++◌, [], IfErr, IfOk, IsTrue, OnOk, length, None, Some};
 ghost use mathlib.Core.List.{IsPrefix};
 ghost use Rattle.wk_wiki_rules.specs.Entries.{closes};
 ghost use Rattle.wk_wiki_rules.specs.Passes.{IsReadAt, max_uses};
@@ -12,9 +12,10 @@ ghost use Rattle.wk_shared.specs.Calls.{IsFree, seen_by};
 ghost use Rattle.wk_cache.specs.Entries.{entry_of, marked};
 ghost use Rattle.wk_shared.specs.Looks.{HasRead, IsPresentRead, KeepsTickets, reading_of};
 ghost use Rattle.wk_shared.specs.Sought.{kept_read};
-ghost use Rattle.wk_readers.specs.Readers.{AreRight};
+ghost use Rattle.wk_readers.specs.Readers.{AreRight, IsIdleAt};
 ghost use Rattle.wk_readers.specs.Reads.{IsCheck, IsDraftedAnew, IsLate, KeepsOrAdds, answer_of_kept, fresh_entry};
 
+use crate::entries::is_fresh;
 use crate::{Sought, drafted, look, look_for, look_new};
 use std::alloc::Global;
 use std::marker::Model;
@@ -25,7 +26,7 @@ use wk_cache::{Cache, Kept};
 use wk_core::{Keeper, PageRead, ReadRefusal, Wiki};
 use wk_expand::{Root, Trees};
 use wk_memory::Memory;
-use wk_shared::{Held, Pass, Shared, Substituted, substituted_apart};
+use wk_shared::{Held, Pass, Shared, Substituted, is_idle, substituted_apart};
 use wk_title::Title;
 
 /// How many pages a reader keeps, and of how many texts the trees.
@@ -34,23 +35,28 @@ const MOST_KEPT: usize = 16;
 /// A pass, with the pages that it has read last (own). Contracts see the pass, and the pages that are kept.
 ///
 /// By its type what is kept of a page is what it expanded to at a point that the pass has seen, with its number there, and
-/// it was served at most 16 times since it was checked.
+/// it was served at most 16 times since it was checked; and where it was told that no job is to be done, that is so at the point
+/// that the pass has seen.
 #[derive(Drop)]
 pub struct Reader<K: Keeper> {
     pub(crate) alloc: Global,
     pub(crate) pass: Pass<Wiki<K>>,
     pub(crate) trees: Trees,
     pub(crate) cache: Cache,
+    /// Whether it has looked at the wiki since its session began.
+    pub(crate) looked: bool,
+    /// Whether its last look told that no job is to be done, which nobody was told yet.
+    pub(crate) idle: bool,
 }
 
 impl<K: Keeper> Model for Reader<K> {
-    ghost use Rattle.wk_readers.specs.Readers.{AreRight, ReaderSeen};
+    ghost use Rattle.wk_readers.specs.Readers.{IsReader, ReaderSeen};
 
     ghost Value = { ReaderSeen };
 
     ghost view = { λ r. record { pass = r.pass; most = r.cache.most; entries = r.cache.entries } };
 
-    ghost invariant = { λ r. AreRight r.pass r.cache.entries };
+    ghost invariant = { λ r. IsReader r.pass r.cache.entries r.idle };
 }
 
 /// What a look for what is current of a page comes to.
@@ -81,6 +87,8 @@ impl<K: Keeper> Reader<K> {
             pass,
             trees,
             cache,
+            looked: false,
+            idle: false,
         })
     }
 
@@ -100,8 +108,34 @@ impl<K: Keeper> Reader<K> {
             pass,
             trees: _,
             cache: _,
+            looked: _,
+            idle: _,
         } = self;
         pass
+    }
+
+    /// What it takes memory of.
+    pub fn allocator(&self) -> Global {
+        self.alloc
+    }
+
+    /// A session begins: what is kept of a page isn't served before the wiki was looked at. Takes no memory.
+    pub fn begin_session(&mut self)
+        ensures { self.new ≡ self.old }
+    {
+        self.looked = false;
+        self.idle = false;
+    }
+
+    /// Whether the last look told that no job is to be done at the point that the pass has seen. It says so once behind a look.
+    /// Takes no memory.
+    pub fn told_idle(&mut self) -> bool
+        ensures idle { IsTrue result → (start : Start) → self.old.pass.start ≡ Some start → IsIdleAt start self.old.pass }
+        ensures same { self.new ≡ self.old }
+    {
+        let idle = self.idle;
+        self.idle = false;
+        idle
     }
 
     /// What is kept is right at its point.
@@ -122,6 +156,7 @@ impl<K: Keeper> Reader<K> {
         ensures still_open { (p : ℕ) → IsOpen closes self.old.pass.seen self.old.pass.own p
             → IsOpen closes result.value.journal self.old.pass.own p }
     {
+        self.idle = false;
         shared.enter(rt, &mut self.pass)
     }
 
@@ -142,7 +177,21 @@ impl<K: Keeper> Reader<K> {
         ensures seen { IsPrefix self.old.pass.seen self.new.pass.seen }
         ensures own { AreOwn closes self.new.pass.seen self.new.pass.own }
     {
+        let idle = is_idle(&held.value);
+        held.value.facts();
         shared.leave(&mut self.pass, held);
+        self.looked = true;
+        self.idle = idle;
+    }
+
+    /// Whether an entry is served without a look at the wiki: it is fresh, and the reader has looked since its session began. Takes
+    /// no memory.
+    pub(crate) fn is_served(&self, kept: &Kept, least: u64) -> bool
+        ensures few { IsTrue result → kept.now.uses < max_uses }
+        ensures reached { IsTrue result → least ≤ kept.now.point }
+        ensures fresh { IsTrue result → length self.now.pass.seen ≤ kept.now.point }
+    {
+        self.looked && is_fresh(kept, least, self.pass.point())
     }
 
     /// Serves an entry as it is, once more.
@@ -173,6 +222,8 @@ impl<K: Keeper> Reader<K> {
         ensures late { IfErr result (IsLate least self.new.pass) }
         ensures kept { self.new.entries ≡ self.old.entries }
     {
+        self.looked = true;
+        self.idle = false;
         let point = look(shared, rt, &mut self.pass);
         if point < least {
             return Err(ReadRefusal::Future(point));
@@ -197,7 +248,10 @@ impl<K: Keeper> Reader<K> {
     {
         let made = kept.draft.draft();
         let _reads = made.reads();
-        let (sought, point) = look_for(shared, rt, &mut self.pass, title, made);
+        let (sought, looked) = look_for(shared, rt, &mut self.pass, title, made);
+        self.looked = true;
+        self.idle = looked.idle;
+        let point = looked.point;
         if point < least {
             return Checked::Late(point);
         }
@@ -227,7 +281,10 @@ impl<K: Keeper> Reader<K> {
         ensures pass { HasRead shared.now self.old.pass self.new.pass }
         ensures check { IsCheck shared.now title.now least self.old self.new result }
     {
-        let (found, point) = look_new(shared, rt, &mut self.pass, title);
+        let (found, looked) = look_new(shared, rt, &mut self.pass, title);
+        self.looked = true;
+        self.idle = looked.idle;
+        let point = looked.point;
         if point < least {
             return Checked::Late(point);
         }
@@ -288,6 +345,8 @@ impl<K: Keeper> Reader<K> {
         ensures kept { self.new.entries ≡ self.old.entries }
     {
         let alloc = self.alloc;
+        self.looked = true;
+        self.idle = false;
         drafted(
             shared,
             rt,
@@ -318,6 +377,8 @@ impl<K: Keeper> Reader<K> {
         ensures kept { self.new.entries ≡ self.old.entries }
     {
         let alloc = self.alloc;
+        self.looked = true;
+        self.idle = false;
         substituted_apart(shared, rt, alloc, &mut self.pass, text, gate)
     }
 

@@ -5,7 +5,7 @@ ghost use Rattle.wk_shared.specs.Calls.{IsFree};
 ghost use Rattle.wk_shared.specs.Looks.{HasRead};
 ghost use Rattle.wk_readers.specs.Reads.{IsAnswered, IsLate, IsPageRead, KeepsCount};
 
-use crate::entries::{found, is_fresh};
+use crate::entries::found;
 use crate::reader::{Checked, Reader};
 use std::sync::Wait;
 use wk_base::Gate;
@@ -50,7 +50,7 @@ fn read_kept<K: Keeper, R: Wait, G: Gate>(
     ensures { IsPageRead shared.now title.now least reader.old reader.new result }
 {
     reader.facts();
-    if is_fresh(&kept, least, reader.point()) {
+    if reader.is_served(&kept, least) {
         return Ok(reader.serve(title, kept));
     }
     match reader.check(shared, rt, title, least, kept) {
@@ -63,10 +63,10 @@ fn read_kept<K: Keeper, R: Wait, G: Gate>(
 /// What a page expands to at a point that is at least `least` and no older than what the reader has seen (MediaWiki's
 /// Help:Templates; MediaWiki keeps a page's output in its parser cache). It makes no entry.
 ///
-/// What the reader keeps of the page is served as it is where it is new enough and was served less than 16 times since it was
-/// checked. Else it is served where each of its reads is current, and else so is what the wiki keeps of the page. Else the
-/// page is drafted without the turn, and the gate is passed between two reads; after three drafts that weren't current it is
-/// drafted with the turn held. The reader keeps the answer, and so does the wiki.
+/// What the reader keeps of the page is served as it is where it is new enough, was served less than 16 times since it was
+/// checked, and the reader has looked since its session began. Else it is served where each of its reads is current, and else
+/// so is what the wiki keeps of the page. Else the page is drafted without the turn, and the gate is passed between two reads;
+/// after three drafts that weren't current it is drafted with the turn held. The reader keeps the answer, and so does the wiki.
 ///
 /// `Future` exactly where `least` is above the journal's length at its step, which it carries; or `Memory`. It waits.
 pub fn read_page<K: Keeper, R: Wait, G: Gate>(

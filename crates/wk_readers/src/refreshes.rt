@@ -24,5 +24,7 @@ pub fn refresh_one<K: Keeper, R: Wait, G: Gate>(
     ensures kept { reader.new.entries ≡ reader.old.entries }
 {
     let alloc = reader.alloc;
+    reader.looked = true;
+    reader.idle = false;
     refresh_with(shared, rt, alloc, &mut reader.pass, &mut reader.trees, gate)
 }

@@ -260,7 +260,7 @@ module _ (fails : Type 0) (old : PassSeen) (before : Outside) where
           session-no-more Bound end x tt (λ bound. (let many = x.holds.1 in omega (arith, many, counted-on next.total x.read x.counted))) (λ other. x.holds.0) is same
       stopped-at Memory end x (is, same) = session-no-more Memory end x tt (λ bound. absurd (let e : Memory ≡ Bound = bound in cc)) (λ other. absurd (other refl)) is same
 
--- ---- a session whose pass has looked first
+-- ---- a session behind its beginning
 
 pub looked-first : (fails : Type 0) (old begun new : PassSeen) (before after : Outside) (end : SessionEnd) (points : List ℕ) (jobs told : ℕ) (refreshes : List (ℕ × Refresh)) → told ≡ jobs → GoesOn old begun [] →
     IsSession fails begun new before after end points jobs refreshes → IsSession fails old new before after end points told refreshes

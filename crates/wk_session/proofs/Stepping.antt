@@ -1,11 +1,11 @@
 -- The step behind a reply, by what `refresh_one` tells of it.
-use Rattle.std.proofs.Common.{◌≡◌, ℕ, ◌+◌, ◌≤◌, List, [], ◌∷◌, ◌++◌, length, take, Option, Some, None, refl, sym, ap, ◌∙◌, subst, arith, append-nil, append_assoc, inl, inr}
-use Rattle.std.specs.Prelude.{Ok, Err, option_map}
+use Rattle.std.proofs.Common.{◌≡◌, ℕ, ◌+◌, ◌≤◌, true, false, List, [], ◌∷◌, ◌++◌, length, take, Option, Some, None, refl, sym, ap, ◌∙◌, subst, arith, append-nil, append_assoc, inl, inr}
+use Rattle.std.specs.Prelude.{Ok, Err, ◌&&◌, is_none, option_map}
 use Rattle.std.proofs.lemmas.List.{take-append-le}
 use mathlib.Core.List.{IsPrefix}
 use Rattle.wk_text_rules.specs.Titles.{PageTitle}
 use Rattle.wk_view_rules.specs.Worlds.{Read}
-use Rattle.wk_wiki_rules.specs.Jobs.{first_queued}
+use Rattle.wk_wiki_rules.specs.Jobs.{first_fan, first_queued}
 use Rattle.wk_wiki_rules.specs.States.{State, title_at, world_of}
 use Rattle.wk_wiki_rules.specs.Events.{Event, Back as BackEvent, Claim, Done as DoneEvent, Fan}
 use Rattle.wk_wiki_rules.specs.Lives.{replay, state_at}
@@ -22,6 +22,7 @@ use Rattle.wk_shared.specs.Answers.{BackTold, FanTold, FinishTold}
 use Rattle.wk_shared.specs.Calls.{AddsOwn, IsFree, IsMadeAt, MayFail, seen_by}
 use Rattle.wk_read_laws.specs.Points.{IsStaleSince}
 use Rattle.wk_readers.specs.Beginnings.{ClaimedTold, FullTold, IdleTold, NothingTold}
+use Rattle.wk_readers.specs.Readers.{IsIdleAt, ReaderSeen}
 use Rattle.wk_readers.specs.Refreshes.{ComesIn, EndTold, IsRefreshed, RefreshTold}
 use Rattle.wk_readers.specs.Worked.{HasWorked}
 use Rattle.wk_readers.specs.declared.outcome.Refreshed.{Refreshed}
@@ -30,7 +31,7 @@ use Rattle.wk_session_rules.specs.Points.{GoesOn, IsStateAt}
 use Rattle.wk_session_rules.specs.Steps.{CameIn, HasChanged, IsFull, IsStep, back, done, fan_failed, fanned, full, idle, no_memory, no_memory_behind_claim, refresh_failed}
 use Rattle.wk_session.specs.Serving.{IsStepTold}
 use Rattle.wk_session.specs.Steps.{kind_of}
-use Rattle.wk_session.proofs.Passing.{Pass}
+use Rattle.wk_session.proofs.Passing.{Pass, goes-nowhere}
 
 claimed-number : (state : State) (point : ℕ) (ticket : ClaimOutcome) → Some ticket ≡ claim_outcome state point → ticket.ticket ≡ point + 1
 claimed-number state point ticket is = by (first_queued state.jobs) is
@@ -193,3 +194,22 @@ module _ (shared : Begun Start) (old new : Pass) (worked : HasWorked shared old 
 
 pub refreshed-step : (shared : Begun Start) (old new : Pass) (answer : Refreshed) → IsRefreshed shared old new answer → IsStepTold shared (MayFail shared.start) old new (kind_of answer)
 refreshed-step shared old new answer x = told-as shared old new x.pass (MayFail shared.start) answer x.told x.fault
+
+-- ---- the step where a look has told that no job is to be done
+
+both-none : {A B : Type 0} (a : Option A) (b : Option B) → (is_none a && is_none b) ≡ true → (a ≡ None) × (b ≡ None)
+both-none None None e = (refl, refl)
+both-none None (Some b) e = absurd (let x : false ≡ true = e in cc)
+both-none (Some a) b e = absurd (let x : false ≡ true = e in cc)
+
+pub idle-step : (shared : Begun Start) (old new : ReaderSeen) → new ≡ old → IsFree shared old.pass → ((start : Start) → old.pass.start ≡ Some start → IsIdleAt start old.pass) → IsStepTold shared (MayFail shared.start) old.pass new.pass kind.Idle
+idle-step shared old new same is told =
+    let at = told shared.start is.turn.1 in
+    let seen = seen_by shared.start old.pass in
+    let none = both-none (first_queued at.state.jobs) (first_fan at.state.jobs) at.idle in
+    subst (λ (r : ReaderSeen). IsStepTold shared (MayFail shared.start) old.pass r.pass kind.Idle) (sym same) (record {
+      free = is;
+      worked = [];
+      goes = goes-nowhere seen;
+      stepped = idle (record { later = omega arith; seen = omega arith; stands = at.stands }) none.0 none.1;
+    })

@@ -7,7 +7,6 @@ ghost use Rattle.wk_session_rules.specs.Exchanges.{is_done, jobs_done};
 ghost use Rattle.wk_session_rules.specs.Sessions.{IsSession};
 ghost use Rattle.wk_sending.specs.Sending.{IsCounted};
 
-use crate::desk::look;
 use crate::serving::serve_one;
 use std::alloc::Global;
 use std::sync::Wait;
@@ -100,7 +99,10 @@ fn serve_all<K: Keeper, R: Wait, L: Link, C: Clock, G: Gate>(
 ///   taken once, before the first transform.
 /// - A reply is sent in one piece, as far as the link takes it so. Behind each that was sent in full one step is made
 ///   (`refresh_one`), and put to the report with the length of the journal that the pass has seen then. What is refused there
-///   doesn't end the session.
+///   doesn't end the session. Where the turn of the reply told that no job is to be done, the step is `Idle` at that point, and
+///   takes no turn.
+/// - No turn is taken before the first message. What the worker keeps of a page isn't served before the wiki was looked at in this
+///   session.
 /// - It ends at a message that is the last (`Closed`), at the input's end (`PeerEnd`, or `Cut` within a message), or at a bad
 ///   place, to which its status is sent (`Bad`); with `ReadFault` or `WriteFault` only where that count of the link rose, or
 ///   stands at its end; with `Bound` only where 2^40 bytes were read; or with `Memory`.
@@ -128,7 +130,9 @@ pub fn serve_session<K: Keeper, R: Wait, L: Link, C: Clock, G: Gate>(
     ensures no_write_fault { result.end ≢ SessionEnd.WriteFault → L.Sink.faults link.new ≡ L.Sink.faults link.old }
     ensures write_fault { result.end ≡ SessionEnd.WriteFault → Rose (L.Sink.faults link.old) (L.Sink.faults link.new) }
 {
-    let (alloc, _point) = look(shared, rt, &mut worker.reader);
+    shared.facts();
+    worker.reader.begin_session();
+    let alloc = worker.reader.allocator();
     let mut points = Vec::new(alloc);
     let mut refreshes = Vec::new(alloc);
     let Ok(mut trees) = Trees::new(alloc, 0) else {

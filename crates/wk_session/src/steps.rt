@@ -26,7 +26,7 @@ fn kind_of(refreshed: &Refreshed) -> Refresh
     }
 }
 
-/// Makes one step, and tells what it did. It waits.
+/// Makes one step, and tells what it did. Where the last look told that no job is to be done it takes no turn; else it waits.
 pub fn step<K: Keeper, R: Wait, G: Gate>(
     shared: &Shared<K>,
     rt: &R,
@@ -35,6 +35,9 @@ pub fn step<K: Keeper, R: Wait, G: Gate>(
     requires { IsFree shared.now worker.old.reader.pass }
     ensures { IsStepTold shared.now (MayFail shared.now.start) worker.old.reader.pass worker.new.reader.pass result }
 {
+    if worker.reader.told_idle() {
+        return Refresh::Idle;
+    }
     let refreshed = refresh_one(shared, rt, &mut worker.reader, &mut worker.gate);
     kind_of(&refreshed)
 }

@@ -86,8 +86,8 @@ pub data EndsSo (fails : Type 0) (read : List ℕ) (exchanges : List Exchange) (
 
 -- ---- sessions
 
--- A session by its report: its pass looked how far the journal had come; then the messages of what it read were answered, one
--- after the other and in their order.
+-- A session by its report: from what its pass had seen, or from a later point of the journal, the messages of what it read were
+-- answered, one after the other and in their order.
 pub record IsSession (fails : Type 0) (old new : PassSeen) (before after : Outside) (end : SessionEnd) (points : List ℕ) (jobs : ℕ) (refreshes : List (ℕ × Refresh)) : Type 0 where
   pub read : List ℕ
   pub consumed : Consumes before.rest after.rest read

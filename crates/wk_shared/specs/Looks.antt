@@ -1,8 +1,9 @@
 -- What a pass has looked at (own). A point is the length of a journal.
-use Rattle.std.specs.Prelude.{◌≡◌, ℕ, Bool, false, IsTrue, List, length, Option, Some, None, IsSome}
+use Rattle.std.specs.Prelude.{◌≡◌, ℕ, Bool, false, ◌&&◌, IsTrue, List, length, Option, Some, None, IsSome, is_none}
 use mathlib.Core.List.{IsPrefix}
 use Rattle.wk_text_rules.specs.Titles.{PageTitle}
 use Rattle.wk_view_rules.specs.Worlds.{Read, World}
+use Rattle.wk_wiki_rules.specs.Jobs.{first_fan, first_queued}
 use Rattle.wk_wiki_rules.specs.States.{State}
 use Rattle.wk_wiki_rules.specs.Events.{Event}
 use Rattle.wk_wiki_rules.specs.Claims.{ClaimOutcome}
@@ -37,6 +38,10 @@ KeepsTickets start old new = (ticket : ClaimOutcome) → HoldsTicket start old t
 pub record HasLooked (shared : Begun Start) (old new : Story Start Event) (state : State) : Type 0 where
   pub read : HasRead shared old new
   pub run : IsRun shared.start new.seen state
+
+-- no job is to be done: no refresh job is queued, and no fan job stands
+abbrev pub is_idle : State → Bool
+is_idle state = is_none (first_queued state.jobs) && is_none (first_fan state.jobs)
 
 -- whether each of the reads is current: it is told so exactly where none of them is stale
 pub record TellsCurrent (pages : World) (reads : List Read) (told : Bool) : Type 0 where

@@ -21,7 +21,7 @@ pub use apart::draft_apart;
 pub use drafting::drafted;
 pub use keeping::Sought;
 pub use laws::{held_drafts_stay_fit, reads_stay_honest};
-pub use looks::{Found, draft_held, found_in, look, look_at, look_for, look_new};
+pub use looks::{Found, Looked, draft_held, found_in, is_idle, look, look_at, look_for, look_new};
 pub use shared::Shared;
 pub use substituting::substituted_apart;
 pub use wk_base::{Gate, NoGate};

@@ -7,7 +7,7 @@ ghost use Rattle.wk_shared.specs.Calls.{IsFree};
 ghost use Rattle.wk_expand.specs.Steps.{given_text};
 ghost use Rattle.wk_live.specs.Drafted.{IsPresent};
 ghost use Rattle.wk_read_laws.specs.Points.{AreReadSince};
-ghost use Rattle.wk_shared.specs.Looks.{HasLooked, HasRead, IsPresentRead, TellsCurrent};
+ghost use Rattle.wk_shared.specs.Looks.{HasLooked, IsPresentRead, TellsCurrent, is_idle};
 ghost use Rattle.wk_shared.specs.Sought.{IsLookedFor, kept_read};
 
 use crate::keeping::{Sought, find_kept, keep_drafted, keep_found, seek};
@@ -28,6 +28,14 @@ pub fn is_current<K: Keeper>(wiki: &Wiki<K>, draft: &Draft) -> bool
 {
     stale_reads_are_those_of_the_rules();
     wiki.live().first_stale(draft.reads()).is_none()
+}
+
+/// Whether no job is to be done: no refresh job is queued, and no fan job stands. Takes no memory.
+pub fn is_idle<K: Keeper>(wiki: &Wiki<K>) -> bool
+    ensures { result ≡ is_idle wiki.now.state }
+{
+    let jobs = wiki.live().jobs();
+    jobs.first_queued().is_none() && jobs.first_fan().is_none()
 }
 
 /// The number of the title's page, 0 where the page is missing. Takes no memory.
@@ -61,6 +69,26 @@ pub fn found_in<K: Keeper>(wiki: &Wiki<K>, draft: &Draft) -> Found
         point: wiki.point(),
         id: number_of(wiki, draft.page()),
         current: is_current(wiki, draft),
+    }
+}
+
+/// What a look tells besides.
+#[derive(Clone, Copy)]
+pub struct Looked {
+    /// The point.
+    pub point: u64,
+    /// Whether no job is to be done there.
+    pub idle: bool,
+}
+
+/// What a look at a wiki tells besides. Takes no memory.
+fn looked_in<K: Keeper>(wiki: &Wiki<K>) -> Looked
+    ensures point { result.point ≡ length wiki.now.journal }
+    ensures idle { result.idle ≡ is_idle wiki.now.state }
+{
+    Looked {
+        point: wiki.point(),
+        idle: is_idle(wiki),
     }
 }
 
@@ -169,41 +197,43 @@ pub fn look_and_keep<K: Keeper, R: Wait>(
     found
 }
 
-/// Looks how far the journal has come, and for what is current of a page: this draft, or else what the wiki keeps. It waits.
+/// Looks how far the journal has come, whether a job is to be done, and for what is current of a page: this draft, or else what
+/// the wiki keeps. It waits.
 pub fn look_for<K: Keeper, R: Wait>(
     shared: &Shared<K>,
     rt: &R,
     pass: &mut Pass<Wiki<K>>,
     title: &Title,
     own: &Draft,
-) -> (Sought, u64)
+) -> (Sought, Looked)
     requires { IsFree shared.now pass.old }
-    ensures point { result.1 ≡ length pass.new.seen }
+    ensures point { result.1.point ≡ length pass.new.seen }
     ensures looked { (state : State) × HasLooked shared.now pass.old pass.new state
-        × IsLookedFor shared.now pass.new state title.now own.now result.0 }
+        × IsLookedFor shared.now pass.new state title.now own.now result.0 × (result.1.idle ≡ is_idle state) }
 {
     let mut held = take(shared, rt, pass);
     let sought = seek(&mut held.value, title, own);
-    let point = held.value.point();
+    let looked = looked_in(&held.value);
     give(shared, pass, held);
-    (sought, point)
+    (sought, looked)
 }
 
-/// Looks how far the journal has come, and for what is current of what the wiki keeps of a page. It waits.
+/// Looks how far the journal has come, whether a job is to be done, and for what is current of what the wiki keeps of a page. It
+/// waits.
 pub fn look_new<K: Keeper, R: Wait>(
     shared: &Shared<K>,
     rt: &R,
     pass: &mut Pass<Wiki<K>>,
     title: &Title,
-) -> (Option<Kept>, u64)
+) -> (Option<Kept>, Looked)
     requires { IsFree shared.now pass.old }
-    ensures point { result.1 ≡ length pass.new.seen }
-    ensures read { HasRead shared.now pass.old pass.new }
+    ensures point { result.1.point ≡ length pass.new.seen }
+    ensures looked { (state : State) × HasLooked shared.now pass.old pass.new state × (result.1.idle ≡ is_idle state) }
     ensures kept { IfSome result.0 (λ kept. IsPresentRead shared.now pass.new title.now None (kept_read kept) × (kept.uses ≡ 0)) }
 {
     let mut held = take(shared, rt, pass);
     let kept = find_kept(&mut held.value, title);
-    let point = held.value.point();
+    let looked = looked_in(&held.value);
     give(shared, pass, held);
-    (kept, point)
+    (kept, looked)
 }

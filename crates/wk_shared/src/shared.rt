@@ -2,6 +2,7 @@
 ghost use Rattle.std.specs.Prelude.{◌≡◌, ℕ, ◌++◌, [], Some, None, IfOk, IfErr};
 ghost use mathlib.Core.List.{IsPrefix};
 ghost use Rattle.wk_wiki_rules.specs.Entries.{closes};
+ghost use Rattle.wk_wiki_laws.specs.Kept.{IsKept};
 ghost use Rattle.wk_turn.specs.Journal.{AreOwn, ClosesOwn, IsOpen, added, longer};
 ghost use Rattle.wk_turn.specs.Told.{IsOf};
 ghost use Rattle.wk_shared.specs.Calls.{IsFree};
@@ -15,7 +16,8 @@ use wk_turn::{Held, Pass, Turn, begin};
 /// A wiki that callers take in turns. Contracts see which turn it is behind, and how the wiki began.
 ///
 /// A pass is of one shared wiki. It tells what its caller has seen of the journal, and which entries the caller made. Each
-/// call takes the wiki, does its work and gives it back; so it waits, but for `new`, `split` and `join`.
+/// call takes the wiki, does its work and gives it back; so it waits, but for `new`, `facts`, `split` and `join`. By its type the
+/// wiki began in a state of good form.
 #[derive(Drop)]
 pub struct Shared<K: Keeper> {
     pub(crate) turn: Turn<Wiki<K>>,
@@ -23,11 +25,14 @@ pub struct Shared<K: Keeper> {
 
 impl<K: Keeper> Model for Shared<K> {
     ghost use Rattle.wk_turn.specs.Told.{Begun};
+    ghost use Rattle.wk_wiki_laws.specs.Kept.{IsKept};
     ghost use Rattle.wk_wiki_rules.specs.Starts.{Start};
 
     ghost Value = { Begun Start };
 
     ghost view = { λ s. s.turn };
+
+    ghost invariant = { λ s. IsKept s.turn.start.state };
 }
 
 impl<K: Keeper> Shared<K> {
@@ -40,10 +45,18 @@ impl<K: Keeper> Shared<K> {
         ensures refused { IfErr result (λ e. e.0 ≡ wiki) }
     {
         let alloc = wiki.allocator();
+        wiki.facts();
         match begin(alloc, wiki) {
             Ok((turn, pass)) => Ok((Shared { turn }, pass)),
             Err((wiki, memory)) => Err((wiki, memory)),
         }
+    }
+
+    /// What holds of each shared wiki: the state in which it began is of good form. Takes no memory and does nothing.
+    pub fn facts(&self)
+        ensures { IsKept self.now.start.state }
+    {
+        let _turn = &self.turn;
     }
 
     /// Makes a pass that has seen what `pass` has seen, and has made no entry. It waits for nobody.

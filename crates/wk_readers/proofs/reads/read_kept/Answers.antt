@@ -1,17 +1,14 @@
-use Rattle.std.proofs.Common.{arith}
 use Rattle.wk_readers.proofs.ReaderLaws.{anew-read, checked-read, served-read}
 use Rattle.wk_readers.proofs.reads.read_kept.Goals as goal
 
-pub returns-then-is_fresh : goal.returns-then-is_fresh
-returns-then-is_fresh g c =
-    let fresh = c.is_fresh.ensures.fresh c.if-is_fresh.true in
-    let point = c.point.ensures in
+pub returns-then-is_served : goal.returns-then-is_served
+returns-then-is_served g c =
     served-read c.args.shared.now c.args.title.now c.args.least c.args.reader.now c.serve.new.self c.serve.result c.requires.free c.facts.ensures (record {
       entry = c.args.kept;
       found = c.requires.entry;
-      few = c.is_fresh.ensures.few c.if-is_fresh.true;
-      reached = c.is_fresh.ensures.reached c.if-is_fresh.true;
-      fresh = omega (arith, fresh, point);
+      few = c.is_served.ensures.few c.if-is_served.true;
+      reached = c.is_served.ensures.reached c.if-is_served.true;
+      fresh = c.is_served.ensures.fresh c.if-is_served.true;
       answered = c.serve.ensures.read;
       left = c.serve.ensures.left;
     })

@@ -3,13 +3,13 @@ use Rattle.wk_cache.specs.Entries.{to_front}
 use Rattle.wk_readers.proofs.reads.read_page.Goals as goal
 
 pub invariant_of-reader : goal.invariant_of-reader
-invariant_of-reader g c = right-found c.reader.inside.pass c.reader.inside.cache c.args.reader.now c.reader.view_is c.reader.invariant c.args.title.now c.found.new.cache c.in-Some.ensures.front
+invariant_of-reader g c = record { right = right-found c.reader.inside.pass c.reader.inside.cache c.args.reader.now c.reader.view_is c.reader.invariant.right c.args.title.now c.found.new.cache c.in-Some.ensures.front; knows = c.reader.invariant.knows }
 
 pub read_kept-requires-clause-entry : goal.read_kept-requires-clause-entry
 read_kept-requires-clause-entry g c = front-entry c.args.title.now c.reader.inside.cache c.found.new.cache c.in-Some.kept c.in-Some.ensures.front c.in-Some.ensures.found
 
 pub invariant_of-reader-in-None : goal.invariant_of-reader-in-None
-invariant_of-reader-in-None g c = right-found c.reader.inside.pass c.reader.inside.cache c.args.reader.now c.reader.view_is c.reader.invariant c.args.title.now c.found.new.cache c.in-None.ensures.front
+invariant_of-reader-in-None g c = record { right = right-found c.reader.inside.pass c.reader.inside.cache c.args.reader.now c.reader.view_is c.reader.invariant.right c.args.title.now c.found.new.cache c.in-None.ensures.front; knows = c.reader.invariant.knows }
 
 pub returns-in-Some-clause-uses : goal.returns-in-Some-clause-uses
 returns-in-Some-clause-uses g c =

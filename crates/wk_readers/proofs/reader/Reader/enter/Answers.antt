@@ -6,7 +6,7 @@ use Rattle.wk_readers.proofs.ReaderLaws.{right-entered}
 use Rattle.wk_readers.proofs.reader.Reader.enter.Goals as goal
 
 pub invariant_of-self : goal.invariant_of-self
-invariant_of-self g c = right-entered c.self.inside.pass c.enter.new.pass _ c.self.inside.cache.entries c.enter.ensures.pass c.self.invariant
+invariant_of-self g c = record { right = right-entered c.self.inside.pass c.enter.new.pass _ c.self.inside.cache.entries c.enter.ensures.pass c.self.invariant.right; knows = tt }
 
 pub returns-clause-still_open : goal.returns-clause-still_open
 returns-clause-still_open g c =

@@ -7,8 +7,11 @@ use Rattle.wk_readers.proofs.reader.Reader.keep.Goals as goal
 pub invariant_of-self : goal.invariant_of-self
 invariant_of-self g c =
     let read = c.args.read.now in let put = c.put-refused in
-    kept-right put.result c.self.inside.pass c.self.inside.cache put.new.self read (entry_with c.in-Ok.draft read) (entry-fresh c.in-Ok.draft read c.in-Ok.ensures) put.ensures.ok put.ensures.err c.self.invariant
-    (right-inside c.self.inside.pass c.self.inside.cache c.args.self.now c.self.view_is read c.requires.right) c.requires.own_text
+    record {
+      right = kept-right put.result c.self.inside.pass c.self.inside.cache put.new.self read (entry_with c.in-Ok.draft read) (entry-fresh c.in-Ok.draft read c.in-Ok.ensures) put.ensures.ok put.ensures.err c.self.invariant.right
+          (right-inside c.self.inside.pass c.self.inside.cache c.args.self.now c.self.view_is read c.requires.right) c.requires.own_text;
+      knows = c.self.invariant.knows;
+    }
 
 pub returns-clause-kept : goal.returns-clause-kept
 returns-clause-kept g c =
